@@ -1,9 +1,9 @@
 -- What an engine answers to a call, and leaves of memory, is what the core does.
 use Rattle.std.proofs.Common.{◌≡◌, ℕ, ◌+◌, ◌*◌, Option, Some, None, Result, Ok, Err, refl, sym, ap, ◌∙◌, subst}
-use Rattle.std.specs.Prelude.{IfOk}
+use Rattle.std.specs.Prelude.{IfOk, List, length, is_some, if◌then◌else◌}
 use Rattle.std.specs.declared.alloc.AllocError.{AllocError}
 use Rattle.graph_model.specs.declared.event.Event.{Event}
-use Rattle.graph_model.specs.declared.event.Event.TheVariants.{Begin, Root, New, Put, Clear, Link, Drop, Get, Same, Len, Seal, Abort}
+use Rattle.graph_model.specs.declared.event.Event.TheVariants.{Begin, Root, New, Put, Clear, Link, Drop, Get, Same, Len, Seal, Abort, Flip, Scan}
 use Rattle.graph_model.specs.declared.reply.Refusal.{Refusal}
 use Rattle.graph_model.specs.declared.reply.Reply.{Reply}
 use Rattle.graph_model.specs.declared.reply.Reply.TheVariants as answer
@@ -11,10 +11,16 @@ use Rattle.graph_model.specs.History.{account}
 use Rattle.graph_model.specs.Plain.{reply_of}
 use Rattle.graph_model.specs.History.{IsOfSession}
 use Rattle.core_laws.specs.Valid.{IsValid, RunsLocked}
-use Rattle.heap_memory.specs.Leaves.{IsAsItWas, Begins, SetsHandle, Makes, WritesHeld, Links, Gets, Seals, Aborts}
+use Rattle.flip_copy.specs.Copied.{size_of}
+use Rattle.heap_spaces.specs.Collection.{Collection}
+use Rattle.txn_table.specs.Roots.{AreRoots}
+use Rattle.memory_laws.proofs.Collecting.Flip.{flip_does, flip_refused}
+use Rattle.memory_laws.proofs.Collecting.Scan.{scan_does, scan_refused}
+use Rattle.heap_memory.specs.Collecting.{IsNextPage, flip_copies}
+use Rattle.heap_memory.specs.Leaves.{IsAsItWas, Begins, SetsHandle, Makes, WritesHeld, Links, Gets, Seals, Aborts, Flips, Scans}
 use Rattle.heap_memory.specs.Memory.{Memory, own, root_place}
-use Rattle.heap_memory.specs.Refusals.{begin_refusal, handle_refusal, new_refusal, put_refusal, clear_refusal, link_refusal, get_refusal, same_refusal, len_refusal, seal_refusal, end_refusal}
-use Rattle.heap_memory.specs.Replies.{get_reply, same_reply, len_reply, IsGranted}
+use Rattle.heap_memory.specs.Refusals.{begin_refusal, handle_refusal, new_refusal, put_refusal, clear_refusal, link_refusal, get_refusal, same_refusal, len_refusal, seal_refusal, end_refusal, flip_refusal, scan_refusal}
+use Rattle.heap_memory.specs.Replies.{get_reply, same_reply, len_reply, flip_reply, scan_reply, scan_reply_of, IsGranted}
 use Rattle.heap_model.specs.Core.{Core}
 use Rattle.memory_laws.specs.CoreMemory.{IsMemory}
 use Rattle.memory_laws.proofs.Does.{Does}
@@ -72,13 +78,13 @@ module _ (m n : Memory) (c : Core) (is : IsMemory m (account c.history) c) (vali
   links h i h2 result form replied done stays = subst (DoesOr result) (sym form) (link_does m n c valid runs is s h i h2 (link_refused m c valid runs is s h i h2) result replied done stays)
 
   get_result : (h i h2 : ℕ) (result : Result Reply AllocError) → IfOk result (λ reply. reply ≡ reply_of (get_refusal m s h i h2) (get_reply m s h i))
-      → IfOk result (λ reply. IsGranted reply → Gets m n s h i h2) → ((why : Refusal) → result ≡ Ok (answer.Refused why) → n ≡ m) → DoesOr result (Get s h i h2)
+      → IfOk result (λ reply. IsGranted reply → Gets m n s h i h2) → ((why : Refusal) → result ≡ Ok (answer.Refused why) → IsAsItWas m n) → DoesOr result (Get s h i h2)
   get_result h i h2 (Err e) replied done stays = tt
   get_result h i h2 (Ok reply) replied done stays =
       get_does m n c valid runs is s h i h2 (get_refused m c valid runs is s h i h2) reply replied done (λ why refused. stays why (ap Ok refused))
 
   pub gets : (h i h2 : ℕ) (result : Result Reply AllocError) → event ≡ Get s h i h2 → IfOk result (λ reply. reply ≡ reply_of (get_refusal m s h i h2) (get_reply m s h i))
-      → IfOk result (λ reply. IsGranted reply → Gets m n s h i h2) → ((why : Refusal) → result ≡ Ok (answer.Refused why) → n ≡ m) → DoesOr result event
+      → IfOk result (λ reply. IsGranted reply → Gets m n s h i h2) → ((why : Refusal) → result ≡ Ok (answer.Refused why) → IsAsItWas m n) → DoesOr result event
   gets h i h2 result form replied done stays = subst (DoesOr result) (sym form) (get_result h i h2 result replied done stays)
 
   pub seals : (result : Result Reply AllocError) → event ≡ Seal s → IfOk result (λ reply. reply ≡ reply_of (seal_refusal m s) (answer.Sealed (m.sealed + 1)))
@@ -95,6 +101,64 @@ module _ (m : Memory) (c : Core) (is : IsMemory m (account c.history) c) (valid 
 
   pub counts : (h : ℕ) (reply : Reply) → event ≡ Len s h → reply ≡ reply_of (len_refusal m s h) (len_reply m s h) → Does c event reply m
   counts h reply form replied = subst (λ e. Does c e reply m) (sym form) (len_does m c valid runs is s h (len_refused m c valid runs is s h) reply replied)
+
+-- What a flip and a scan are answered.
+module _ (m : Memory) where
+  -- a flip from some list of the roots
+  abbrev pub AnswersFlip : Reply → Type 0
+  AnswersFlip reply = (roots : List ℕ) × AreRoots m.table m.locks roots × (reply ≡ reply_of (flip_refusal m roots) (flip_reply m roots))
+
+  -- a scan of the next page, or the end of the collection
+  abbrev pub AnswersScan : Reply → Type 0
+  AnswersScan reply = (next : Option ℕ) × IsNextPage m.collection next × (reply ≡ reply_of (scan_refusal m next) (scan_reply m next))
+
+  flip_granted : (roots : List ℕ) (reply : Reply) (P : Type 0) (runs : Option Collection) → m.collection ≡ runs → reply ≡ flip_reply m roots → ((objects words : ℕ) → reply ≡ answer.Flipped objects words → P) → (reply ≡ answer.Collecting → P) → P
+  flip_granted roots reply P None none given flipped still = flipped _ _ (given ∙ ap (λ (o : Option Collection). if is_some o then answer.Collecting else answer.Flipped (length (flip_copies m roots)) (size_of (flip_copies m roots))) none)
+  flip_granted roots reply P (Some k) run given flipped still = still (given ∙ ap (λ (o : Option Collection). if is_some o then answer.Collecting else answer.Flipped (length (flip_copies m roots)) (size_of (flip_copies m roots))) run)
+
+  -- a flip has begun a collection, or one was running, or it was refused
+  pub flip_or : (reply : Reply) (P : Type 0) → AnswersFlip reply → ((objects words : ℕ) → reply ≡ answer.Flipped objects words → P) → (reply ≡ answer.Collecting → P) → ((why : Refusal) → reply ≡ answer.Refused why → P) → P
+  flip_or reply P replied flipped still refused =
+      either (flip_refusal m replied.0) (flip_reply m replied.0) reply P replied.2 (λ given. flip_granted replied.0 reply P m.collection refl given flipped still) refused
+
+  scan_granted : (reply : Reply) (P : Type 0) (runs : Option Collection) (next : Option ℕ) → reply ≡ scan_reply_of m runs next → ((page objects words : ℕ) → reply ≡ answer.Scanned page objects words → P)
+      → ((used : ℕ) → reply ≡ answer.Collected used → P) → (reply ≡ answer.Idle → P) → P
+  scan_granted reply P None next given scanned collected still = still given
+  scan_granted reply P (Some k) None given scanned collected still = collected _ given
+  scan_granted reply P (Some k) (Some page) given scanned collected still = scanned page _ _ given
+
+  -- a scan has scanned a page or ended the collection, or none ran, or it was refused
+  pub scan_or : (reply : Reply) (P : Type 0) → AnswersScan reply → ((page objects words : ℕ) → reply ≡ answer.Scanned page objects words → P) → ((used : ℕ) → reply ≡ answer.Collected used → P)
+      → (reply ≡ answer.Idle → P) → ((why : Refusal) → reply ≡ answer.Refused why → P) → P
+  scan_or reply P replied scanned collected still refused =
+      either (scan_refusal m replied.0) (scan_reply m replied.0) reply P replied.2 (λ given. scan_granted reply P m.collection replied.0 given scanned collected still) refused
+
+-- So is one of a collection.
+module _ (m n : Memory) (c : Core) (is : IsMemory m (account c.history) c) (valid : IsValid c) (event : Event) where
+  abbrev CameTo : Result Reply AllocError → Event → Type 0
+  CameTo result event = IfOk result (λ reply. Does c event reply n)
+
+  flip_result : (result : Result Reply AllocError) → IfOk result (AnswersFlip m) → ((objects words : ℕ) → result ≡ Ok (answer.Flipped objects words) → (roots : List ℕ) × Flips m n roots)
+      → (result ≡ Ok answer.Collecting → n ≡ m) → ((why : Refusal) → result ≡ Ok (answer.Refused why) → IsAsItWas m n) → CameTo result Flip
+  flip_result (Err e) replied flipped still stays = tt
+  flip_result (Ok reply) replied flipped still stays =
+      flip_does m c valid is n replied.0 replied.1 (flip_refused m c valid is replied.0 replied.1) reply replied.2 (λ objects words given. flipped objects words (ap Ok given)) (λ given. still (ap Ok given))
+      (λ why given. stays why (ap Ok given))
+
+  pub flips : (result : Result Reply AllocError) → event ≡ Flip → IfOk result (AnswersFlip m) → ((objects words : ℕ) → result ≡ Ok (answer.Flipped objects words) → (roots : List ℕ) × Flips m n roots)
+      → (result ≡ Ok answer.Collecting → n ≡ m) → ((why : Refusal) → result ≡ Ok (answer.Refused why) → IsAsItWas m n) → CameTo result event
+  flips result form replied flipped still stays = subst (CameTo result) (sym form) (flip_result result replied flipped still stays)
+
+  scan_result : (result : Result Reply AllocError) → IfOk result (AnswersScan m) → ((page objects words : ℕ) → result ≡ Ok (answer.Scanned page objects words) → Scans m n (Some page))
+      → ((used : ℕ) → result ≡ Ok (answer.Collected used) → Scans m n None) → (result ≡ Ok answer.Idle → n ≡ m) → ((why : Refusal) → result ≡ Ok (answer.Refused why) → IsAsItWas m n) → CameTo result Scan
+  scan_result (Err e) replied scanned collected still stays = tt
+  scan_result (Ok reply) replied scanned collected still stays =
+      scan_does m c valid is n replied.0 replied.1 (scan_refused m c valid is replied.0 replied.1) reply replied.2 (λ page objects words given. scanned page objects words (ap Ok given))
+      (λ used given. collected used (ap Ok given)) (λ given. still (ap Ok given)) (λ why given. stays why (ap Ok given))
+
+  pub scans : (result : Result Reply AllocError) → event ≡ Scan → IfOk result (AnswersScan m) → ((page objects words : ℕ) → result ≡ Ok (answer.Scanned page objects words) → Scans m n (Some page))
+      → ((used : ℕ) → result ≡ Ok (answer.Collected used) → Scans m n None) → (result ≡ Ok answer.Idle → n ≡ m) → ((why : Refusal) → result ≡ Ok (answer.Refused why) → IsAsItWas m n) → CameTo result event
+  scans result form replied scanned collected still stays = subst (CameTo result) (sym form) (scan_result result replied scanned collected still stays)
 
 -- what follows for the answer of a call that had its memory
 pub answered : (result : Result Reply AllocError) (x : Reply) (P : Reply → Type 0) → result ≡ Ok x → IfOk result P → P x

@@ -5,13 +5,12 @@ use Rattle.disk_model.specs.declared.disk.Disk.{Ghosts}
 use Rattle.disk_model.specs.Moments.{LeavesOnly}
 use Rattle.gated_log.specs.LogState.{IsPlaced}
 use Rattle.graph_model.specs.declared.event.Event.{Event}
-use Rattle.graph_model.specs.declared.event.Event.TheVariants.{Force, Flush}
+use Rattle.graph_model.specs.declared.event.Event.TheVariants.{Force, Flip, Scan, Flush}
 use Rattle.graph_model.specs.declared.reply.Refusal.{Refusal}
 use Rattle.graph_model.specs.declared.reply.Reply.{Reply}
 use Rattle.graph_model.specs.History.{account}
 use Rattle.graph_model.specs.History.{IsOfSession}
 use Rattle.core_laws.proofs.Crash.Image.{crash_law, prefixes_on}
-use Rattle.core_laws.proofs.Step.Forms.{done_records}
 use Rattle.core_laws.proofs.Step.Sound.{sound_valid}
 use Rattle.core_laws.proofs.Step.Events.{valid_after}
 use Rattle.core_laws.specs.Valid.{RunsLocked, IsValid, IsReached, IsSound}
@@ -23,9 +22,10 @@ use Rattle.page_cache.specs.CacheState.{cache_store}
 use Rattle.page_store.specs.declared.store.PageStore.{PageStore}
 use Rattle.page_store.specs.Gates.{open_gates}
 use Rattle.page_store.specs.StoreState.{store_size, has_failed, Knows}
-use Rattle.heap_model.specs.Core.{Core, core_refusal, answer, forced, done, after_refusal, after, calls, AsksDisk}
+use Rattle.heap_model.specs.Core.{Core, core_refusal, answer, barrier_records, forced, done, after_refusal, after, calls, moved, own_records, AsksDisk}
 use Rattle.heap_model.specs.CoreCrash.{IsLogged, IsSuperOf, IsCommitPrefix}
 use Rattle.heap_model.proofs.Step.Logged.{logged_step}
+use Rattle.heap_model.proofs.Step.Moved.{moved_is, moved_keeps}
 use Rattle.heap_model.proofs.Run.Calls.{same_step}
 use Rattle.heap_model.specs.Image.{Holds}
 use Rattle.heap_model.proofs.Outside.{untouched}
@@ -57,9 +57,20 @@ record SameDisk (c d : Core) : Type 0 where
 all_same : (c : Core) → SameDisk c c
 all_same c = record { batches = refl; pages = refl; room = refl; first_number = refl; born = refl }
 
+same_moved : (c : Core) (rs : List Record) → SameDisk c (moved c rs)
+same_moved c rs = moved_keeps (SameDisk c) c rs (record { batches = refl; pages = refl; room = refl; first_number = refl; born = refl })
+
+same_done : (c : Core) (event : Event) → (AsksDisk event → ⊥) → SameDisk c (done c event)
+same_done c Force other = absurd (other tt)
+same_done c (Flush p) other = absurd (other tt)
+same_done c Flip other = same_moved c (own_records c Flip)
+same_done c Scan other = same_moved c (own_records c Scan)
+same_done c event other =
+    let same = same_moved c (barrier_records c event) in record { batches = same.batches; pages = same.pages; room = same.room; first_number = same.first_number; born = same.born }
+
 same_disk : (o : Option Refusal) (c : Core) (event : Event) → (AsksDisk event → ⊥) → SameDisk c (after_refusal o c event)
 same_disk (Some why) c event other = all_same c
-same_disk None c event other = let P : Core → Type 0 = λ d. SameDisk c d in subst P (sym (done_records c event other)) (record { batches = refl; pages = refl; room = refl; first_number = refl; born = refl })
+same_disk None c event other = same_done c event other
 
 -- the names of objects are their births behind an event, if they were before
 pub born_after : (c : Core) (event : Event) → IsTrue c.born → IsTrue (after c event).born
@@ -92,10 +103,15 @@ gates_forced : (c : Core) (p : List Record) → (forced c p).gates ≡ c.gates
 gates_forced c [] = refl
 gates_forced c (r ∷ rs) = refl
 
+gates_moved : (c : Core) (rs : List Record) → (moved c rs).gates ≡ c.gates
+gates_moved c rs = ap (λ (d : Core). d.gates) (moved_is c rs)
+
 gates_done : (c : Core) (event : Event) → ((p : ℕ) → event ≢ Flush p) → (done c event).gates ≡ c.gates
 gates_done c Force other = gates_forced c c.pending
 gates_done c (Flush p) other = absurd (other p refl)
-gates_done c event other = refl
+gates_done c Flip other = gates_moved c (own_records c Flip)
+gates_done c Scan other = gates_moved c (own_records c Scan)
+gates_done c event other = gates_moved c (barrier_records c event)
 
 gates_refusal : (o : Option Refusal) (c : Core) (event : Event) → ((p : ℕ) → event ≢ Flush p) → (after_refusal o c event).gates ≡ c.gates
 gates_refusal None c event other = gates_done c event other
@@ -158,6 +174,7 @@ same_as_it_was old new same = subst (λ (e : Engine). IsAsItWas (memory old) (me
   table = refl;
   locks = refl;
   spaces = refl;
+  collection = refl;
   sealed = refl;
 })
 

@@ -1,6 +1,6 @@
 -- The fields of objects.
 use Rattle.std.proofs.Common.{◌≡◌, ℕ, ◌<◌, ◌≤◌, Bool, true, false, List, [], length, nat_eq, Option, None, Some, refl, ap, arith}
-use Rattle.std.specs.Prelude.{Contains, IfSome, if◌then◌else◌}
+use Rattle.std.specs.Prelude.{Contains, IfSome, IsSome, if◌then◌else◌}
 use Rattle.std.specs.List.{list_any}
 use Rattle.std.proofs.lemmas.Bool.{eqb-true}
 use Rattle.std.proofs.lemmas.Map.Views.{Contains-from_any}
@@ -12,6 +12,7 @@ use Rattle.txn_table.specs.declared.place.Place.{Place}
 use Rattle.txn_table.specs.declared.place.Place.TheVariants.{Stable, Volatile}
 use Rattle.txn_table.specs.Table.{TransactionState}
 use Rattle.heap_memory.specs.Memory.{own_fields, fields_at}
+use Rattle.heap_engine.proofs.Tables.{there, told}
 
 -- an object has few fields
 pub fields_few : (words : List ℕ) (at : ℕ) → length (field_words words at) ≤ 510
@@ -63,3 +64,10 @@ placed_few words area (Volatile at) = own_few area at
 pub map_some : (o : Option TransactionState) (P Q : TransactionState → Type 0) → ((t : TransactionState) → P t → Q t) → IfSome o P → IfSome o Q
 map_some None P Q f p = tt
 map_some (Some t) P Q f p = f t p
+
+-- so has one at a place of a transaction that there is
+pub held_few : (o : Option TransactionState) (words : List ℕ) (p : Place) (fields : List ℕ) → IsSome o → IfSome o (λ t. fields ≡ fields_at words t.area p) → length fields ≤ 510
+held_few o words p fields some is =
+    let t = there o some in
+    let same = told o t.0 (λ v. fields ≡ fields_at words v.area p) t.1 is in
+    omega (arith, ap length same, placed_few words t.0.area p)

@@ -60,7 +60,7 @@ memory_if : (ahead : Bool) (m : Memory) (log : Log) (a : Account) (c : Core) →
     → IsMemory (record m { log = log }) a (forced_if ahead c)
 memory_if true m log a c is keeps at room =
     forced_memory m (record m { log = log }) a c is (subst (λ (d : Core). Keeps log d.batches d.pending) (forced-with_batch c) keeps) at room
-    (record { words = refl; lsns = refl; table = refl; locks = refl; spaces = refl; sealed = refl }) refl
+    (record { words = refl; lsns = refl; table = refl; locks = refl; spaces = refl; collection = refl; sealed = refl }) refl
 memory_if false m log a c is keeps at room = record {
   log = keeps;
   place = at ∙ is.place;
@@ -143,7 +143,7 @@ module _ (c : Core) (w : Engine) (p : ℕ) (works : IsMemory (memory w) (account
       let forced = memory_if (is_ahead c p) (memory w) new.log a c works keeps at room in
       subst (IsMemory new a) (sym (flushed_is dirty))
       (stored_memory (record (memory w) { log = new.log }) new a (ready c p) p forced refl
-      (record { words = work.words; lsns = work.lsns; table = work.table; locks = work.locks; spaces = work.spaces; sealed = work.sealed })
+      (record { words = work.words; lsns = work.lsns; table = work.table; locks = work.locks; spaces = work.spaces; collection = work.collection; sealed = work.sealed })
       plan unfailed clean (λ q apart. ap (λ (x : Stored). x.lsn) (others q apart)) there)
 
   -- What is known of the frames.

@@ -1,5 +1,5 @@
 -- An engine, as contracts see it.
-use Rattle.std.specs.Prelude.{List, ℕ, ◌+◌, ◌≤◌, IsFalse, fold}
+use Rattle.std.specs.Prelude.{List, ℕ, ◌+◌, ◌≤◌, IsFalse, fold, Option}
 use Rattle.std.specs.FinSet as set
 use Rattle.gated_log.specs.declared.log.Log.{Log}
 use Rattle.gated_log.specs.LogState.{log_place, log_room}
@@ -7,6 +7,7 @@ use Rattle.graph_model.specs.History.{sessions}
 use Rattle.log_machine.specs.Machine.{taken_back}
 use Rattle.page_cache.specs.declared.cache.PageCache.{PageCache}
 use Rattle.page_cache.specs.CacheState.{cached, cache_store, cache_size, cache_failed}
+use Rattle.heap_spaces.specs.Collection.{Collection}
 use Rattle.heap_spaces.specs.Spaces.{SpacesState}
 use Rattle.txn_table.specs.Table.{TableState, new_table, transaction_of}
 use Rattle.heap_memory.specs.Memory.{Memory}
@@ -21,19 +22,21 @@ memory e = record {
   lsns = (cached e.cache).lsns;
   store = cache_store e.cache;
   spaces = e.spaces;
+  collection = e.collection;
   table = e.table;
   locks = e.locks;
   sealed = e.sealed;
 }
 
 -- what that of a heap keeps that was just opened
-abbrev pub opened : Log → PageCache → SpacesState → ℕ → Memory
-opened log cache spaces next = record {
+abbrev pub opened : Log → PageCache → SpacesState → Option Collection → ℕ → Memory
+opened log cache spaces collection next = record {
   log = log;
   words = (cached cache).words;
   lsns = (cached cache).lsns;
   store = cache_store cache;
   spaces = spaces;
+  collection = collection;
   table = new_table next;
   locks = set.empty;
   sealed = 0;

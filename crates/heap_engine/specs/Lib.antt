@@ -1,3 +1,4 @@
+pub mod Barrier
 pub mod EngineState
 pub mod Refinement
 pub mod Reserve

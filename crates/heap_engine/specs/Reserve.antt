@@ -4,6 +4,7 @@ use Rattle.std.specs.List.{AllPass}
 use Rattle.graph_model.specs.History.{sessions, IsSession}
 use Rattle.log_machine.specs.declared.UndoEntry.{UndoEntry}
 use Rattle.log_machine.specs.Machine.{field_at}
+use Rattle.log_machine.specs.Translation.{translated_list}
 use Rattle.txn_table.specs.declared.place.Place.{Place}
 use Rattle.txn_table.specs.declared.place.Place.TheVariants.{Stable, Volatile}
 use Rattle.txn_table.specs.Table.{TransactionState, TableState, transaction_of}
@@ -25,6 +26,10 @@ undo_if (Some t) = t.undo
 -- these writes wrote words below an address
 abbrev pub WroteBelow : ℕ → List UndoEntry → Type 0
 WroteBelow end undo = All (λ u. field_at u.object u.field < end) undo
+
+-- what each session's transaction wrote, if it has one, lies in so many words when objects have moved
+abbrev pub GoAlongBelow : ℕ → List (ℕ × ℕ) → TableState → Type 0
+GoAlongBelow end pairs table = (s : ℕ) → WroteBelow end (translated_list pairs (undo_if (transaction_of table s)))
 
 -- a field's word can refer to the object at a place, if there is one
 abbrev pub can_refer : Option Place → Bool

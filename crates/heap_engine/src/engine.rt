@@ -8,10 +8,12 @@ ghost use Rattle.graph_model.specs.History.{IsOfSession};
 ghost use Rattle.log_machine.specs.Machine.{words_in};
 ghost use Rattle.page_redo.specs.Redo.{EachLacks};
 ghost use Rattle.page_cache.specs.CacheState.{cached};
+ghost use Rattle.heap_spaces.specs.Collection.{owed_by};
 ghost use Rattle.txn_table.specs.Table.{new_table};
 ghost use Rattle.heap_memory.specs.Memory.{own};
 ghost use Rattle.heap_model.specs.Core.{Core, is_dirty};
 ghost use Rattle.memory_laws.specs.CoreMemory.{IsMemory};
+ghost use Rattle.heap_engine.specs.Barrier.{IsSoundIn};
 ghost use Rattle.heap_engine.specs.Reserve.{AreSound};
 ghost use Rattle.heap_engine.specs.StepResult.{engine_device, reply_device};
 
@@ -19,7 +21,7 @@ use crate::step_error::StepError;
 use disk_model::Disk;
 use gated_log::Log;
 use graph_model::{Event, Refusal, Reply};
-use heap_spaces::Spaces;
+use heap_spaces::{Collection, Spaces};
 use object_locks::LockTable;
 use page_cache::PageCache;
 use std::alloc::Global;
@@ -35,6 +37,8 @@ pub struct Engine {
     pub(crate) cache: PageCache,
     /// Which words of the current space are taken.
     pub(crate) spaces: Spaces,
+    /// The collection that runs, if one does.
+    pub(crate) collection: Option<Collection>,
     /// The transactions of the sessions that have not ended, and the next one's number.
     pub(crate) table: TxnTable,
     /// The locks that these hold on objects of the current space.
@@ -43,6 +47,10 @@ pub struct Engine {
     pub(crate) reserved: u64,
     /// How many transactions were sealed since the heap was opened.
     pub(crate) sealed: u64,
+    // What a collection owes is kept free.
+    ghost owed: { spaces.owed ≡ owed_by collection },
+    // What is gray stands in the words that are taken.
+    ghost gray: { IsSoundIn spaces collection },
     // The log has room for what is kept.
     ghost room: { log_used log + reserved ≤ log_room log },
     ghost sound: { AreSound table (length (cached cache).words) reserved sealed },
@@ -63,20 +71,30 @@ impl Engine {
     ghost use Rattle.heap_engine.specs.EngineState.{memory, opened, LiesWithin, HasNotFailed};
     ghost use Rattle.heap_engine.specs.Refinement.{Steps, StepsOn};
 
-    /// The engine of a heap that was just opened: no session has a transaction. It takes no memory.
-    pub fn new(alloc: Global, log: Log, cache: PageCache, spaces: Spaces, table: TxnTable) -> Engine
+    /// The engine of a heap that was just opened: no session has a transaction, and a collection that runs goes on. It takes no memory.
+    pub fn new(
+        alloc: Global,
+        log: Log,
+        cache: PageCache,
+        spaces: Spaces,
+        collection: Option<Collection>,
+        table: TxnTable,
+    ) -> Engine
         requires number { 1 ≤ table.next }
         requires idle { table ≡ new_table table.next }
         requires sized { length (cached cache).words ≡ words_in spaces.pages }
         requires few { spaces.pages ≤ 16384 }
         requires new { EachLacks (log_next_lsn log) (cached cache) }
-        ensures { memory result ≡ opened log cache spaces table.next }
+        requires owed { spaces.owed ≡ owed_by collection }
+        requires gray { IsSoundIn spaces collection }
+        ensures { memory result ≡ opened log cache spaces collection table.next }
     {
         Engine {
             alloc,
             log,
             cache,
             spaces,
+            collection,
             table,
             locks: LockTable::new(alloc),
             reserved: 0,
@@ -113,6 +131,8 @@ impl Engine {
             Event::Seal { s } => Ok(self.seal(s)?),
             Event::Abort { s } => Ok(self.abort(s)?),
             Event::Force => self.force(disk),
+            Event::Flip => Ok(self.flip()?),
+            Event::Scan => Ok(self.scan()?),
             Event::Flush { p } => self.flush(disk, p),
         }
     }

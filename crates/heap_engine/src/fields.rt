@@ -1,21 +1,25 @@
 //! The fields of objects, of those that stand in the current space and of those that a transaction has made: how they are written and read.
-ghost use Rattle.std.specs.Prelude.{◌≡◌, ◌+◌, ◌*◌, ◌<◌, ◌≤◌, ◌^◌, length, [], true, Ok, Some, None, OnErr, IfOk, IfSome, IsSome};
+ghost use Rattle.std.specs.Prelude.{◌≡◌, ◌+◌, ◌*◌, ◌<◌, ◌≤◌, ◌^◌, length, slice_index, [], true, Ok, Some, None, OnErr, IfOk, IfSome, IsSome};
+ghost use Rattle.gated_log.specs.LogState.{log_room, log_used_with, HasSpare};
 ghost use Rattle.heap_words.specs.Word.{bits, meaning, IsWord};
 ghost use Rattle.graph_model.specs.Plain.{reply_of};
 ghost use Rattle.graph_model.specs.declared.reply.Reply.TheVariants.{Done};
 ghost use Rattle.object_layout.specs.Layout.{field_words};
+ghost use Rattle.log_machine.specs.Machine.{field_at};
+ghost use Rattle.log_records.specs.Record.{spellings};
 ghost use Rattle.page_cache.specs.CacheState.{cached};
 ghost use Rattle.heap_memory.specs.Memory.{own, own_fields, place_word, fields_at as words_at};
 ghost use Rattle.heap_engine.specs.Reserve.{can_refer};
 
+use crate::barrier::{PagePlan, keep_copies, note_scan, take_back_copies};
 use crate::engine::{Engine, refused};
 use crate::locking::{keep_write, lock_of, lock_refusal};
 use crate::log_room::{UNDO_BYTES, log_refusal, need_of};
-use crate::logging::carry_out;
+use crate::logging::{carry_out, carry_out_write};
 use graph_model::{Refusal, Reply};
 use heap_words::{FIELDS_AT, Header, NO_INT, Word, decode, encode, header_of};
 use log_machine::UndoEntry;
-use log_records::Record;
+use log_records::{Record, UPDATE_BYTES};
 use object_locks::Mode;
 use std::alloc::AllocError;
 use txn_table::Place;
@@ -38,9 +42,9 @@ fn fields_at(words: &[u64], at: u32) -> &[u64]
 }
 
 impl Engine {
-    ghost use Rattle.heap_memory.specs.Refusals.{put_refusal, clear_refusal, link_refusal, get_refusal, write_refusal};
-    ghost use Rattle.heap_memory.specs.Replies.{get_reply, word_reply, IsGranted};
-    ghost use Rattle.heap_memory.specs.Leaves.{IsAsItWas, WritesHeld, Links, Gets, Writes, LeavesOwn, with_read, with_handle};
+    ghost use Rattle.heap_memory.specs.Refusals.{put_refusal, clear_refusal, link_refusal, get_refusal, read_refusal_of, records_room, write_refusal};
+    ghost use Rattle.heap_memory.specs.Replies.{get_reply, word_reply, words_behind, IsGranted};
+    ghost use Rattle.heap_memory.specs.Leaves.{IsAsItWas, WritesHeld, Links, Gets, GetsAt, Writes, LeavesOwn, with_read, with_handle};
     ghost use Rattle.heap_engine.specs.EngineState.{memory};
 
     /// Writes a number below 2^62 into field `i` of the object that a handle of the transaction holds. An object of the current space is
@@ -95,8 +99,8 @@ impl Engine {
     pub(crate) fn get(&mut self, session: u32, h: u64, i: u64, h2: u64) -> Result<Reply, AllocError>
         ensures reply { IfOk result (λ reply. reply ≡ reply_of (get_refusal (memory self.old) session h i h2) (get_reply (memory self.old) session h i)) }
         ensures got { IfOk result (λ reply. IsGranted reply → Gets (memory self.old) (memory self.new) session h i h2) }
-        ensures refused { (why : _) → result ≡ Ok (Reply.Refused why) → self.new ≡ self.old }
-        ensures err { OnErr result (self.new ≡ self.old) }
+        ensures refused { (why : _) → result ≡ Ok (Reply.Refused why) → IsAsItWas (memory self.old) (memory self.new) }
+        ensures err { OnErr result (IsAsItWas (memory self.old) (memory self.new)) }
     {
         if let Some(why) = self.handle_refusal(session, h2) {
             return Ok(refused(why));
@@ -109,11 +113,64 @@ impl Engine {
         if i >= fields.len() as u64 {
             return Ok(refused(Refusal::BadField));
         }
-        let word = fields[i as usize];
-        if let Some(why) = self.lock_to_read(session, place)? {
+        match place {
+            Place::Stable(at) => self.get_stable(session, at, i as u16, h2),
+            Place::Volatile(_) => {
+                let word = fields[i as usize];
+                Ok(self.read_into(session, h2, word))
+            }
+        }
+    }
+
+    /// The same of a field of an object that stands in the current space: it is locked, and its page is scanned first where a gray object
+    /// starts in it.
+    fn get_stable(
+        &mut self,
+        session: u32,
+        object: u32,
+        field: u16,
+        h: u64,
+    ) -> Result<Reply, AllocError>
+        requires active { IsSome (own (memory self.old) session) }
+        requires there { field < length (field_words (cached self.old.cache).words object) }
+        requires within { h < 64 }
+        ensures reply { IfOk result (λ reply. reply ≡ reply_of (read_refusal_of (memory self.old) (own (memory self.old) session) (Place.Stable object) field) (word_reply (meaning (slice_index (field_words (words_behind (memory self.old) (Ok (Place.Stable object)) field) object) field)))) }
+        ensures got { IfOk result (λ reply. IsGranted reply → GetsAt (memory self.old) (memory self.new) session (Place.Stable object) field h) }
+        ensures refused { (why : _) → result ≡ Ok (Reply.Refused why) → IsAsItWas (memory self.old) (memory self.new) }
+        ensures err { OnErr result (IsAsItWas (memory self.old) (memory self.new)) }
+    {
+        let lock = lock_of(self.table.number(session), Mode::Shared, object);
+        if let Some(why) = lock_refusal(&self.locks, lock) {
             return Ok(refused(why));
         }
-        Ok(self.read_into(session, h2, word))
+        let scan = self.barrier(object, u32::from(field))?;
+        if let Some(why) = self.make_room_for(&scan)? {
+            return Ok(refused(why));
+        }
+        keep_copies(&mut self.collection, scan.copies())?;
+        if let Err(e) = self.locks.take(lock) {
+            take_back_copies(&mut self.collection, scan.copies());
+            return Err(e);
+        }
+        note_scan(&mut self.spaces, &mut self.collection, &scan);
+        carry_out(&mut self.log, &mut self.cache, scan.records());
+        let fields = fields_at(self.cache.as_slice(), object);
+        let word = fields.get(field as usize).copied().unwrap_or(0);
+        Ok(self.read_into(session, h, word))
+    }
+
+    /// Makes room for the scan that a read makes first, if it makes one, or tells why there is none.
+    pub(crate) fn make_room_for(&mut self, scan: &PagePlan) -> Result<Option<Refusal>, AllocError>
+        requires few { length (spellings scan.now.records.items) < 2 ^ 32 + 2 ^ 24 }
+        ensures why { IfOk result (λ why. why ≡ records_room (memory self.old) scan.now.records.items) }
+        ensures memory { result ≡ Ok None → HasSpare self.new.log (length (spellings scan.now.records.items)) }
+        ensures room { result ≡ Ok None → log_used_with self.new.log (length (spellings scan.now.records.items)) + self.new.reserved ≤ log_room self.new.log }
+        ensures same { IsAsItWas (memory self.old) (memory self.new) }
+    {
+        if scan.is_empty() {
+            return Ok(None);
+        }
+        self.make_room(scan.bytes())
     }
 
     /// The words of the fields of the object at a place, in order, and none where no object stands.
@@ -161,7 +218,8 @@ impl Engine {
         }
     }
 
-    /// Puts a word into a field of an object that stands in the current space: it is locked, and the before-image goes to the log.
+    /// Puts a word into a field of an object that stands in the current space: it is locked, its page is scanned first where a gray object
+    /// starts in it, and the before-image goes to the log.
     fn write_stable(
         &mut self,
         session: u32,
@@ -176,28 +234,35 @@ impl Engine {
         ensures refused { (why : _) → result ≡ Ok (Reply.Refused why) → IsAsItWas (memory self.old) (memory self.new) }
         ensures err { OnErr result (IsAsItWas (memory self.old) (memory self.new)) }
     {
-        let was = self.cache.word(object + FIELDS_AT + u32::from(field));
         let t = self.table.number(session);
-        let rec = Record::Update {
+        let lock = lock_of(t, Mode::Exclusive, object);
+        if let Some(why) = lock_refusal(&self.locks, lock) {
+            return Ok(refused(why));
+        }
+        let scan = self.barrier(object, u32::from(field))?;
+        let at = object + FIELDS_AT + u32::from(field);
+        let was = scan.word_behind(at, self.cache.word(at));
+        let bytes = scan.bytes() + UPDATE_BYTES as u64;
+        let reserved = self.reserved + UNDO_BYTES;
+        if let Some(why) = log_refusal(&self.log, need_of(&self.log, bytes), reserved) {
+            return Ok(refused(why));
+        }
+        self.log.reserve(bytes as usize)?;
+        keep_copies(&mut self.collection, scan.copies())?;
+        let entry = UndoEntry { object, field, was };
+        if let Err(e) = keep_write(&mut self.table, &mut self.locks, session, entry, lock) {
+            take_back_copies(&mut self.collection, scan.copies());
+            return Err(e);
+        }
+        note_scan(&mut self.spaces, &mut self.collection, &scan);
+        let update = Record::Update {
             t,
             object,
             field,
             was,
             word,
         };
-        let lock = lock_of(t, Mode::Exclusive, object);
-        if let Some(why) = lock_refusal(&self.locks, lock) {
-            return Ok(refused(why));
-        }
-        let bytes = log_records::length(&rec);
-        let reserved = self.reserved + UNDO_BYTES;
-        if let Some(why) = log_refusal(&self.log, need_of(&self.log, bytes), reserved) {
-            return Ok(refused(why));
-        }
-        self.log.reserve(bytes as usize)?;
-        let entry = UndoEntry { object, field, was };
-        keep_write(&mut self.table, &mut self.locks, session, entry, lock)?;
-        carry_out(&mut self.log, &mut self.cache, &[rec]);
+        carry_out_write(&mut self.log, &mut self.cache, scan.records(), &update);
         self.reserved = reserved;
         Ok(Reply::Done)
     }

@@ -5,10 +5,15 @@
 //! locking: each locks an object of the current space before it reads or writes it, and keeps its locks until it ends. No event waits for
 //! another: where others hold a conflicting lock it is refused as busy, with the least of their numbers.
 //!
+//! A collection of one space into the other may run beside the transactions: it begins with a flip, each scan copies what one page leads to,
+//! and an event on an object in a page that is not scanned yet scans that page first.
+//!
 //! A change of the current space is a list of records: all are appended to the log, and then each is put on its pages with its LSN. A page is
 //! stored only once the log is on the disk up to the page's LSN.
 #![tactic(auto)]
 
+mod barrier;
+mod collecting;
 mod committed;
 mod engine;
 mod fields;

@@ -1,20 +1,17 @@
 //! The locks that a transaction takes on objects of the current space. An object of its own area needs none: no other transaction
 //! reaches it.
-ghost use Rattle.std.specs.Prelude.{◌≡◌, ◌∷◌, Ok, None, Some, OnOk, OnErr, IfOk, IfSome, IsSome};
+ghost use Rattle.std.specs.Prelude.{◌≡◌, ◌∷◌, None, OnOk, OnErr, IsSome};
 ghost use Rattle.std.specs.FinSet as set;
 ghost use Rattle.graph_model.specs.Plain.{busy_with};
-ghost use Rattle.object_locks.specs.declared.holding.Mode.TheVariants.{Shared};
 ghost use Rattle.object_locks.specs.Holdings.{MayHold};
 ghost use Rattle.txn_table.specs.Table.{transaction_of, Changes};
-ghost use Rattle.heap_memory.specs.Memory.{own};
 ghost use Rattle.heap_memory.specs.Refusals.{holder_of, asked};
 
-use crate::engine::Engine;
 use graph_model::Refusal;
 use log_machine::UndoEntry;
-use object_locks::{Holding, Key, LockError, LockTable, Mode};
+use object_locks::{Holding, Key, LockTable, Mode};
 use std::alloc::AllocError;
-use txn_table::{Place, TxnTable};
+use txn_table::TxnTable;
 
 /// The refusal that names who holds an object.
 fn busy(holder: u32) -> Refusal
@@ -45,20 +42,6 @@ pub(crate) fn lock_refusal(locks: &LockTable, lock: Holding) -> Option<Refusal>
     Some(busy(holder))
 }
 
-/// Transaction `t` locks the object at an address to read it, or gets a busy refusal. An error changes nothing.
-fn read_lock(locks: &mut LockTable, t: u32, at: u32) -> Result<Option<Refusal>, AllocError>
-    ensures why { IfOk result (λ why. why ≡ busy_with (holder_of locks.old (asked t Shared at))) }
-    ensures locked { result ≡ Ok None → locks.new ≡ set.insert locks.old (asked t Shared at) }
-    ensures refused { (why : _) → result ≡ Ok (Some why) → locks.new ≡ locks.old }
-    ensures err { OnErr result (locks.new ≡ locks.old) }
-{
-    match locks.read_lock(Key { address: at }, t) {
-        Ok(()) => Ok(None),
-        Err(LockError::Busy { holder }) => Ok(Some(busy(holder))),
-        Err(LockError::NoMemory) => Err(AllocError),
-    }
-}
-
 /// Keeps what a write of the session's transaction replaces, and takes the lock of the object that it writes, which no other transaction
 /// holds. An error changes nothing.
 pub(crate) fn keep_write(
@@ -80,28 +63,4 @@ pub(crate) fn keep_write(
         return Err(e);
     }
     Ok(())
-}
-
-impl Engine {
-    ghost use Rattle.heap_memory.specs.Refusals.{lock_refusal};
-    ghost use Rattle.heap_memory.specs.Leaves.{with_lock};
-    ghost use Rattle.heap_engine.specs.EngineState.{memory};
-
-    /// Locks the object at a place for the transaction, which is to read it, or tells why it can't be.
-    pub(crate) fn lock_to_read(
-        &mut self,
-        session: u32,
-        place: Place,
-    ) -> Result<Option<Refusal>, AllocError>
-        requires { IsSome (own (memory self.old) session) }
-        ensures why { IfOk result (λ why. IfSome (own (memory self.old) session) (λ t. why ≡ lock_refusal self.old.locks t Shared place)) }
-        ensures locked { result ≡ Ok None → IfSome (own (memory self.old) session) (λ t. memory self.new ≡ record (memory self.old) { locks = with_lock self.old.locks t Shared place }) }
-        ensures refused { (why : _) → result ≡ Ok (Some why) → self.new ≡ self.old }
-        ensures err { OnErr result (self.new ≡ self.old) }
-    {
-        match place {
-            Place::Stable(at) => read_lock(&mut self.locks, self.table.number(session), at),
-            Place::Volatile(_) => Ok(None),
-        }
-    }
 }

@@ -1,9 +1,10 @@
 //! What the log has room for.
-ghost use Rattle.std.specs.Prelude.{◌≡◌, ◌+◌, ◌<◌, ◌^◌, length, IfSome, IsSome};
-ghost use Rattle.gated_log.specs.LogState.{log_need};
+ghost use Rattle.std.specs.Prelude.{◌≡◌, ◌+◌, ◌<◌, ◌≤◌, ◌^◌, length, Ok, None, IfOk, IfSome, IsSome};
+ghost use Rattle.gated_log.specs.LogState.{log_need, log_room, log_used_with, HasSpare};
 ghost use Rattle.log_records.specs.Record.{spellings};
 ghost use Rattle.log_machine.specs.Machine.{end_bytes};
-ghost use Rattle.heap_memory.specs.Memory.{own};
+ghost use Rattle.heap_memory.specs.Memory.{own, reserved};
+ghost use Rattle.heap_memory.specs.Leaves.{IsAsItWas};
 ghost use Rattle.heap_memory.specs.Refusals.{no_room};
 
 use crate::engine::Engine;
@@ -11,6 +12,7 @@ use gated_log::Log;
 use graph_model::Refusal;
 use log_machine::end_bytes;
 use log_records::{BATCH_BYTES, PUT_BYTES, Record};
+use std::alloc::AllocError;
 
 /// The bytes that are kept to take a write back: those of an `Undo`.
 pub(crate) const UNDO_BYTES: u64 = PUT_BYTES as u64;
@@ -48,6 +50,21 @@ pub(crate) fn need_of(log: &Log, bytes: u64) -> u64
 impl Engine {
     ghost use Rattle.heap_memory.specs.Refusals.{reserved_without};
     ghost use Rattle.heap_engine.specs.EngineState.{memory};
+
+    /// Makes room in memory for records of so many bytes, or tells why the log has none for them. What is kept for transactions stays.
+    pub(crate) fn make_room(&mut self, bytes: u64) -> Result<Option<Refusal>, AllocError>
+        requires few { bytes < 2 ^ 32 + 2 ^ 24 }
+        ensures why { IfOk result (λ why. why ≡ no_room self.old.log (log_need self.old.log bytes) (reserved self.old.table)) }
+        ensures memory { result ≡ Ok None → HasSpare self.new.log bytes }
+        ensures room { result ≡ Ok None → log_used_with self.new.log bytes + self.new.reserved ≤ log_room self.new.log }
+        ensures same { IsAsItWas (memory self.old) (memory self.new) }
+    {
+        if let Some(why) = log_refusal(&self.log, need_of(&self.log, bytes), self.reserved) {
+            return Ok(Some(why));
+        }
+        self.log.reserve(bytes as usize)?;
+        Ok(None)
+    }
 
     /// The bytes that are kept for the ends of all transactions but that of the session, when it ends.
     pub(crate) fn reserved_without(&self, session: u32) -> u64

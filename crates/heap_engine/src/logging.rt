@@ -1,5 +1,5 @@
 //! Records are appended to the log, and then put on their pages: no page has a record that the log lacks.
-ghost use Rattle.std.specs.Prelude.{◌≡◌, ◌≤◌, length, fold};
+ghost use Rattle.std.specs.Prelude.{◌≡◌, ◌≤◌, ◌++◌, ◌∷◌, [], length, fold};
 ghost use Rattle.gated_log.specs.LogState.{log_room, log_used, log_used_with, HasSpare};
 ghost use Rattle.heap_memory.specs.Leaves.{Adds};
 ghost use Rattle.heap_model.specs.Lsns.{log_next_lsn};
@@ -33,4 +33,25 @@ pub(crate) fn carry_out(log: &mut Log, cache: &mut PageCache, records: &[Record]
     let first = log.records() + FIRST_LSN;
     log.append_all(records).unwrap();
     cache.apply_all(first, records);
+}
+
+/// The same of the records of a scan and of a write behind it: all of them are appended before the first is put on its pages.
+pub(crate) fn carry_out_write(log: &mut Log, cache: &mut PageCache, scan: &[Record], write: &Record)
+    requires memory { HasSpare log.old (length (spellings (scan.now ++ write.now ∷ []))) }
+    requires room { log_used_with log.old (length (spellings (scan.now ++ write.now ∷ []))) ≤ log_room log.old }
+    requires inside { EachWritesBelow (length (cached cache.old).words) (scan.now ++ write.now ∷ []) }
+    requires new { EachLacks (log_next_lsn log.old) (cached cache.old) }
+    ensures log { Adds log.old log.new (scan.now ++ write.now ∷ []) }
+    ensures used { log_used log.new ≡ log_used_with log.old (length (spellings (scan.now ++ write.now ∷ []))) }
+    ensures words { (cached cache.new).words ≡ fold put_record (cached cache.old).words (scan.now ++ write.now ∷ []) }
+    ensures lsns { (cached cache.new).lsns ≡ (redo_all (log_next_lsn log.old) (cached cache.old) (scan.now ++ write.now ∷ [])).lsns }
+    ensures store { cache_store cache.new ≡ cache_store cache.old }
+    ensures size { length (cached cache.new).words ≡ length (cached cache.old).words }
+    ensures logged { EachLacks (log_next_lsn log.new) (cached cache.new) }
+{
+    let first = log.records() + FIRST_LSN;
+    log.append_all(scan).unwrap();
+    log.append(write).unwrap();
+    cache.apply_all(first, scan);
+    cache.apply(first + scan.len() as u64, write);
 }

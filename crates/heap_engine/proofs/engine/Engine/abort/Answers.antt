@@ -126,6 +126,7 @@ returns-clause-aborted c is =
         table = c.end.ensures;
         locks = c.release.ensures ∙ ap (without s.locks) number;
         spaces = refl;
+        collection = refl;
         sealed = refl;
       };
     }

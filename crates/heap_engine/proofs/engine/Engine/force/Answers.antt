@@ -20,7 +20,7 @@ returns-clause-core g c =
           let valid = engine_valid g.D.Disk core old c.args.disk.now is reached in
           let kept = c.in_ok-force.ensures.kept core.batches core.pending (keeps core old log is.memory (same_log old.log)) in
           let does = force_does (memory old) (record (memory old) { log = c.force.new.self }) core (Durable old.sealed) valid is.memory kept c.force.ensures.at c.force.ensures.same_room
-          (record { words = refl; lsns = refl; table = refl; locks = refl; spaces = refl; sealed = refl }) refl refl in (
+          (record { words = refl; lsns = refl; table = refl; locks = refl; spaces = refl; collection = refl; sealed = refl }) refl refl in (
             does.replied,
             engine_after g.D.Disk core Force (Durable old.sealed) _ c.force.new.disk (valid_after core Force valid reached.locked tt) does
                 (λ told. knows_forced core old log is.memory (same_log old.log) (record (memory old) { log = c.force.new.self }) _ _ refl (c.in_ok-force.ensures.outside told) (is.pages told)),

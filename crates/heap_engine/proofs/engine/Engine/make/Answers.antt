@@ -70,6 +70,7 @@ returns-in-Ok-clause-done c is =
         table = e.is ∙ (λ i. with_transaction (d.is i) s (now i)) ∙ with_transaction_twice old.table s (with_new c.args.len t) (with_made t c.args.h c.args.len);
         locks = refl;
         spaces = refl;
+        collection = refl;
         sealed = refl;
       };
     }

@@ -127,6 +127,7 @@ returns-clause-sealed c number is =
         table = c.end.ensures;
         locks = c.release.ensures ∙ ap (without s.locks) as_number;
         spaces = taken ∙ ap (with_taken s.spaces) (c.need.ensures ∙ found.need);
+        collection = refl;
         sealed = refl;
       };
     }

@@ -10,9 +10,11 @@ use Rattle.memory_laws.proofs.Does.{Does}
 use Rattle.heap_engine.specs.declared.step_error.StepError.{StepError}
 use Rattle.heap_engine.specs.declared.step_error.StepError.TheVariants.{NoMemory}
 use Rattle.heap_engine.specs.EngineState.{memory}
-use Rattle.heap_engine.specs.StepResult.{engine_device}
-use Rattle.heap_engine.proofs.CallsCore.{begins, roots, drops, makes, puts, clears, links, gets, seals, aborts, compares, counts, either, answered, granted_or, read_or}
+use Rattle.heap_engine.specs.StepResult.{engine_device, reply_device}
+use Rattle.heap_engine.proofs.CallsCore.{begins, roots, drops, makes, puts, clears, links, gets, seals, aborts, flips, scans, compares, counts, either, answered, granted_or, read_or, flip_or, scan_or}
 use Rattle.heap_engine.proofs.EventCore.{LeavesStored, leaves_same, leaves_as, same_as_it_was, LeavesDisk, call_leaves, lack_leaves}
+use Rattle.heap_engine.proofs.Found.{map_ok}
+use Rattle.heap_engine.proofs.ReadAnswer.{read_answered}
 use Rattle.heap_engine.proofs.engine.Engine.step_on.Goals as goal
 
 pub returns-in-Begin : goal.returns-in-Begin
@@ -235,16 +237,17 @@ returns-in_ok-get-in-Get g c =
     let old = c.args.self.now in
     let new = c.get.new.self in
     let leaves = read_or c.in_ok-get-in-Get.field-0 (LeavesStored old new)
-    (λ granted. let left = (answered c.get.result c.in_ok-get-in-Get.field-0 _ c.in_ok-get-in-Get.was c.get.ensures.got granted).left in record { log = left.log.place; store = left.store })
-    (λ why refused. leaves_same old new (c.get.ensures.refused why (c.in_ok-get-in-Get.was ∙ ap Ok refused))) in
+    (λ granted. let left = (answered c.get.result c.in_ok-get-in-Get.field-0 _ c.in_ok-get-in-Get.was c.get.ensures.got granted).gets.left in record { log = left.log.place; store = left.store })
+    (λ why refused. leaves_as old new (c.get.ensures.refused why (c.in_ok-get-in-Get.was ∙ ap Ok refused))) in
     let all = call_leaves g.D.Disk c.args.event old new c.args.disk.now c.in_ok-get-in-Get.field-0 c.requires.session (subst AsksDisk c.in-Get.is) leaves
     (λ core is valid runs. answered c.get.result c.in_ok-get-in-Get.field-0 (λ reply. Does core c.args.event reply (memory new)) c.in_ok-get-in-Get.was
-    (gets (memory old) (memory new) core is valid runs c.args.event c.in-Get.s c.in-Get.h c.in-Get.i c.in-Get.h2 c.get.result c.in-Get.is c.get.ensures.reply c.get.ensures.got (λ why refused. ap memory (c.get.ensures.refused why refused)))) in
+    (gets (memory old) (memory new) core is valid runs c.args.event c.in-Get.s c.in-Get.h c.in-Get.i c.in-Get.h2 c.get.result c.in-Get.is c.get.ensures.reply c.get.ensures.got c.get.ensures.refused)) in
     record {
       inside = all.inside c.requires.inside;
       works = λ fine. all.works c.requires.works;
       disk = keeps_none g.D.Disk c.args.disk.now tt;
-      answered = search rules;
+      answered = answered c.get.result c.in_ok-get-in-Get.field-0 (λ (x : Reply). reply_device x ≡ Ok tt) c.in_ok-get-in-Get.was
+          (map_ok c.get.result _ (λ (x : Reply). reply_device x ≡ Ok tt) (λ x is. ap reply_device is ∙ read_answered (memory old) c.in-Get.s c.in-Get.h c.in-Get.i c.in-Get.h2) c.get.ensures.reply);
       core = all.core;
       holds = λ tells. all.holds (g.met.D.Disk.only_now tells c.args.disk.now);
     }
@@ -255,7 +258,7 @@ returns-in_err-get-in-Get g c =
     let new = c.get.new.self in
     let err : c.from_residual-in_err-get-in-Get.result ≡ Err NoMemory = search rules in
     let P : Result Reply StepError → Type 0 = λ r. LeavesDisk g.D.Disk c.args.event old new c.args.disk.now r in
-    let all = subst P (sym err) (lack_leaves g.D.Disk c.args.event old new c.args.disk.now (same_as_it_was old new c.in_err-get-in-Get.ensures.err)) in
+    let all = subst P (sym err) (lack_leaves g.D.Disk c.args.event old new c.args.disk.now c.in_err-get-in-Get.ensures.err) in
     record {
       inside = all.inside c.requires.inside;
       works = λ fine. all.works c.requires.works;
@@ -324,6 +327,81 @@ returns-in_err-abort-in-Abort g c =
     let err : c.from_residual-in_err-abort-in-Abort.result ≡ Err NoMemory = search rules in
     let P : Result Reply StepError → Type 0 = λ r. LeavesDisk g.D.Disk c.args.event old new c.args.disk.now r in
     let all = subst P (sym err) (lack_leaves g.D.Disk c.args.event old new c.args.disk.now c.in_err-abort-in-Abort.ensures.err) in
+    record {
+      inside = all.inside c.requires.inside;
+      works = λ fine. all.works c.requires.works;
+      disk = subst (λ (r : Result Reply StepError). KeepsDisk g.D.Disk c.args.disk.now c.args.disk.now (engine_device r)) (sym err) (keeps_none g.D.Disk c.args.disk.now tt);
+      answered = search rules;
+      core = all.core;
+      holds = λ tells. all.holds (g.met.D.Disk.only_now tells c.args.disk.now);
+    }
+
+pub returns-in_ok-flip-in-Flip : goal.returns-in_ok-flip-in-Flip
+returns-in_ok-flip-in-Flip g c =
+    let old = c.args.self.now in
+    let new = c.flip.new.self in
+    let x = c.in_ok-flip-in-Flip.field-0 in
+    let was = c.in_ok-flip-in-Flip.was in
+    let leaves = flip_or (memory old) x (LeavesStored old new) (answered c.flip.result x _ was c.flip.ensures.reply)
+    (λ objects words given. let left = (c.flip.ensures.flipped objects words (was ∙ ap Ok given)).1.left in record { log = left.log.place; store = left.store })
+    (λ given. leaves_same old new (c.flip.ensures.still (was ∙ ap Ok given))) (λ why given. leaves_as old new (c.flip.ensures.refused why (was ∙ ap Ok given))) in
+    let all = call_leaves g.D.Disk c.args.event old new c.args.disk.now x c.requires.session (subst AsksDisk c.in-Flip.is) leaves
+    (λ core is valid runs. answered c.flip.result x (λ reply. Does core c.args.event reply (memory new)) was
+    (flips (memory old) (memory new) core is valid c.args.event c.flip.result c.in-Flip.is c.flip.ensures.reply c.flip.ensures.flipped (λ given. ap memory (c.flip.ensures.still given)) c.flip.ensures.refused)) in
+    record {
+      inside = all.inside c.requires.inside;
+      works = λ fine. all.works c.requires.works;
+      disk = keeps_none g.D.Disk c.args.disk.now tt;
+      answered = search rules;
+      core = all.core;
+      holds = λ tells. all.holds (g.met.D.Disk.only_now tells c.args.disk.now);
+    }
+
+pub returns-in_err-flip-in-Flip : goal.returns-in_err-flip-in-Flip
+returns-in_err-flip-in-Flip g c =
+    let old = c.args.self.now in
+    let new = c.flip.new.self in
+    let err : c.from_residual-in_err-flip-in-Flip.result ≡ Err NoMemory = search rules in
+    let P : Result Reply StepError → Type 0 = λ r. LeavesDisk g.D.Disk c.args.event old new c.args.disk.now r in
+    let all = subst P (sym err) (lack_leaves g.D.Disk c.args.event old new c.args.disk.now c.in_err-flip-in-Flip.ensures.err) in
+    record {
+      inside = all.inside c.requires.inside;
+      works = λ fine. all.works c.requires.works;
+      disk = subst (λ (r : Result Reply StepError). KeepsDisk g.D.Disk c.args.disk.now c.args.disk.now (engine_device r)) (sym err) (keeps_none g.D.Disk c.args.disk.now tt);
+      answered = search rules;
+      core = all.core;
+      holds = λ tells. all.holds (g.met.D.Disk.only_now tells c.args.disk.now);
+    }
+
+pub returns-in_ok-scan-in-Scan : goal.returns-in_ok-scan-in-Scan
+returns-in_ok-scan-in-Scan g c =
+    let old = c.args.self.now in
+    let new = c.scan.new.self in
+    let x = c.in_ok-scan-in-Scan.field-0 in
+    let was = c.in_ok-scan-in-Scan.was in
+    let leaves = scan_or (memory old) x (LeavesStored old new) (answered c.scan.result x _ was c.scan.ensures.reply)
+    (λ page objects words given. let left = (c.scan.ensures.scanned page objects words (was ∙ ap Ok given)).left in record { log = left.log.place; store = left.store })
+    (λ used given. let left = (c.scan.ensures.collected used (was ∙ ap Ok given)).left in record { log = left.log.place; store = left.store })
+    (λ given. leaves_same old new (c.scan.ensures.still (was ∙ ap Ok given))) (λ why given. leaves_as old new (c.scan.ensures.refused why (was ∙ ap Ok given))) in
+    let all = call_leaves g.D.Disk c.args.event old new c.args.disk.now x c.requires.session (subst AsksDisk c.in-Scan.is) leaves
+    (λ core is valid runs. answered c.scan.result x (λ reply. Does core c.args.event reply (memory new)) was
+    (scans (memory old) (memory new) core is valid c.args.event c.scan.result c.in-Scan.is c.scan.ensures.reply c.scan.ensures.scanned c.scan.ensures.collected (λ given. ap memory (c.scan.ensures.still given)) c.scan.ensures.refused)) in
+    record {
+      inside = all.inside c.requires.inside;
+      works = λ fine. all.works c.requires.works;
+      disk = keeps_none g.D.Disk c.args.disk.now tt;
+      answered = search rules;
+      core = all.core;
+      holds = λ tells. all.holds (g.met.D.Disk.only_now tells c.args.disk.now);
+    }
+
+pub returns-in_err-scan-in-Scan : goal.returns-in_err-scan-in-Scan
+returns-in_err-scan-in-Scan g c =
+    let old = c.args.self.now in
+    let new = c.scan.new.self in
+    let err : c.from_residual-in_err-scan-in-Scan.result ≡ Err NoMemory = search rules in
+    let P : Result Reply StepError → Type 0 = λ r. LeavesDisk g.D.Disk c.args.event old new c.args.disk.now r in
+    let all = subst P (sym err) (lack_leaves g.D.Disk c.args.event old new c.args.disk.now c.in_err-scan-in-Scan.ensures.err) in
     record {
       inside = all.inside c.requires.inside;
       works = λ fine. all.works c.requires.works;

@@ -28,7 +28,7 @@ returns-clause-memory g c core works =
     let keeps = subst (λ (b : Bool). Keeps log (forced_if b core).batches (forced_if b core).pending) (ahead_is core w c.args.p works c.requires.page c.lsn.result c.lsn.ensures.value) (c.in_ok-force_up_to.ensures.kept core works.log) in
     when_ok c.flush.result (λ x is.
     flushed_memory core w c.args.p works c.requires.page _ c.requires.dirty keeps c.force_up_to.ensures.at c.force_up_to.ensures.same_room
-    (record { words = ap (λ (x : Pages). x.words) c.flush.ensures.pages; lsns = ap (λ (x : Pages). x.lsns) c.flush.ensures.pages; table = refl; locks = refl; spaces = refl; sealed = refl })
+    (record { words = ap (λ (x : Pages). x.words) c.flush.ensures.pages; lsns = ap (λ (x : Pages). x.lsns) c.flush.ensures.pages; table = refl; locks = refl; spaces = refl; collection = refl; sealed = refl })
     c.flush.ensures.plan (c.flush.ensures.failed ∙ ap is_err is) (its c.flush.result x is c.flush.ensures.clean) c.flush.ensures.other_pages)
 
 pub returns-clause-pages : goal.returns-clause-pages

@@ -6,24 +6,18 @@ use Rattle.txn_table.specs.declared.place.Place.{Place}
 use Rattle.txn_table.specs.Table.{TransactionState, transaction_of}
 use Rattle.heap_memory.specs.Memory.{fields_at}
 use Rattle.heap_engine.proofs.Tables.{there, told, sound_area}
-use Rattle.heap_engine.proofs.ObjectFields.{placed_few, own_has}
+use Rattle.heap_engine.proofs.ObjectFields.{held_few, own_has}
 use Rattle.heap_engine.proofs.engine.Engine.write.Goals as goal
-
-few : (o : Option TransactionState) (words : List ℕ) (p : Place) (fields : List ℕ) → IsSome o → IfSome o (λ t. fields ≡ fields_at words t.area p) → length fields ≤ 510
-few o words p fields some is =
-    let t = there o some in
-    let same = told o t.0 (λ v. fields ≡ fields_at words v.area p) t.1 is in
-    omega (arith, ap length same, placed_few words t.0.area p)
 
 pub overflow_cast-i : goal.overflow_cast-i
 overflow_cast-i c =
     let s = c.args.self.now in
-    omega (arith, c.if-i-fields.false, few (transaction_of s.table c.args.session) (cached s.cache).words c.args.place c.fields.result.now c.requires.active c.fields.ensures)
+    omega (arith, c.if-i-fields.false, held_few (transaction_of s.table c.args.session) (cached s.cache).words c.args.place c.fields.result.now c.requires.active c.fields.ensures)
 
 pub overflow_cast-i-in-Volatile : goal.overflow_cast-i-in-Volatile
 overflow_cast-i-in-Volatile c =
     let s = c.args.self.now in
-    omega (arith, c.if-i-fields.false, few (transaction_of s.table c.args.session) (cached s.cache).words c.args.place c.fields.result.now c.requires.active c.fields.ensures)
+    omega (arith, c.if-i-fields.false, held_few (transaction_of s.table c.args.session) (cached s.cache).words c.args.place c.fields.result.now c.requires.active c.fields.ensures)
 
 pub set_field-requires-clause-there : goal.set_field-requires-clause-there
 set_field-requires-clause-there c =

@@ -1,37 +1,90 @@
-use Rattle.std.proofs.Common.{◌≡◌, ◌+◌, ◌≤◌, [], ◌∷◌, length, refl, sym, ap, ◌∙◌, arith}
-use Rattle.gated_log.specs.LogState.{log_room, log_need, log_used_with}
+use Rattle.std.proofs.Common.{rules, ◌≡◌, ◌+◌, ◌≤◌, ◌++◌, [], ◌∷◌, List, length, true, refl, sym, ap, ◌∙◌, subst, arith}
+use Rattle.gated_log.specs.LogState.{log_room, log_used, log_need, log_used_with}
+use Rattle.heap_spaces.specs.Spaces.{SpacesState}
 use Rattle.log_machine.specs.declared.UndoEntry.{UndoEntry}
-use Rattle.log_machine.specs.Machine.{field_at}
+use Rattle.log_machine.specs.Machine.{field_at, words_in}
+use Rattle.log_records.specs.declared.Record.{Record}
+use Rattle.log_records.specs.declared.Record.TheVariants.{Update}
+use Rattle.log_records.specs.Record.{spellings}
 use Rattle.page_cache.specs.CacheState.{cached}
-use Rattle.heap_engine.proofs.Tables.{sound_same, sound_write}
+use Rattle.std.specs.Prelude.{slice_index}
+use Rattle.std.specs.FinSet as set
+use Rattle.heap_memory.specs.Collecting.{spaces_behind, collection_behind}
+use Rattle.heap_memory.specs.Leaves.{IsAsItWas}
+use Rattle.heap_memory.specs.Memory.{Memory}
+use Rattle.heap_engine.specs.Barrier.{is_scan_of, word_after, CanScan}
+use Rattle.heap_engine.specs.EngineState.{memory}
 use Rattle.heap_engine.proofs.ObjectFields.{field_within}
+use Rattle.heap_engine.proofs.Reserved.{used_after}
 use Rattle.heap_engine.proofs.Room.{room_left, used_with_need}
-use Rattle.heap_engine.proofs.Reserved.{adds_to, lacks_next, used_after, room_after}
+use Rattle.heap_engine.proofs.Scanned.{noted, noted_owes, noted_sound, update_bytes, wrote_at}
+use Rattle.heap_engine.proofs.Tables.{sound_same, sound_write}
 use Rattle.heap_engine.proofs.engine.Engine.write_stable.Goals as goal
 
-pub carry_out-requires-clause-new : goal.carry_out-requires-clause-new
-carry_out-requires-clause-new c = let s = c.args.self.now in lacks_next s.log c.reserve.new.self c.reserve.ensures.same (cached s.cache) s.logged
-
-pub carry_out-requires-clause-room : goal.carry_out-requires-clause-room
-carry_out-requires-clause-room c =
+pub invariant_of-self-2-clause-owed : goal.invariant_of-self-2-clause-owed
+invariant_of-self-2-clause-owed c =
     let s = c.args.self.now in
-    let left = room_left s.log c.need_of.result (s.reserved + 19) (sym c.log_refusal.ensures ∙ c.in_default-log_refusal.is) in
-    let need : c.need_of.result ≡ log_need s.log 27 = c.need_of.ensures ∙ ap (log_need s.log) c.length-bytes.ensures.value in
-    room_after s.log c.reserve.new.self c.reserve.ensures.same 27 (omega (arith, left, need, used_with_need s.log 27))
+    let plan = c.in_ok-scan.scan in
+    let is = noted plan s.spaces c.note_scan.new.spaces s.collection c.keep_copies.new.collection c.note_scan.new.collection c.copies.result.now c.copies.ensures c.in_ok-keep_copies.ensures.ok c.note_scan.ensures.spaces c.note_scan.ensures.collection in
+    noted_owes (memory s) plan.records.items c.in_ok-scan.ensures.ready c.note_scan.new.spaces c.note_scan.new.collection is
+
+pub invariant_of-self-2-clause-gray : goal.invariant_of-self-2-clause-gray
+invariant_of-self-2-clause-gray c =
+    let s = c.args.self.now in
+    let plan = c.in_ok-scan.scan in
+    let is = noted plan s.spaces c.note_scan.new.spaces s.collection c.keep_copies.new.collection c.note_scan.new.collection c.copies.result.now c.copies.ensures c.in_ok-keep_copies.ensures.ok c.note_scan.ensures.spaces c.note_scan.ensures.collection in
+    noted_sound (memory s) plan.records.items c.in_ok-scan.ensures.ready c.note_scan.new.spaces c.note_scan.new.collection is
 
 pub invariant_of-self-2-clause-room : goal.invariant_of-self-2-clause-room
 invariant_of-self-2-clause-room c =
     let s = c.args.self.now in
+    let n = length (spellings c.in_ok-scan.scan.records.items) in
+    let records = c.records.result.now in
+    let written = Update c.number-t.result c.args.object c.args.field c.word_behind-was.result c.args.word in
     let left = room_left s.log c.need_of.result (s.reserved + 19) (sym c.log_refusal.ensures ∙ c.in_default-log_refusal.is) in
-    let need : c.need_of.result ≡ log_need s.log 27 = c.need_of.ensures ∙ ap (log_need s.log) c.length-bytes.ensures.value in
-    let used = c.carry_out.ensures.used ∙ used_after s.log c.reserve.new.self c.reserve.ensures.same 27 in
-    omega (arith, used, left, need, used_with_need s.log 27, c.carry_out.ensures.log.place.room, c.reserve.ensures.same.place.room)
+    let need : c.need_of.result ≡ log_need s.log (n + 27) = c.need_of.ensures ∙ ap (λ k. log_need s.log (k + 27)) c.bytes.ensures in
+    let size : length (spellings (records ++ written ∷ [])) ≡ n + 27 =
+    update_bytes records c.number-t.result c.args.object c.args.field c.word_behind-was.result c.args.word ∙ ap (λ (rs : List Record). length (spellings rs) + 27) c.records.ensures in
+    let used : log_used c.carry_out_write.new.log ≡ log_used_with s.log (n + 27) =
+    c.carry_out_write.ensures.used ∙ used_after s.log c.reserve.new.self c.reserve.ensures.same (length (spellings (records ++ written ∷ []))) ∙ ap (log_used_with s.log) size in
+    omega (arith, used, left, need, used_with_need s.log (n + 27), c.carry_out_write.ensures.log.place.room, c.reserve.ensures.same.place.room)
 
 pub invariant_of-self-2-clause-sound : goal.invariant_of-self-2-clause-sound
 invariant_of-self-2-clause-sound c =
     let s = c.args.self.now in
-    let entry : UndoEntry = record { object = c.args.object; field = c.args.field; was = c.word-was.result } in
+    let entry : UndoEntry = record { object = c.args.object; field = c.args.field; was = c.word_behind-was.result } in
     let here = field_within (cached s.cache).words c.args.object c.args.field c.requires.there in
     let table = c.keep_write.new.table in
-    let written = sound_write s.table table (length (cached s.cache).words) s.reserved s.sealed c.args.session entry s.sound c.requires.active c.in_ok-keep_write.ensures.kept here in
-    sound_same table table (length (cached s.cache).words) (length (cached c.carry_out.new.cache).words) (s.reserved + 19) (s.reserved + 19) s.sealed written refl c.carry_out.ensures.size refl
+    let written = sound_write s.table table (length (cached s.cache).words) s.reserved s.sealed c.args.session entry s.sound c.requires.active c.in_default-keep_write.ensures.kept here in
+    sound_same table table (length (cached s.cache).words) (length (cached c.carry_out_write.new.cache).words) (s.reserved + 19) (s.reserved + 19) s.sealed written refl c.carry_out_write.ensures.size refl
+
+pub invariant_of-self-2-clause-sized : goal.invariant_of-self-2-clause-sized
+invariant_of-self-2-clause-sized c = c.carry_out_write.ensures.size ∙ c.args.self.now.sized ∙ sym (ap (λ (sp : SpacesState). words_in sp.pages) c.note_scan.ensures.spaces)
+
+pub returns-clause-done : goal.returns-clause-done
+returns-clause-done c was =
+    let s = c.args.self.now in
+    let plan = c.in_ok-scan.scan in
+    let records = c.records.result.now in
+    let at = field_at c.args.object c.args.field in
+    let mid : Memory = record (memory s) { log = c.reserve.new.self } in
+    let same : IsAsItWas (memory s) mid =
+    record { log = c.reserve.ensures.same; words = refl; lsns = refl; store = refl; table = refl; locks = refl; spaces = refl; collection = refl; sealed = refl } in
+    let is = noted plan s.spaces c.note_scan.new.spaces s.collection c.keep_copies.new.collection c.note_scan.new.collection c.copies.result.now c.copies.ensures c.in_ok-keep_copies.ensures.ok c.note_scan.ensures.spaces c.note_scan.ensures.collection in
+    let scans = subst (λ rs. is_scan_of plan.page rs ≡ true) (sym c.records.ensures) plan.scans in
+    let ready = subst (CanScan (memory s)) (sym c.records.ensures) c.in_ok-scan.ensures.ready in
+    let behind : c.word_behind-was.result ≡ word_after at (slice_index (cached s.cache).words at) records = search rules in
+    wrote_at (memory s) mid _ c.args.session c.args.object c.args.field c.number-t.result c.word_behind-was.result c.args.word plan.page records same (c.records.ensures ∙ c.in_ok-scan.ensures.records) scans ready
+    (field_within (cached s.cache).words c.args.object c.args.field c.requires.there) behind
+    (record {
+      log = c.carry_out_write.ensures.log;
+      words = c.carry_out_write.ensures.words;
+      lsns = c.carry_out_write.ensures.lsns;
+      store = c.carry_out_write.ensures.store;
+      table = refl;
+      locks = c.in_default-keep_write.ensures.locked ∙ ap (set.insert s.locks) c.lock_of-lock.ensures;
+      spaces = is.spaces ∙ ap (spaces_behind s.spaces) (sym c.records.ensures);
+      collection = is.collection ∙ ap (collection_behind s.collection) (sym c.records.ensures);
+      sealed = refl;
+    })
+    c.requires.active c.number-t.ensures c.in_default-keep_write.ensures.kept

@@ -1,0 +1,215 @@
+//! The events of a collection: it begins with a flip, scans the current space page by page, and ends where nothing is gray any more.
+ghost use Rattle.std.specs.Prelude.{◌≡◌, ℕ, ◌≤◌, ◌<◌, ◌^◌, List, length, Option, None, Some, Ok, OnErr, IfOk, IsSome, IsTrue};
+ghost use Rattle.flip_copy.specs.Copied.{size_of};
+ghost use Rattle.flip_copy.specs.Plan.{AreCopiesOf};
+ghost use Rattle.heap_memory.specs.Leaves.{key_moves};
+ghost use Rattle.heap_spaces.specs.Spaces.{flipped, with_copied};
+ghost use Rattle.log_machine.specs.Collecting.{pairs_of};
+ghost use Rattle.log_machine.specs.Translation.{translated_list};
+ghost use Rattle.page_cache.specs.CacheState.{cached};
+ghost use Rattle.relocation.specs.Relocation.{IsRelocation};
+ghost use Rattle.heap_engine.specs.Barrier.{words_of};
+ghost use Rattle.heap_engine.specs.Reserve.{WroteBelow, GoAlongBelow};
+ghost use Rattle.graph_model.specs.Plain.{reply_of};
+ghost use Rattle.graph_model.specs.declared.reply.Reply.TheVariants.{Flipped, Collecting, Scanned, Collected, Idle};
+
+use crate::barrier::{keep_copies, note_scan, take_copies};
+use crate::engine::{Engine, refused};
+use crate::logging::carry_out;
+use flip_copy::{FlipPlan, plan_flip};
+use graph_model::Reply;
+use heap_spaces::{Collection, CopiedObject, Spaces};
+use heap_words::FIELDS_AT;
+use log_machine::UndoEntry;
+use log_records::Record;
+use object_layout::WordSlice;
+use object_locks::Key;
+use page_scanner::next_gray_page;
+use relocation::moved_to;
+use std::alloc::{AllocError, Global};
+use txn_table::SESSIONS;
+
+impl Engine {
+    ghost use Rattle.heap_memory.specs.Refusals.{flip_refusal, scan_refusal};
+    ghost use Rattle.heap_memory.specs.Replies.{flip_reply, scan_reply};
+    ghost use Rattle.heap_memory.specs.Leaves.{IsAsItWas, Flips, Scans};
+    ghost use Rattle.heap_memory.specs.Collecting.{IsNextPage, flip_copies};
+    ghost use Rattle.txn_table.specs.Roots.{AreRoots};
+    ghost use Rattle.heap_engine.specs.EngineState.{memory};
+
+    /// Begins a collection, if none runs: the spaces change their roles, and the root object and all stable objects that transactions name or
+    /// lock are copied into the one that is current from now on. What the transactions keep goes along, and none of them has to wait. It
+    /// takes the time of these objects and of what the transactions keep, whatever the heap's size.
+    pub(crate) fn flip(&mut self) -> Result<Reply, AllocError>
+        ensures reply { IfOk result (λ reply. (roots : List ℕ) × AreRoots self.old.table self.old.locks roots × (reply ≡ reply_of (flip_refusal (memory self.old) roots) (flip_reply (memory self.old) roots))) }
+        ensures flipped { (objects words : ℕ) → result ≡ Ok (Flipped objects words) → (roots : List ℕ) × Flips (memory self.old) (memory self.new) roots }
+        ensures still { result ≡ Ok Collecting → self.new ≡ self.old }
+        ensures refused { (why : _) → result ≡ Ok (Reply.Refused why) → IsAsItWas (memory self.old) (memory self.new) }
+        ensures err { OnErr result (IsAsItWas (memory self.old) (memory self.new)) }
+    {
+        if self.collection.is_some() {
+            return Ok(Reply::Collecting);
+        }
+        let plan = self.plan_roots()?;
+        let used = self.spaces.used();
+        if let Some(why) = self.make_room(log_records::length(plan.record()))? {
+            return Ok(refused(why));
+        }
+        let mut collection = Collection::begin(self.alloc, used);
+        collection.add_copies(plan.moved())?;
+        let moves = moves_of(self.alloc, plan.pairs())?;
+        // The last step that may lack memory.
+        self.locks.rekey(&moves)?;
+        let reply = change_spaces(&mut self.spaces, &plan);
+        self.table.translate(plan.pairs());
+        self.collection = Some(collection);
+        carry_out(&mut self.log, &mut self.cache, &[plan.into_record()]);
+        Ok(reply)
+    }
+
+    /// The copies of a flip. The words are only read.
+    fn plan_roots(&self) -> Result<FlipPlan, AllocError>
+        ensures roots { IfOk result (λ plan. (roots : List ℕ) × AreRoots self.now.table self.now.locks roots × (plan ≡ flip_copies (memory self.now) roots)) }
+        ensures copied { IfOk result (AreCopiesOf self.now.spaces) }
+        ensures along { IfOk result (λ plan. GoAlongBelow (length (cached self.now.cache).words) (pairs_of plan) self.now.table) }
+    {
+        let roots = self.table.roots(&self.locks)?;
+        let mut words = WordSlice::of(self.cache.as_slice());
+        // Words in memory don't fail, and the roots of a heap are objects.
+        let plan = plan_flip(self.alloc, &mut words, &self.spaces, &roots).map_err(|_| AllocError)?;
+        // The fields that its transactions wrote are those of roots.
+        if !self.can_go_along(plan.pairs()) {
+            return Err(AllocError);
+        }
+        Ok(plan)
+    }
+
+    /// Whether all that transactions would take back lies in the words when objects have moved.
+    fn can_go_along(&self, pairs: &[(u32, u32)]) -> bool
+        requires { IsRelocation pairs.now }
+        ensures { IsTrue result → GoAlongBelow (length (cached self.now.cache).words) pairs.now self.now.table }
+    {
+        let words = self.cache.as_slice().len() as u64;
+        for session in 1..=SESSIONS {
+            if self.table.active(session) && !lie_below(words, self.table.undo(session), pairs) {
+                return false;
+            }
+        }
+        true
+    }
+
+    /// Scans the least page in which a gray object starts, if a collection runs. Where no object is gray it ends the collection.
+    pub(crate) fn scan(&mut self) -> Result<Reply, AllocError>
+        ensures reply { IfOk result (λ reply. (next : Option ℕ) × IsNextPage self.old.collection next × (reply ≡ reply_of (scan_refusal (memory self.old) next) (scan_reply (memory self.old) next))) }
+        ensures scanned { (page objects words : ℕ) → result ≡ Ok (Scanned page objects words) → Scans (memory self.old) (memory self.new) (Some page) }
+        ensures collected { (used : ℕ) → result ≡ Ok (Collected used) → Scans (memory self.old) (memory self.new) None }
+        ensures still { result ≡ Ok Idle → self.new ≡ self.old }
+        ensures refused { (why : _) → result ≡ Ok (Reply.Refused why) → IsAsItWas (memory self.old) (memory self.new) }
+        ensures err { OnErr result (IsAsItWas (memory self.old) (memory self.new)) }
+    {
+        match &self.collection {
+            None => Ok(Reply::Idle),
+            Some(collection) => match next_gray_page(collection) {
+                Some(page) => self.scan_page(page),
+                None => self.end_collection(),
+            },
+        }
+    }
+
+    /// Scans a page of the current space.
+    fn scan_page(&mut self, page: u32) -> Result<Reply, AllocError>
+        requires { IsNextPage self.old.collection (Some page) }
+        ensures reply { IfOk result (λ reply. reply ≡ reply_of (scan_refusal (memory self.old) (Some page)) (scan_reply (memory self.old) (Some page))) }
+        ensures scanned { (objects words : ℕ) → result ≡ Ok (Scanned page objects words) → Scans (memory self.old) (memory self.new) (Some page) }
+        ensures refused { (why : _) → result ≡ Ok (Reply.Refused why) → IsAsItWas (memory self.old) (memory self.new) }
+        ensures err { OnErr result (IsAsItWas (memory self.old) (memory self.new)) }
+    {
+        // Gray objects start in the current space.
+        let _end = self.spaces.next_free();
+        let scan = self.plan_page(page)?;
+        if let Some(why) = self.make_room_for(&scan)? {
+            return Ok(refused(why));
+        }
+        keep_copies(&mut self.collection, scan.copies())?;
+        note_scan(&mut self.spaces, &mut self.collection, &scan);
+        let reply = Reply::Scanned {
+            page: u64::from(page),
+            objects: scan.copies().len() as u64,
+            words: words_of(scan.copies()),
+        };
+        carry_out(&mut self.log, &mut self.cache, scan.records());
+        Ok(reply)
+    }
+
+    /// Ends a collection in which no object is gray: the from-space has nothing that is in use.
+    fn end_collection(&mut self) -> Result<Reply, AllocError>
+        requires runs { IsSome self.old.collection }
+        requires none { IsNextPage self.old.collection None }
+        ensures reply { IfOk result (λ reply. reply ≡ reply_of (scan_refusal (memory self.old) None) (scan_reply (memory self.old) None)) }
+        ensures collected { (used : ℕ) → result ≡ Ok (Collected used) → Scans (memory self.old) (memory self.new) None }
+        ensures refused { (why : _) → result ≡ Ok (Reply.Refused why) → IsAsItWas (memory self.old) (memory self.new) }
+        ensures err { OnErr result (IsAsItWas (memory self.old) (memory self.new)) }
+    {
+        let records = [Record::Collected];
+        if let Some(why) = self.make_room(log_records::length(&Record::Collected))? {
+            return Ok(refused(why));
+        }
+        self.spaces.collected();
+        self.collection = None;
+        carry_out(&mut self.log, &mut self.cache, &records);
+        Ok(Reply::Collected {
+            used: u64::from(self.spaces.used()),
+        })
+    }
+}
+
+/// Whether each of these writes is of a field that lies below an address when objects have moved.
+fn lie_below(end: u64, entries: &[UndoEntry], pairs: &[(u32, u32)]) -> bool
+    requires { IsRelocation pairs.now }
+    ensures { IsTrue result → WroteBelow end (translated_list pairs.now entries.now) }
+{
+    for UndoEntry { object, field, .. } in entries {
+        let address = u64::from(moved_to(pairs, *object));
+        if address + u64::from(FIELDS_AT) + u64::from(*field) >= end {
+            return false;
+        }
+    }
+    true
+}
+
+/// The two spaces change their roles, and the words of these copies are taken. It tells how many there are, and of how many words.
+fn change_spaces(spaces: &mut Spaces, plan: &FlipPlan) -> Reply
+    requires { size_of plan.now ≤ spaces.old.used }
+    ensures reply { result ≡ Flipped (length plan.now) (size_of plan.now) }
+    ensures spaces { spaces.new ≡ with_copied (flipped spaces.old) (size_of plan.now) }
+{
+    spaces.flip();
+    take_copies(spaces, plan.moved());
+    Reply::Flipped {
+        objects: plan.moved().len() as u64,
+        words: u64::from(spaces.used()),
+    }
+}
+
+/// How many words these copies have.
+fn words_of(copies: &[CopiedObject]) -> u64
+    requires { words_of copies.now < 2 ^ 32 }
+    ensures { result ≡ words_of copies.now }
+{
+    let mut words = 0;
+    for copy in copies {
+        words += u64::from(copy.words);
+    }
+    words
+}
+
+/// Where each object stood and where it stands now, as locks name it.
+fn moves_of(alloc: Global, pairs: &[(u32, u32)]) -> Result<Vec<(Key, Key)>, AllocError>
+    ensures { IfOk result (λ moves. moves.items ≡ key_moves pairs.now) }
+{
+    let mut moves = Vec::with_capacity(alloc, pairs.len())?;
+    for (from, to) in pairs {
+        moves.push((Key { address: *from }, Key { address: *to }))?;
+    }
+    Ok(moves)
+}
