@@ -1,5 +1,5 @@
 -- One event of a play.
-use Rattle.std.proofs.Common.{◌≡◌, inl, inr, ⊎_elim, ℕ, ◌+◌, Bool, true, false, List, [], ◌∷◌, ◌++◌, Result, Ok, Err, refl, sym, ap, ◌∙◌, subst, arith}
+use Rattle.std.proofs.Common.{◌≡◌, inl, inr, ⊎_elim, ℕ, ◌+◌, Bool, true, false, List, [], ◌∷◌, ◌++◌, Option, None, Some, Result, Ok, Err, refl, sym, ap, ◌∙◌, subst, arith}
 use Rattle.std.specs.Prelude.{IsTrue, if◌then◌else◌}
 use Rattle.counts.specs.Count.{counted}
 use Rattle.disk_model.specs.declared.disk.Disk.{Ghosts}
@@ -7,7 +7,7 @@ use Rattle.disk_model.specs.Keeps.{KeepsDisk}
 use Rattle.disk_model.specs.Moments.{LeavesOnly}
 use Rattle.gate_slot.specs.Passing.{Passes}
 use Rattle.graph_model.specs.declared.event.Event.{Event}
-use Rattle.graph_model.specs.declared.event.Event.TheVariants.{Flush}
+use Rattle.graph_model.specs.declared.event.Event.TheVariants.{Flip, Flush, Scan}
 use Rattle.graph_model.specs.declared.reply.Refusal.TheVariants.{DiskFault, Stopped}
 use Rattle.graph_model.specs.declared.reply.Reply.{Reply}
 use Rattle.graph_model.specs.declared.reply.Reply.TheVariants.{Flushed, Clean, Refused}
@@ -19,7 +19,11 @@ use Rattle.heap_core.specs.declared.heap.Heap.{Heap}
 use Rattle.heap_program.specs.declared.play.Halt.TheVariants as halt
 use Rattle.heap_program.specs.declared.output.WriteError.{WriteError}
 use Rattle.heap_core.specs.Causes.{reply_device}
-use Rattle.heap_model.specs.Core.{Core, next_number, is_dirty, granted_by, answer, with_entry, after, IsCutShort, IsStep, calls}
+use Rattle.log_machine.specs.Machine.{State}
+use Rattle.log_records.specs.declared.Record.{Record}
+use Rattle.heap_spaces.specs.Collection.{Collection}
+use Rattle.heap_model.specs.Collecting.{flip_reply, next_page, scan_reply, scan_reply_in}
+use Rattle.heap_model.specs.Core.{Core, ground, own_records, next_number, is_dirty, granted_by, answer, with_entry, after, IsCutShort, IsStep, calls}
 use Rattle.heap_model.proofs.Run.Calls.{step_history}
 use Rattle.heap_model.proofs.Step.Step.{core_refusal-HasNoFault}
 use Rattle.heap_core.specs.Refinement.{IsLeftByStep, DiskHolds, IsCore, IsHeap}
@@ -41,7 +45,22 @@ flush_sound : (dirty : Bool) (p : ℕ) → IsSoundReply (if dirty then Flushed p
 flush_sound true p = tt
 flush_sound false p = tt
 
+flip_sound : (records : List Record) → IsSoundReply (flip_reply records)
+flip_sound [] = tt
+flip_sound (rec ∷ more) = tt
+
+scan_sound_in : (s : State) (records : List Record) (o : Option Collection) (page : Option ℕ) → IsSoundReply (scan_reply_in s records o page)
+scan_sound_in s records None page = tt
+scan_sound_in s records (Some k) None = tt
+scan_sound_in s records (Some k) (Some page) = tt
+
+scan_sound : (o : Option State) (records : List Record) → IsSoundReply (scan_reply o records)
+scan_sound None records = tt
+scan_sound (Some s) records = scan_sound_in s records s.collection (next_page s.collection)
+
 granted_by_sound : (c : Core) (event : Event) → IsSoundReply (granted_by c event)
+granted_by_sound c Flip = flip_sound (own_records c Flip)
+granted_by_sound c Scan = scan_sound (ground c).state (own_records c Scan)
 granted_by_sound c (Flush p) = flush_sound (is_dirty c p) p
 granted_by_sound c event = granted_sound (next_number c) c.g0 (account c.history) event
 

@@ -7,7 +7,7 @@ use Rattle.disk_model.specs.Moments.{LeavesOnly}
 use Rattle.disk_model.proofs.MomentLaws.{begins, joined, weaker}
 use Rattle.graph_model.specs.declared.event.Event.{Event}
 use Rattle.gated_log.specs.Log.{records_of}
-use Rattle.graph_model.specs.declared.event.Event.TheVariants.{Seal, Force, Flush}
+use Rattle.graph_model.specs.declared.event.Event.TheVariants.{Seal, Flip, Scan, Force, Flush}
 use Rattle.graph_model.specs.declared.reply.Entry.{Entry}
 use Rattle.graph_model.specs.declared.reply.Refusal.{Refusal}
 use Rattle.graph_model.specs.declared.reply.Refusal.TheVariants.{DiskFault, Stopped}
@@ -19,8 +19,9 @@ use Rattle.log_machine.specs.Machine as machine
 use Rattle.log_machine.specs.Origin.{commits_in}
 use Rattle.log_machine.proofs.MachineLaws.{commits-append}
 use Rattle.log_machine.proofs.StateLaws.{commits-start}
-use Rattle.heap_model.specs.Core.{Core, commits_on_disk, core_refusal, is_dirty, is_ahead, forced, forced_if, page_stored, after_refusal, IsStep, IsRun}
+use Rattle.heap_model.specs.Core.{Core, barrier_records, moved, own_records, commits_on_disk, core_refusal, is_dirty, is_ahead, forced, forced_if, page_stored, after_refusal, IsStep, IsRun}
 use Rattle.heap_model.specs.Core as model
+use Rattle.log_records.specs.declared.Record.{Record}
 use Rattle.heap_model.proofs.Step.Room.{forced-with_batch, records_of-with_batch}
 use Rattle.heap_model.specs.CoreCrash.{IsCommitPrefix, HasAtLeast}
 use Rattle.core_laws.proofs.Crash.Grow.{has_at_least_on}
@@ -84,15 +85,21 @@ forced_commits c =
     ap on_disk (forced-with_batch c) ∙ ap machine.commits (records_of-with_batch c.batches c.pending) ∙ commits-append (records_of c.batches) c.pending in
     omega (arith, all)
 
+moved_commits : (c : Core) (records : List Record) → on_disk c ≤ on_disk (moved c records)
+moved_commits c [] = omega arith
+moved_commits c (rec ∷ more) = omega arith
+
 done_commits : (c : Core) (event : Event) → on_disk c ≤ on_disk (model.done c event)
 done_commits c Force = forced_commits c
+done_commits c Flip = moved_commits c (own_records c Flip)
+done_commits c Scan = moved_commits c (own_records c Scan)
 done_commits c (Flush p) = flushed_commits (is_dirty c p) (is_ahead c p)
   where
     flushed_commits : (dirty ahead : Bool) → on_disk c ≤ on_disk (if dirty then page_stored (forced_if ahead c) p else c)
     flushed_commits true true = forced_commits c
     flushed_commits true false = omega arith
     flushed_commits false ahead = omega arith
-done_commits c event = omega arith
+done_commits c event = moved_commits c (barrier_records c event)
 
 refusal_commits : (o : Option Refusal) (c : Core) (event : Event) → on_disk c ≤ on_disk (after_refusal o c event)
 refusal_commits None c event = done_commits c event

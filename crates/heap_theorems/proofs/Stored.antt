@@ -3,17 +3,16 @@ use Rattle.std.proofs.Common.{ℕ, List}
 use Rattle.image_plan.specs.declared.superblock.Super.{Super}
 use Rattle.log_records.specs.declared.Record.{Record}
 use Rattle.page_redo.specs.Pages.{Pages}
-use Rattle.heap_model.specs.Image.{words_of, IsShaped, IsLegal}
-use Rattle.heap_model.proofs.Opening.Opened.{saying_law}
+use Rattle.heap_model.specs.Image.{IsShaped, IsLegal}
+use Rattle.heap_model.proofs.Opening.Opened.{legal_shows, saying_law}
 use Rattle.heap_recovery.specs.Faults.{IsNoHeap}
 use Rattle.heap_program.specs.Stored.{IsStored}
-use Rattle.object_layout.proofs.WalkedLaws.{walked_seen}
 
 -- each legal image is stored
 pub legal_stored : (s : Super) (batches : List (List Record)) (stored : Pages) (image : List ℕ) → IsLegal s batches stored image → IsStored image
 legal_stored s batches stored image legal =
     let log = legal.log in
-    let seen = walked_seen (words_of s batches stored) log.shaped.state.base log.shaped.state.used log.shaped.walked log.own_births in
+    let seen = legal_shows s batches stored log in
     let found = saying_law s batches stored log seen.0 seen.1 in
     record { super = s; batches = batches; pages = stored; legal = legal; places = found.0; graph = found.1; found = found.2 }
 

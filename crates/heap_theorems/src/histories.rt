@@ -1,9 +1,12 @@
 //! Histories of sessions side by side, and the core that their events lead to.
 ghost use Rattle.std.specs.Prelude.{Some, ◌≡◌, None, ℕ, ◌<◌, ◌≤◌, List, length, ◌*◌};
 ghost use Rattle.commit_order.specs.SerialOrder.{SerialOrderTheorem, StrictTheorem};
+ghost use Rattle.core_laws.specs.Collects.{ScanTheorem, HoldsTheorem};
 ghost use Rattle.core_laws.specs.Conflicts.{GivesWay, IsHindered};
 ghost use Rattle.core_laws.specs.Ended.{AreGranted, IsUnfailed, HasEnded};
+ghost use Rattle.core_laws.specs.Pause.{PauseTheorem};
 ghost use Rattle.core_laws.specs.Theorems.{StepsTheorem, AnswersTheorem, RepliesTheorem, CrashTheorem, OpeningTheorem, AgainTheorem};
+ghost use Rattle.core_laws.specs.Unseen.{UnseenTheorem};
 ghost use Rattle.core_laws.specs.Valid.{IsReached, IsValid};
 ghost use Rattle.graph_model.specs.Graph.{Graph};
 ghost use Rattle.graph_model.specs.History.{account, AreInSessions, Account};
@@ -32,9 +35,31 @@ pub fn steps()
     ensures { StepsTheorem }
 {}
 
-/// A core answers each event but a flush as the plain heap does, where neither the spaces nor the log lack room.
+/// A core answers each event but a flip, a scan and a flush as the plain heap does, where neither the spaces nor the log lack room.
 pub fn answers()
     ensures { AnswersTheorem }
+{}
+
+/// Transactions do not see collections: without the flips and scans among them, on a heap large enough, all other events but flushes are answered
+/// the same, and the same transactions are committed, where these lacked no room and the disk did not fail. It speaks of replies and commits; which
+/// graph an image stands for then is told by those.
+pub fn collections_are_not_seen()
+    ensures { UnseenTheorem }
+{}
+
+/// An event but a flip copies at most 576 objects, the scan that comes before it with it.
+pub fn pauses_are_short()
+    ensures { PauseTheorem }
+{}
+
+/// The next page of a collection can be scanned, and nothing that starts in it is gray then.
+pub fn scans_do_something()
+    ensures { ScanTheorem }
+{}
+
+/// A transaction never holds what remains in the from-space: each of its handles holds a current object, or one that it made.
+pub fn handles_hold_current_objects()
+    ensures { HoldsTheorem }
 {}
 
 /// What the plain heap refuses a core refuses for the same reason.

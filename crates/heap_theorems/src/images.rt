@@ -7,14 +7,14 @@ ghost use Rattle.graph_words.specs.Places.{Places};
 ghost use Rattle.heap_model.specs.Core.{Core};
 ghost use Rattle.heap_model.specs.CoreCrash.{StandsForFirst};
 ghost use Rattle.heap_model.specs.Image.{IsLegal, IsShaped, IsShapedLog, StandsFor};
-ghost use Rattle.heap_model.specs.Opening.{IsFound, IsLeftByOpening};
+ghost use Rattle.heap_model.specs.Opening.{IsFound, IsLeftByOpening, rolled_back, state_of};
 ghost use Rattle.heap_program.specs.Stored.{IsStored};
 ghost use Rattle.heap_model.specs.Theorems.{SayingTheorem, OneMeaningTheorem};
 ghost use Rattle.heap_recovery.specs.Faults.{IsFaultAt, IsNoHeap};
 ghost use Rattle.heap_recovery.specs.declared.at.At.{At};
 ghost use Rattle.image_plan.specs.Super.{IsSuper, superblock};
 ghost use Rattle.image_plan.specs.declared.superblock.Super.{Super};
-ghost use Rattle.log_machine.specs.Machine.{State, commits};
+ghost use Rattle.log_machine.specs.Machine.{State, commits, spaces_of};
 ghost use Rattle.log_machine.specs.Origin.{Origin, state_from, words_from, commits_in};
 ghost use Rattle.log_records.specs.Record.{IsRecord, spellings};
 ghost use Rattle.log_records.specs.declared.Record.{Record};
@@ -111,4 +111,10 @@ pub fn openings_keep_the_meaning()
 /// What an opening leaves, at any moment of it, stands for the same commit prefix as the image that it opened.
 pub fn rolled_back_images_mean_the_same()
     ensures { (c : Core) (k : ℕ) (image : List ℕ) (first : StandsForFirst c k image) (new : List ℕ) → IsLeftByOpening first.stands.super first.stands.batches first.stands.stored new → StandsForFirst c k new }
+{}
+
+/// An opening leaves a collection where it was: what the log says once its transactions are rolled back has the same spaces, and the same objects
+/// copied and gray.
+pub fn openings_leave_collections()
+    ensures { (s : Super) (batches : List (List Record)) (stored : Pages) (shaped : IsShapedLog s batches stored) (n : State) → state_of s (rolled_back s batches) ≡ Some n → (spaces_of n ≡ spaces_of shaped.state) × (n.collection ≡ shaped.state.collection) }
 {}

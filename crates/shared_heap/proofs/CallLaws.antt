@@ -3,7 +3,7 @@ use Rattle.std.proofs.Common.{◌≡◌, ℕ, List, [], ◌∷◌, ◌++◌, len
 use Rattle.std.specs.Prelude.{MatchResult}
 use Rattle.std.specs.declared.alloc.AllocError.{AllocError}
 use Rattle.graph_model.specs.declared.event.Event.{Event}
-use Rattle.graph_model.specs.declared.event.Event.TheVariants.{Force, Flush}
+use Rattle.graph_model.specs.declared.event.Event.TheVariants.{Force, Flip, Scan, Flush}
 use Rattle.graph_model.specs.declared.reply.Entry.{Entry}
 use Rattle.graph_model.specs.declared.reply.Reply.{Reply}
 use Rattle.graph_model.specs.History.{IsSession, IsOfSession}
@@ -15,6 +15,8 @@ use Rattle.turn_lock.proofs.TurnLaws.{begins_more, added_one, added_none, rise_a
 -- what a pass may send is of a session, or of none
 pub sent_of_session : (label : ℕ) (event : Event) → MaySend label event → IsOfSession event
 sent_of_session label Force may = tt
+sent_of_session label Flip may = tt
+sent_of_session label Scan may = tt
 sent_of_session label (Flush p) may = tt
 sent_of_session label event may = subst IsSession (sym may.1) may.0
 

@@ -2,7 +2,7 @@
 use Rattle.std.specs.Prelude.{◌≡◌, ℕ, List, ◌++◌}
 use Rattle.disk_model.specs.declared.disk.Disk.{Ghosts}
 use Rattle.graph_model.specs.declared.event.Event.{Event}
-use Rattle.graph_model.specs.declared.event.Event.TheVariants.{Force, Flush}
+use Rattle.graph_model.specs.declared.event.Event.TheVariants.{Force, Flip, Scan, Flush}
 use Rattle.graph_model.specs.declared.reply.Entry.{Entry}
 use Rattle.graph_model.specs.History.{IsSession, session_of}
 use Rattle.heap_core.specs.declared.heap.Heap.{Heap}
@@ -17,9 +17,11 @@ use Rattle.turn_lock.specs.declared.pass.Pass.{Pass}
 use Rattle.turn_lock.specs.Merging.{Rise}
 use Rattle.turn_lock.specs.Passes as turns
 
--- Which events a pass with this label sends: those of the session of that number, and each a force; with label 0 also flushes.
+-- Which events a pass with this label sends: those of the session of that number, and each a force; with label 0 also flips, scans and flushes.
 abbrev pub MaySend : ℕ → Event → Type 0
 MaySend label Force = Unit {0}
+MaySend label Flip = label ≡ 0
+MaySend label Scan = label ≡ 0
 MaySend label (Flush p) = label ≡ 0
 MaySend label event = IsSession label × (session_of event ≡ label)
 
