@@ -52,7 +52,7 @@ fn new_heap(rt: &impl Abort, alloc: Global, plan: Plan) -> Result<Opened, Fail> 
     assert!(rt; cache.first_past(log.records()).is_none());
     let spaces = Spaces::new(1, 0, 6, 0);
     let table = TxnTable::new(alloc, 1)?;
-    let engine = Engine::new(alloc, log, cache, spaces, table);
+    let engine = Engine::new(alloc, log, cache, spaces, None, table);
     Ok(Opened {
         engine,
         disk,

@@ -10,7 +10,7 @@ use std::test::Fail;
 const EACH_FORM: &str =
     "1 begin\n2 root 0\n32 new 1  18446744073709551615\n\n31   put 64 4 4611686018427387904\n030 clear 0 3\n4 link 0 3 01\n5 drop 63\n\
     6 get 0 18446744073709551615 64\n7 same 0 00000000000000000001\n8 len 0\n00000000000000000009 seal\n\n10 abort\n11 commit\nforce\n\
-    flush 0\nflush  18446744073709551615";
+    flush 0\nflush  18446744073709551615\nflip\nscan\n";
 
 #[test]
 fn each_form_of_a_line_is_read(rt: HostRuntime) -> Result<(), Fail> {
@@ -51,6 +51,8 @@ fn each_form_of_a_line_is_read(rt: HostRuntime) -> Result<(), Fail> {
         Line::One(Event::Force),
         Line::One(Event::Flush { p: 0 }),
         Line::One(Event::Flush { p: most }),
+        Line::One(Event::Flip),
+        Line::One(Event::Scan),
     ];
     let found = read_script(rt.alloc(), EACH_FORM.as_bytes());
     assert!(rt; found.is_ok_and(|lines| lines.as_slice() == want.as_slice()));
@@ -178,7 +180,7 @@ fn a_long_script_is_a_fault_at_line_0(rt: HostRuntime) -> Result<(), Fail> {
 }
 
 /// An event with its reply, and the line that is printed.
-const PRINTED: [(Entry, &str); 5] = [
+const PRINTED: [(Entry, &str); 10] = [
     (
         Entry {
             event: Event::Put {
@@ -199,6 +201,48 @@ const PRINTED: [(Entry, &str); 5] = [
             reply: Reply::Durable { n: 2 },
         },
         "force -> durable 2\n",
+    ),
+    (
+        Entry {
+            event: Event::Flip,
+            reply: Reply::Flipped {
+                objects: 2,
+                words: 9,
+            },
+        },
+        "flip -> flipped 2 9\n",
+    ),
+    (
+        Entry {
+            event: Event::Flip,
+            reply: Reply::Collecting,
+        },
+        "flip -> collecting\n",
+    ),
+    (
+        Entry {
+            event: Event::Scan,
+            reply: Reply::Scanned {
+                page: 2,
+                objects: 3,
+                words: 67,
+            },
+        },
+        "scan -> scanned 2 3 67\n",
+    ),
+    (
+        Entry {
+            event: Event::Scan,
+            reply: Reply::Collected { used: 73 },
+        },
+        "scan -> collected 73\n",
+    ),
+    (
+        Entry {
+            event: Event::Scan,
+            reply: Reply::Idle,
+        },
+        "scan -> idle\n",
     ),
     (
         Entry {

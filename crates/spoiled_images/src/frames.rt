@@ -1,6 +1,6 @@
 //! The pages that lie behind the log, each as the frame that counts has it.
 use crate::bytes::Cursor;
-use crate::records::{Record, field_address};
+use crate::records::{Copied, Record, field_address, forwarding};
 use std::alloc::{AllocError, Global};
 
 /// The words of a page.
@@ -102,9 +102,9 @@ impl Pages {
         self.lsns.iter().position(|lsn| *lsn > records)
     }
 
-    /// The words before an address.
-    pub fn before(&self, end: u64) -> &[u64] {
-        self.words.get(..end as usize).unwrap_or(&[])
+    /// The words of all pages, by address.
+    pub fn words(&self) -> &[u64] {
+        &self.words
     }
 
     /// Puts each record, numbered from 1, on the pages that lack it.
@@ -137,8 +137,24 @@ impl Pages {
                 ..
             } => self.redo_word(number, field_address(*object, *field), *word),
             Record::Base { address, words, .. } => self.redo_object(number, *address, words),
-            Record::Commit { .. } | Record::End { .. } | Record::OfCollection => {}
+            Record::Copy(copy) => self.redo_copy(number, copy),
+            Record::Flip { copies } => {
+                for copy in copies {
+                    self.redo_copy(number, copy);
+                }
+            }
+            Record::Scan { writes, .. } => {
+                for (address, word) in writes {
+                    self.redo_word(number, u64::from(*address), *word);
+                }
+            }
+            Record::Commit { .. } | Record::End { .. } | Record::Collected => {}
         }
+    }
+
+    fn redo_copy(&mut self, number: u64, copy: &Copied) {
+        self.redo_object(number, copy.to, &copy.words);
+        self.redo_word(number, u64::from(copy.from), forwarding(copy.to));
     }
 
     fn redo_object(&mut self, number: u64, address: u32, words: &[u64]) {

@@ -12,9 +12,13 @@ mod walk;
 pub use reader::{Verdict, read};
 
 #[cfg(test)]
+mod collecting_tests;
+#[cfg(test)]
 mod collection_tests;
 #[cfg(test)]
 mod frame_tests;
+#[cfg(test)]
+mod hostile_tests;
 #[cfg(test)]
 mod images;
 #[cfg(test)]

@@ -86,7 +86,7 @@ pub fn read(alloc: Global, image: &[u8]) -> Result<Verdict, AllocError> {
     }
     pages.redo_all(&records);
     state.roll_back(&losers, &mut pages);
-    Ok(match walk_fault(alloc, pages.before(state.end()))? {
+    Ok(match walk_fault(alloc, pages.words(), &state)? {
         Some(address) => Verdict::Address(narrow(address)),
         None => Verdict::Heap,
     })

@@ -47,8 +47,23 @@ pub enum Record {
     End {
         t: u32,
     },
-    /// A record of a collection. Its contents are not kept, since none may follow yet.
-    OfCollection,
+    Copy(Copied),
+    Scan {
+        page: u32,
+        writes: Vec<(u32, u64)>,
+    },
+    Flip {
+        copies: Vec<Copied>,
+    },
+    Collected,
+}
+
+/// An object that is copied: its words, where they stood and where they go.
+#[derive(Debug, Drop)]
+pub struct Copied {
+    pub from: u32,
+    pub to: u32,
+    pub words: Vec<u64>,
 }
 
 /// The word address of an object's field.
@@ -64,6 +79,20 @@ pub fn is_reference(word: u64) -> bool {
 /// Whether it is a reference to an object of a transaction's own area.
 pub fn is_area_reference(word: u64) -> bool {
     word % 4 == 3 && word / 4 < AREA_WORDS
+}
+
+/// The word that stands where an object was copied from: it leads to where that is now.
+pub fn forwarding(to: u32) -> u64 {
+    4 * u64::from(to) + 2
+}
+
+/// Where a word leads that is a reference to a word address.
+pub fn target(word: u64) -> Option<u64> {
+    if is_reference(word) {
+        Some(word / 4)
+    } else {
+        None
+    }
 }
 
 /// Whether it is null or a number.
@@ -85,7 +114,10 @@ pub fn read_record(alloc: Global, bytes: &[u8]) -> Result<Option<(Record, usize)
     let mut cursor = Cursor::new(bytes);
     let record = match cursor.take_u8() {
         Some(2) => take_base(alloc, &mut cursor)?,
-        Some(kind @ 7..=10) => pass_collection(kind, &mut cursor).map(|()| Record::OfCollection),
+        Some(7) => take_copy(alloc, &mut cursor)?.map(Record::Copy),
+        Some(8) => take_scan(alloc, &mut cursor)?,
+        Some(9) => take_flip(alloc, &mut cursor)?,
+        Some(10) => Some(Record::Collected),
         Some(kind) => take_small(kind, &mut cursor),
         None => None,
     };
@@ -93,7 +125,7 @@ pub fn read_record(alloc: Global, bytes: &[u8]) -> Result<Option<(Record, usize)
     Ok(record.map(|record| (record, size)))
 }
 
-/// The fields of a record of this kind, other than a `Base`.
+/// The fields of a record of this kind, which has no object.
 fn take_small(kind: u8, cursor: &mut Cursor<'_>) -> Option<Record> {
     let t = cursor.take_u32()?;
     match kind {
@@ -131,34 +163,36 @@ fn take_field_word(cursor: &mut Cursor<'_>) -> Option<u64> {
     }
 }
 
-/// A `Base` as far as its object's fields.
+/// An object behind two numbers, as far as its fields.
 #[derive(Drop)]
-struct BaseFront {
-    t: u32,
-    address: u32,
+struct Front {
+    first: u32,
+    second: u32,
     header: u64,
     birth: u64,
     fields: u64,
 }
 
-fn take_base_front(cursor: &mut Cursor<'_>) -> Option<BaseFront> {
-    let t = cursor.take_u32()?;
-    let address = cursor.take_u32()?;
+fn take_front(cursor: &mut Cursor<'_>) -> Option<Front> {
+    let first = cursor.take_u32()?;
+    let second = cursor.take_u32()?;
     let header = cursor.take_u64()?;
     let birth = cursor.take_u64()?;
     let fields = fields_of(header)?;
-    Some(BaseFront {
-        t,
-        address,
+    Some(Front {
+        first,
+        second,
         header,
         birth,
         fields,
     })
 }
 
-/// The fields of a `Base`.
-fn take_base(alloc: Global, cursor: &mut Cursor<'_>) -> Result<Option<Record>, AllocError> {
-    let Some(front) = take_base_front(cursor) else {
+/// Two numbers and the words of an object.
+type Numbered = (u32, u32, Vec<u64>);
+
+fn take_object(alloc: Global, cursor: &mut Cursor<'_>) -> Result<Option<Numbered>, AllocError> {
+    let Some(front) = take_front(cursor) else {
         return Ok(None);
     };
     let mut words = vec![in alloc; front.header, front.birth]?;
@@ -168,46 +202,57 @@ fn take_base(alloc: Global, cursor: &mut Cursor<'_>) -> Result<Option<Record>, A
         };
         words.push(word)?;
     }
-    Ok(Some(Record::Base {
-        t: front.t,
-        address: front.address,
-        words,
-    }))
+    Ok(Some((front.first, front.second, words)))
 }
 
-/// The fields of a record of a collection.
-fn pass_collection(kind: u8, cursor: &mut Cursor<'_>) -> Option<()> {
-    match kind {
-        7 => pass_copy(cursor),
-        8 => pass_scan(cursor),
-        9 => pass_flip(cursor),
-        _ => Some(()),
-    }
+fn take_base(alloc: Global, cursor: &mut Cursor<'_>) -> Result<Option<Record>, AllocError> {
+    let object = take_object(alloc, cursor)?;
+    Ok(object.map(|(t, address, words)| Record::Base { t, address, words }))
 }
 
-/// Two addresses and the words of an object, which are laid out like the fields of a `Base`.
-fn pass_copy(cursor: &mut Cursor<'_>) -> Option<()> {
-    let front = take_base_front(cursor)?;
-    for _field in 0..front.fields {
-        let _word = take_field_word(cursor)?;
-    }
-    Some(())
+fn take_copy(alloc: Global, cursor: &mut Cursor<'_>) -> Result<Option<Copied>, AllocError> {
+    let object = take_object(alloc, cursor)?;
+    Ok(object.map(|(from, to, words)| Copied { from, to, words }))
 }
 
-fn pass_scan(cursor: &mut Cursor<'_>) -> Option<()> {
-    let _page = cursor.take_u32()?;
+/// The address and the word of a write.
+fn take_write(cursor: &mut Cursor<'_>) -> Option<(u32, u64)> {
+    let address = cursor.take_u32()?;
+    let word = take_field_word(cursor)?;
+    Some((address, word))
+}
+
+/// A page, and how many writes follow.
+fn take_page(cursor: &mut Cursor<'_>) -> Option<(u32, u16)> {
+    let page = cursor.take_u32()?;
     let count = cursor.take_u16()?;
-    for _write in 0..count {
-        let _address = cursor.take_u32()?;
-        let _word = take_field_word(cursor)?;
-    }
-    Some(())
+    Some((page, count))
 }
 
-fn pass_flip(cursor: &mut Cursor<'_>) -> Option<()> {
-    let count = cursor.take_u32()?;
-    for _copy in 0..count {
-        pass_copy(cursor)?;
+fn take_scan(alloc: Global, cursor: &mut Cursor<'_>) -> Result<Option<Record>, AllocError> {
+    let Some((page, count)) = take_page(cursor) else {
+        return Ok(None);
+    };
+    let mut writes = Vec::new(alloc);
+    for _write in 0..count {
+        let Some(write) = take_write(cursor) else {
+            return Ok(None);
+        };
+        writes.push(write)?;
     }
-    Some(())
+    Ok(Some(Record::Scan { page, writes }))
+}
+
+fn take_flip(alloc: Global, cursor: &mut Cursor<'_>) -> Result<Option<Record>, AllocError> {
+    let Some(count) = cursor.take_u32() else {
+        return Ok(None);
+    };
+    let mut copies = Vec::new(alloc);
+    for _copy in 0..count {
+        let Some(copy) = take_copy(alloc, cursor)? else {
+            return Ok(None);
+        };
+        copies.push(copy)?;
+    }
+    Ok(Some(Record::Flip { copies }))
 }

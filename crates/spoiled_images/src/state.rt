@@ -1,6 +1,8 @@
-//! What records leave: where the used words end, and what is to be taken back of transactions that have not ended.
+//! What records leave: which words are used, which collection runs, and what is to be taken back of transactions that have not ended.
 use crate::frames::{PAGE_WORDS, Pages};
-use crate::records::{Record, field_address, is_area_reference, is_reference};
+use crate::records::{
+    Copied, Record, field_address, forwarding, is_area_reference, is_reference, target,
+};
 use std::alloc::{AllocError, Global};
 
 /// The words of the root, which stands alone at first.
@@ -15,11 +17,56 @@ struct UndoEntry {
     before: u64,
 }
 
+/// The copy of the object that stood there.
+fn copy_of(copies: &[Copied], from: u64) -> Option<&Copied> {
+    copies.iter().find(|copy| u64::from(copy.from) == from)
+}
+
+impl UndoEntry {
+    /// Lets the entry go along with these copies, if its object is one of them, with that field, and so is what the old word leads to.
+    fn go_along(&mut self, copies: &[Copied]) -> bool {
+        let Some(copy) = copy_of(copies, u64::from(self.object)) else {
+            return false;
+        };
+        if usize::from(self.field) + 2 >= copy.words.len() {
+            return false;
+        }
+        self.object = copy.to;
+        let Some(to) = target(self.before) else {
+            return true;
+        };
+        let Some(copy) = copy_of(copies, to) else {
+            return false;
+        };
+        self.before = forwarding(copy.to);
+        true
+    }
+}
+
+/// A collection that runs.
+#[derive(Debug, Drop)]
+pub struct Collection {
+    /// The first word of the from-space.
+    pub first: u64,
+    /// How many words its objects take.
+    pub used: u64,
+    /// How many of them were copied.
+    pub copied: u64,
+    /// Where the objects stood that were copied.
+    pub moved: Vec<u32>,
+    /// Where the objects stand that may lead to the from-space.
+    pub gray: Vec<u32>,
+}
+
 /// The state after some records.
 #[derive(Debug, Drop)]
 pub struct State {
-    /// The address where the next object is to stand: the words before it are used.
+    alloc: Global,
+    /// The first word of the current space.
+    base: u64,
+    /// The address where the next object is to stand: the words of the current space before it are used.
     end: u64,
+    collection: Option<Collection>,
     /// The undo entries of all transactions, in the order of their writes.
     undo: Vec<UndoEntry>,
     pages: u32,
@@ -39,15 +86,40 @@ impl State {
     /// The state before the first record: the root stands alone.
     pub fn new(alloc: Global, pages: u32) -> State {
         State {
+            alloc,
+            base: 0,
             end: ROOT_WORDS,
+            collection: None,
             undo: Vec::new(alloc),
             pages,
         }
     }
 
-    /// The address where the used words end.
+    /// The first word of the current space.
+    pub fn base(&self) -> u64 {
+        self.base
+    }
+
+    /// The address where its used words end.
     pub fn end(&self) -> u64 {
         self.end
+    }
+
+    /// The collection that runs, if one does.
+    pub fn collection(&self) -> Option<&Collection> {
+        self.collection.as_ref()
+    }
+
+    /// How many words a space has.
+    fn space(&self) -> u64 {
+        u64::from(self.pages) * PAGE_WORDS as u64
+    }
+
+    /// How many words of the current space are not used.
+    fn free(&self) -> u64 {
+        self.base
+            .saturating_add(self.space())
+            .saturating_sub(self.end)
     }
 
     /// Makes what the record does, if it may follow, and says whether it may.
@@ -65,7 +137,7 @@ impl State {
                 field: *field,
                 before: *was,
             }),
-            Record::Base { t, address, words } => Ok(self.base(*t, *address, words)),
+            Record::Base { t, address, words } => Ok(self.promote(*t, *address, words)),
             Record::Fix {
                 t,
                 object,
@@ -87,13 +159,16 @@ impl State {
             Record::End { t } => {
                 Ok(is_number(*t) && !self.undo.iter().any(|entry| entry.t == *t))
             }
-            Record::OfCollection => Ok(false),
+            Record::Copy(copy) => self.copy(copy),
+            Record::Scan { page, writes } => Ok(self.scan(*page, writes)),
+            Record::Flip { copies } => self.flip(copies),
+            Record::Collected => Ok(self.collected()),
         }
     }
 
     /// Whether the field is one of the used words.
     fn has_field(&self, object: u32, field: u16) -> bool {
-        field_address(object, field) < self.end
+        u64::from(object) >= self.base && field_address(object, field) < self.end
     }
 
     fn update(&mut self, entry: UndoEntry) -> Result<bool, AllocError> {
@@ -104,9 +179,13 @@ impl State {
         Ok(true)
     }
 
-    fn base(&mut self, t: u32, address: u32, object: &[u64]) -> bool {
+    fn promote(&mut self, t: u32, address: u32, object: &[u64]) -> bool {
         let at_end = u64::from(address) == self.end;
-        let room = (u64::from(self.pages) * PAGE_WORDS as u64).saturating_sub(self.end);
+        let owed = match &self.collection {
+            Some(k) => k.used.saturating_sub(k.copied),
+            None => 0,
+        };
+        let room = self.free().saturating_sub(owed);
         let own = object.get(1).is_some_and(|birth| is_birth(*birth, t));
         let fixed = !object.iter().skip(2).any(|word| is_area_reference(*word));
         if !is_number(t) || !at_end || room < object.len() as u64 || !own || !fixed {
@@ -114,6 +193,73 @@ impl State {
         }
         self.end = self.end.saturating_add(object.len() as u64);
         true
+    }
+
+    fn copy(&mut self, copy: &Copied) -> Result<bool, AllocError> {
+        let (end, free) = (self.end, self.free());
+        let Some(k) = &mut self.collection else {
+            return Ok(false);
+        };
+        let from = u64::from(copy.from);
+        let size = copy.words.len() as u64;
+        let inside = k.first <= from && from.saturating_add(size) <= k.first.saturating_add(k.used);
+        let left = k.copied.saturating_add(size) <= k.used && !k.moved.contains(&copy.from);
+        if !inside || !left || u64::from(copy.to) != end || size > free {
+            return Ok(false);
+        }
+        k.copied = k.copied.saturating_add(size);
+        k.moved.push(copy.from)?;
+        k.gray.push(copy.to)?;
+        self.end = self.end.saturating_add(size);
+        Ok(true)
+    }
+
+    /// Where it makes a part of what the record does and then finds that it may not follow, nothing is asked of the state any more.
+    fn flip(&mut self, copies: &[Copied]) -> Result<bool, AllocError> {
+        let begins = copies
+            .first()
+            .is_some_and(|copy| u64::from(copy.from) == self.base);
+        if self.collection.is_some() || !begins {
+            return Ok(false);
+        }
+        let used = self.end.saturating_sub(self.base);
+        let first = self.base;
+        self.base = self.space().saturating_sub(first);
+        self.end = self.base;
+        self.collection = Some(Collection {
+            first,
+            used,
+            copied: 0,
+            moved: Vec::new(self.alloc),
+            gray: Vec::new(self.alloc),
+        });
+        for copy in copies {
+            if !self.copy(copy)? {
+                return Ok(false);
+            }
+        }
+        Ok(self.undo.iter_mut().all(|entry| entry.go_along(copies)))
+    }
+
+    fn scan(&mut self, page: u32, writes: &[(u32, u64)]) -> bool {
+        let first = u64::from(page) * PAGE_WORDS as u64;
+        let current = self.base <= first && first < self.base.saturating_add(self.space());
+        let (base, end) = (self.base, self.end);
+        let is_used = |at: u64| base <= at && at < end;
+        let leads = writes.iter().all(|write| {
+            is_used(u64::from(write.0)) && target(write.1).is_some_and(|to| is_used(to))
+        });
+        let Some(k) = &mut self.collection else {
+            return false;
+        };
+        k.gray.retain(|at| at / PAGE_WORDS as u32 != page);
+        current && leads
+    }
+
+    fn collected(&mut self) -> bool {
+        let done = self.collection.as_ref().is_some_and(|k| k.gray.is_empty());
+        self.collection = None;
+        done
     }
 
     fn take_back(&mut self, entry: UndoEntry) -> bool {

@@ -82,9 +82,9 @@ fn same<T: PartialEq + Debug + Copy>(rt: &impl Abort, found: T, want: T) {
 }
 
 /// Takes the record if it can follow.
-fn take(rt: &impl Abort, state: &mut LogState, record: &Record) -> bool {
+fn take(rt: &impl Abort, alloc: Global, state: &mut LogState, record: &Record) -> bool {
     assert!(rt; state.commits() < 99 && state.reserve() < 999);
-    state.after(record).is_ok()
+    state.after(alloc, record).is_ok()
 }
 
 fn behind(state: &LogState) -> Behind {
@@ -108,7 +108,7 @@ fn check_losers(rt: &impl Abort, state: &LogState) -> Result<(), Fail> {
 fn record_by_record(rt: HostRuntime) -> Result<(), Fail> {
     let mut state = LogState::start(rt.alloc(), 1, 1);
     for (record, follows, want) in &steps() {
-        let takes = take(&rt, &mut state, record);
+        let takes = take(&rt, rt.alloc(), &mut state, record);
         same(&rt, (takes, behind(&state)), (*follows, *want));
     }
     check_losers(&rt, &state)
@@ -204,7 +204,7 @@ fn promote(
     let record = base(alloc, address, birth(made_in, made_as), fields, word)?;
     same(
         rt,
-        (take(rt, state, &record), state.used()),
+        (take(rt, alloc, state, &record), state.used()),
         (follows, used),
     );
     Ok(())
@@ -228,10 +228,10 @@ fn promoted(alloc: Global) -> Result<Vec<Record>, AllocError> {
     Ok(records)
 }
 
-fn check_fixes(rt: &impl Abort, mut state: LogState) {
+fn check_fixes(rt: &impl Abort, alloc: Global, mut state: LogState) {
     for (object, field, word, follows) in &FIXES {
         let (object, field, word, follows) = (*object, *field, *word, *follows);
-        let taken = take(rt, &mut state, &fix(object, field, word));
+        let taken = take(rt, alloc, &mut state, &fix(object, field, word));
         same(
             rt,
             (object, field, word, taken),
@@ -243,7 +243,7 @@ fn check_fixes(rt: &impl Abort, mut state: LogState) {
 #[test]
 fn fields_refer_to_stable_objects(rt: HostRuntime) -> Result<(), Fail> {
     let state = replayed(&rt, rt.alloc(), &promoted(rt.alloc())?)?;
-    check_fixes(&rt, state);
+    check_fixes(&rt, rt.alloc(), state);
     Ok(())
 }
 

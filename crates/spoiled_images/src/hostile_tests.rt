@@ -1,0 +1,213 @@
+//! Images within a collection that no heap has left: words that lead elsewhere, and records that can't follow.
+use crate::collecting_tests::{FRAMES_AT, LOG_AT, collecting_image};
+use crate::images::{Tally, poke};
+use crate::reader::{Verdict, read};
+use std::alloc::{AllocError, Global};
+use std::process::Abort;
+use std::test::Fail;
+
+/// Compares what the heap and the second reading say of an image, and that it is this.
+fn check(
+    rt: &impl Abort,
+    alloc: Global,
+    image: &[u8],
+    verdict: Verdict,
+    case: usize,
+) -> Result<(), AllocError> {
+    assert_eq!(rt; read(alloc, image)?, verdict, "case {case}");
+    Tally::new().compare(rt, alloc, image, "case", case, 0)
+}
+
+/// Where a word of the image stands that its pages hold: in the first frame of page 0, or in the second one of page 2.
+fn word_at(address: usize) -> usize {
+    let words = if address < 128 {
+        FRAMES_AT + 16
+    } else {
+        FRAMES_AT + 5 * 528 + 16
+    };
+    words.saturating_add((address % 64).saturating_mul(8))
+}
+
+/// A word address, what is put there, and what is said of that. The objects stood at 0, 6, 9, 61 and 65, and stand at 128, 137, 140, 192 and 134, of
+/// which the one at 192 is gray.
+const WORDS: [(usize, u64, Verdict); 20] = [
+    // Forwarding words that lead to nowhere, into the middle of an object, to an object of the from-space, to one another.
+    (6, 4 * 200 + 2, Verdict::Address(6)),
+    (61, 4 * 193 + 2, Verdict::Address(61)),
+    (6, 4 * 9 + 2, Verdict::Address(6)),
+    (9, 4 * 6 + 2, Verdict::Address(9)),
+    (9, 4 * 9 + 2, Verdict::Address(9)),
+    // To the copy of another object, of another length, and of its own, which no walk can tell.
+    (6, 4 * 140 + 2, Verdict::Address(58)),
+    (0, 4 * 134 + 2, Verdict::Address(3)),
+    (6, 4 * 134 + 2, Verdict::Heap),
+    // No forwarding words where objects were copied.
+    (0, 17, Verdict::Address(0)),
+    (6, 5, Verdict::Address(6)),
+    (61, 9, Verdict::Address(61)),
+    (61, 4 * 192 + 3, Verdict::Address(61)),
+    // An object takes in the next one, so that what is gray is none.
+    (140, 4 * 54 + 1, Verdict::Address(192)),
+    // Objects of other lengths, and one that is no root.
+    (140, 4 * 49 + 1, Verdict::Address(191)),
+    (137, 4 * 2 + 1, Verdict::Address(141)),
+    (129, 1, Verdict::Address(128)),
+    // Fields that are not gray lead to the from-space, or into the middle of an object.
+    (139, 4 * 9 + 2, Verdict::Address(137)),
+    (130, 4 * 6 + 2, Verdict::Address(128)),
+    (139, 4 * 141 + 2, Verdict::Address(137)),
+    // The field of a write that is taken back.
+    (136, 4 * 65 + 2, Verdict::Heap),
+];
+
+#[test]
+fn words_of_a_collection(rt: HostRuntime) -> Result<(), Fail> {
+    let alloc = rt.alloc();
+    let image = collecting_image(&rt, alloc)?;
+    for (case, (address, word, verdict)) in WORDS.iter().enumerate() {
+        let mut spoiled = image.to_vec(alloc)?;
+        poke(&rt, &mut spoiled, word_at(*address), &word.to_le_bytes());
+        check(&rt, alloc, &spoiled, *verdict, case)?;
+    }
+    Ok(())
+}
+
+/// A record as numbers, each with the bytes that it takes.
+type Numbers = &'static [(usize, u64)];
+
+const COLLECTED: (usize, u64) = (1, 10);
+
+/// What is appended to the log of 16 records, and what is said of that.
+const RECORDS: [(Numbers, Verdict); 14] = [
+    // The end, while an object is gray; and behind the scan of its page, with its field led on and as it was.
+    (&[COLLECTED], Verdict::Record(17)),
+    (
+        &[
+            (1, 8),
+            (4, 3),
+            (2, 1),
+            (4, 194),
+            (8, 4 * 134 + 2),
+            COLLECTED,
+        ],
+        Verdict::Heap,
+    ),
+    (&[(1, 8), (4, 3), (2, 0), COLLECTED], Verdict::Address(192)),
+    // Two ends.
+    (
+        &[(1, 8), (4, 3), (2, 0), COLLECTED, COLLECTED],
+        Verdict::Record(19),
+    ),
+    // Scans of pages of the other space, of none, and of the greatest number.
+    (&[(1, 8), (4, 1), (2, 0)], Verdict::Record(17)),
+    (&[(1, 8), (4, 4), (2, 0)], Verdict::Record(17)),
+    (&[(1, 8), (4, 4_294_967_295), (2, 0)], Verdict::Record(17)),
+    // Scans that write behind the used words, into the from-space, a reference to it, and a number.
+    (
+        &[(1, 8), (4, 3), (2, 1), (4, 196), (8, 4 * 134 + 2)],
+        Verdict::Record(17),
+    ),
+    (
+        &[(1, 8), (4, 3), (2, 1), (4, 8), (8, 4 * 134 + 2)],
+        Verdict::Record(17),
+    ),
+    (
+        &[(1, 8), (4, 3), (2, 1), (4, 194), (8, 4 * 65 + 2)],
+        Verdict::Record(17),
+    ),
+    (
+        &[(1, 8), (4, 3), (2, 1), (4, 194), (8, 29)],
+        Verdict::Record(17),
+    ),
+    // A copy of what was copied, and a flip while a collection runs.
+    (
+        &[(1, 7), (4, 65), (4, 196), (8, 5), (8, 0), (8, 0)],
+        Verdict::Record(17),
+    ),
+    (
+        &[
+            (1, 9),
+            (4, 1),
+            (4, 128),
+            (4, 0),
+            (8, 17),
+            (8, 0),
+            (8, 0),
+            (8, 0),
+            (8, 0),
+            (8, 0),
+        ],
+        Verdict::Record(17),
+    ),
+    // A flip behind the end, of the root alone: what was written in another object does not go along.
+    (
+        &[
+            (1, 8),
+            (4, 3),
+            (2, 0),
+            COLLECTED,
+            (1, 9),
+            (4, 1),
+            (4, 128),
+            (4, 0),
+            (8, 17),
+            (8, 0),
+            (8, 0),
+            (8, 0),
+            (8, 0),
+            (8, 0),
+        ],
+        Verdict::Record(19),
+    ),
+];
+
+/// The bytes of these numbers.
+fn spell(alloc: Global, numbers: Numbers) -> Result<Vec<u8>, AllocError> {
+    let mut bytes = Vec::new(alloc);
+    for (size, number) in numbers {
+        for byte in number.to_le_bytes().iter().take(*size) {
+            bytes.push(*byte)?;
+        }
+    }
+    Ok(bytes)
+}
+
+/// Where the first closed gate stands.
+fn log_end(image: &[u8]) -> usize {
+    let mut at = LOG_AT;
+    for _ in 0..image.len() {
+        let [1, a, b, c, d, ..] = image.get(at..).unwrap_or(&[]) else {
+            return at;
+        };
+        let length = u32::from_le_bytes([*a, *b, *c, *d]) as usize;
+        at = at.saturating_add(5).saturating_add(length);
+    }
+    at
+}
+
+/// The image with a batch of these bytes more.
+fn with_batch(
+    rt: &impl Abort,
+    alloc: Global,
+    image: &[u8],
+    records: &[u8],
+) -> Result<Vec<u8>, AllocError> {
+    let mut longer = image.to_vec(alloc)?;
+    let at = log_end(image);
+    let size = u32::try_from(records.len()).unwrap_or(0);
+    poke(rt, &mut longer, at, &[1]);
+    poke(rt, &mut longer, at.saturating_add(1), &size.to_le_bytes());
+    poke(rt, &mut longer, at.saturating_add(5), records);
+    Ok(longer)
+}
+
+#[test]
+fn records_of_a_collection_that_cannot_follow(rt: HostRuntime) -> Result<(), Fail> {
+    let alloc = rt.alloc();
+    let image = collecting_image(&rt, alloc)?;
+    for (case, (numbers, verdict)) in RECORDS.iter().enumerate() {
+        let longer = with_batch(&rt, alloc, &image, &spell(alloc, numbers)?)?;
+        check(&rt, alloc, &longer, *verdict, case)?;
+    }
+    Ok(())
+}
