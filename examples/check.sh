@@ -68,6 +68,13 @@ inspects() {
     report "tools/heap_inspect: $(cat "$out")" "$status" 0 0
 }
 
+# is_unseen: drawn scripts are answered the same with collections and without, and come back from stops.
+is_unseen() {
+    "$examples/collections/unseen.py" $quick 8 >"$out"
+    status=$?
+    report "collections/unseen.py: $(cat "$out")" "$status" 0 0
+}
+
 # answers: a session answers a line that is no line too, and ends what it was left with. Where crates.txt has no session yet, none is tried.
 answers() {
     grep -q '^heap_session' "$top/crates.txt" || return
@@ -108,11 +115,14 @@ example sessions/early_read_stopped.out sessions/early_read.script --stop 2
 example sessions/losers.out sessions/losers.script
 example sessions/losers_rolled_back.out sessions/losers.script --stop 8
 example sessions/losers_stopped_twice.out sessions/losers.script --stop 7 --again 2
+example collections/garbage.out collections/garbage.script
 printed basics/stored
 printed basics/in_use
 printed basics/full_heap
 printed damage/spoiled
 printed crashes/every_stop
+printed collections/beside
+printed collections/cut_off
 printed basics/refused
 printed basics/advice
 printed basics/checked
@@ -134,6 +144,7 @@ names_itself
 made signals.out "$examples/signals.py" $quick
 made terminal.out "$examples/terminal.py" $quick
 
+is_unseen
 inspects
 printed tools/remade
 printed clients/python
@@ -154,6 +165,8 @@ quotes examples/README.md sessions/early_read.out
 quotes examples/README.md sessions/losers_stopped_twice.out --from "1 begin -> begun 2"
 quotes examples/README.md basics/list.out --from "1 begin -> begun 3"
 quotes examples/README.md basics/cycle.out --from "graph 3"
+quotes examples/README.md collections/beside.out
+quotes examples/README.md collections/cut_off.out --from "stop  the last event before it  what the next run is answered"
 quotes examples/README.md basics/refused.out
 quotes examples/README.md basics/list.dot
 

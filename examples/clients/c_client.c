@@ -147,6 +147,18 @@ static void forced_later(sh_heap *heap) {
     CHECK(sh_flush(heap, 0) == SH_OK);
 }
 
+static void collected_beside_a_transaction(sh_heap *heap) {
+    sh_object root;
+    sh_transaction *t = begin(heap, &root);
+    bool more = true;
+    CHECK(sh_put(t, root, 3, 5) == SH_OK);
+    CHECK(sh_flip(heap) == SH_OK && sh_flip(heap) == SH_OK);
+    while (more) CHECK(sh_scan(heap, &more) == SH_OK);
+    CHECK(sh_scan(heap, NULL) == SH_OK);
+    CHECK(sh_commit(t, true) == SH_OK);
+    CHECK(root_number(heap, 3) == 5);
+}
+
 static void heap_is_in_use(void) {
     sh_error error;
     CHECK(sh_open(folder, command, 1, 65536, &error) == NULL);
@@ -180,6 +192,7 @@ int main(int count, char **words) {
     handles_run_out(heap);
     sessions_run_out(heap);
     forced_later(heap);
+    collected_beside_a_transaction(heap);
     heap_is_in_use();
     sh_close(heap);
     what_is_no_heap_is_left_alone();

@@ -190,6 +190,20 @@ class Client(unittest.TestCase):
         self.heap.flush(0)
         self.assertFalse(self.heap.flush(0))
 
+    def test_collection(self):
+        with self.heap.transaction() as t:
+            t.root.link(0, t.new(3))
+            t.root.put(1, 7)
+        with self.heap.transaction() as t:
+            self.assertTrue(self.heap.flip())
+            self.assertFalse(self.heap.flip())
+            self.assertEqual(len(t.root.get(0)), 3)
+            t.root.clear(0)
+        self.heap.collect()
+        self.assertFalse(self.heap.scan())
+        with self.heap.transaction() as t:
+            self.assertEqual((t.root.get(0), t.root.get(1)), (None, 7))
+
     def test_threads_share_sessions(self):
         def count():
             self.heap.run(lambda t: t.root.put(0, (t.root.get(0) or 0) + 1), attempts=1_000, pause=0.01)

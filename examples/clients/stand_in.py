@@ -15,7 +15,7 @@ import sys
 
 VOLATILE_WORDS = 4_096
 CALLS = "begin|seal|abort|(root|drop|len) N|(new|clear|same) N N|(put|link|get) N N N"
-LINE = re.compile(f"force|flush N|([1-9]|[12][0-9]|3[0-2]) ({CALLS})".replace("N", "[0-9]{1,19}"))
+LINE = re.compile(f"force|flip|scan|flush N|([1-9]|[12][0-9]|3[0-2]) ({CALLS})".replace("N", "[0-9]{1,19}"))
 
 
 class Refused(Exception):
@@ -41,6 +41,7 @@ class Model:
         self.active = {}
         self.sealed = 0
         self.pending = False
+        self.pages_to_scan = None
 
     def transaction(self, session):
         if session not in self.active:
@@ -182,6 +183,26 @@ class Model:
 
     def flush(self, page):
         return f"clean {page}" if page < 2 * self.pages else "nosuchpage"
+
+    def flip(self):
+        """A collection that copies all at once, and has one page to scan."""
+        if self.pages_to_scan is not None:
+            return "collecting"
+        self.pages_to_scan, self.pending = 1, True
+        return f"flipped {len(self.objects)} {self.words_of(self.objects)}"
+
+    def scan(self):
+        if self.pages_to_scan is None:
+            return "idle"
+        self.pending = True
+        if self.pages_to_scan:
+            self.pages_to_scan = 0
+            return f"scanned {self.pages} 0 0"
+        self.pages_to_scan = None
+        return f"collected {self.words_of(self.objects)}"
+
+    def words_of(self, things):
+        return sum(2 + len(self.objects[thing]) for thing in things)
 
     def answer(self, line):
         words = [int(word) if word.isdigit() else word for word in line.split()]

@@ -6,9 +6,10 @@
 # TIMES is 100 if it is left out. It is no part of check.sh, and shows nothing of a loss of power: what a killed process wrote stays
 # in the system's memory. Each transaction of session 1 writes its number into four fields. Session 2 has written into another object
 # before the first of them, and never seals. So after each kill the four fields have to be one number, no less than the last one that
-# was acknowledged and no more than one greater, and the other object is to be as it was. After each eighth transaction the page of
-# all these objects is flushed, with what session 2 has written. TMPDIR says where the heap lies. The script has 9,800 transactions, near
-# the longest that there can be; with --quick 1,000, since that program reads it slowly.
+# was acknowledged and no more than one greater, and the other object is to be as it was. After each eighth transaction the pages of
+# all these objects are flushed, with what session 2 has written; after each sixteenth a collection begins, and after each fourth comes a
+# scan. TMPDIR says where the heap lies. The script has 9,800 transactions, near the longest that there can be; with --quick 1,000, since
+# that program reads it slowly.
 . "$(dirname "$0")/../room.sh"
 times=${1:-100}
 cd "$room" || exit
@@ -51,7 +52,7 @@ heap format 1 "$log" 1 >out &&
     cp heap.img seed || exit
 {
     printf '2 begin\n2 root 0\n2 get 0 1 1\n2 put 1 0 666\n'
-    seq "$transactions" | sed 's/.*/1 begin\n1 root 0\n1 get 0 0 1\n1 put 1 0 &\n1 put 1 1 &\n1 put 1 2 &\n1 put 1 3 &\n1 commit/; 0~8s/$/\nflush 0/'
+    seq "$transactions" | sed 's/.*/1 begin\n1 root 0\n1 get 0 0 1\n1 put 1 0 &\n1 put 1 1 &\n1 put 1 2 &\n1 put 1 3 &\n1 commit/; 0~8s/$/\nflush 0\nflush 1/; 0~16s/$/\nflip/; 0~4s/$/\nscan/'
 } >script
 
 run=0 all=0 in_doubt=0 rolled_back=0 cut_off=0 ended=0

@@ -23,21 +23,21 @@ def draw_event(rng):
     """A line of a script. Most can be done: few handles and fields, and small numbers."""
     session, handle, other, field = rng.randint(1, 3), rng.randint(0, 3), rng.randint(0, 3), rng.randint(0, 3)
     drawn = rng.choices(
-        ["begin", "root", "new", "put", "clear", "link", "get", "seal", "abort", "commit", "force", "flush"],
-        [6, 6, 8, 12, 2, 12, 6, 3, 2, 3, 4, 4],
+        ["begin", "root", "new", "put", "clear", "link", "get", "seal", "abort", "commit", "force", "flush", "flip", "scan"],
+        [6, 6, 8, 12, 2, 12, 6, 3, 2, 3, 4, 4, 3, 3],
     )[0]
     arguments = {
         "root": [handle],
-        "new": [handle, rng.randint(0, 4)],
+        "new": [handle, rng.choice([0, 1, 2, 3, 4, 30])],
         "put": [handle, field, rng.randint(0, 9)],
         "clear": [handle, field],
         "link": [handle, field, other],
         "get": [handle, field, other],
     }.get(drawn, [])
-    if drawn == "force":
-        return "force"
+    if drawn in ("force", "flip", "scan"):
+        return drawn
     if drawn == "flush":
-        return f"flush {rng.randint(0, 2)}"
+        return f"flush {rng.randint(0, 5)}"
     return " ".join(map(str, [session, drawn, *arguments]))
 
 
@@ -57,9 +57,10 @@ class Heap:
         return subprocess.run([*self.command, *words], cwd=self.file.parent, input=script, capture_output=True, text=True)
 
     def make(self, rng):
-        """A new heap, and a script played on it."""
+        """A new heap in a new file, and a script played on it."""
+        self.file.unlink(missing_ok=True)
         self.log_bytes = rng.choice([200, 600, 2_000, 6_000])
-        self.run("format", str(rng.randint(1, 2)), str(self.log_bytes), str(rng.choice([1, 1, 7])))
+        self.run("format", str(rng.randint(1, 3)), str(self.log_bytes), str(rng.choice([1, 1, 7])))
         self.run("play", script=draw_script(rng))
         return bytearray(self.file.read_bytes())
 

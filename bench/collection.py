@@ -1,0 +1,199 @@
+#!/usr/bin/env python3
+"""Times collections: against twice as many objects, against a C program that copies as much, a read beside one, and the longest pause.
+
+    bench/collection.py [--quick] [N]
+
+The heap is a list of directories of 509 leaves each, reached from the root; N is how many directories the short one has, 16 if left out, and
+at most 32. Each run begins on a copy of the same file. Whole runs are timed by the processor time of the program, which other work on the
+machine changes least, and the least of 9 runs counts; the time of a run on an empty script, which opens the heap and prints its graph, is
+taken off. Pauses are the processor time of `heap session` between a line and its answer, as Linux tells it. It needs gcc, measures, and judges
+nothing. With --quick the program is that which is compiled with nothing proved; it has checks at each step, and its times say little.
+"""
+import os
+import resource
+import shutil
+import subprocess
+import sys
+import tempfile
+
+TOP = os.path.dirname(os.path.dirname(os.path.realpath(__file__)))
+QUICK = ["--quick"] * (sys.argv[1:2] == ["--quick"])
+BUILT = os.path.join(TOP, ".build", *["quick"] * bool(QUICK))
+HEAP, SESSION = os.path.join(BUILT, "heap_shell"), os.path.join(BUILT, "heap_session")
+RUNS = 9
+PAUSES = 15
+LEAVES = 509
+LOG = 12 * 1_048_576
+COLLECTIONS = 6
+
+
+def spent():
+    """The seconds of processor time of all programs that have ended."""
+    used = resource.getrusage(resource.RUSAGE_CHILDREN)
+    return used.ru_utime + used.ru_stime
+
+
+def run(words, text=""):
+    """What a run of the program in the current folder prints. Script and replies are files: a pipe would wake its reader at each line."""
+    with open("script", "w") as script:
+        script.write(text)
+    with open("script") as script, open("replies", "w") as output:
+        subprocess.run([HEAP, *words], stdin=script, stdout=output, check=True)
+    with open("replies") as replies:
+        return replies.read()
+
+
+def directory(leaf_words, is_first):
+    """A transaction that puts a directory with its leaves in front of the list."""
+    text = "1 begin\n1 root 0\n1 get 0 0 1\n1 new 2 510\n" + ("" if is_first else "1 link 2 0 1\n")
+    leaves = "".join(f"1 new 3 {leaf_words - 2}\n1 put 3 0 7\n1 link 2 {i} 3\n" for i in range(1, LEAVES + 1))
+    return text + leaves + "1 link 0 0 2\n1 seal\n"
+
+
+def words_of(directories, leaf_words):
+    return 6 + directories * (512 + LEAVES * leaf_words)
+
+
+def build(name, directories, leaf_words=4):
+    """A heap of so many directories, kept in a file of this name. Its objects are in the spaces for the first time."""
+    pages = words_of(directories, leaf_words) // 64 + 8
+    run(["format", str(pages), str(LOG), "1"])
+    for made in range(directories):
+        run(["play"], directory(leaf_words, made == 0))
+    os.replace("heap.img", name)
+
+
+def timed(name, text, wanted):
+    """The least seconds of processor time of a script on a copy of the heap. So many answers have the wanted word."""
+    word, count = wanted
+    times = []
+    for _ in range(RUNS):
+        shutil.copyfile(name, "heap.img")
+        before = spent()
+        replies = run(["play"], text)
+        times.append(spent() - before)
+        if replies.count(f" {word}") != count:
+            sys.exit(f"collection: {replies.count(f' {word}')} answers are {word}, and not {count}")
+    return min(times)
+
+
+def collections(directories, leaf_words=4):
+    """Collections one after another, each with a scan for every page."""
+    return ("flip\n" + "scan\n" * (words_of(directories, leaf_words) // 64 + 3)) * COLLECTIONS
+
+
+def collecting(name, directories, leaf_words=4):
+    """The seconds of the collections alone."""
+    whole = timed(name, collections(directories, leaf_words), ("collected", COLLECTIONS))
+    return whole - timed(name, "", ("collected", 0))
+
+
+def by_size(n):
+    build("short", n)
+    build("long", 2 * n)
+    short, long = collecting("short", n), collecting("long", 2 * n)
+    print(f"a collection of {2 * n * (LEAVES + 1)} live objects takes {long / short:.2f} times as long as one of {n * (LEAVES + 1)}")
+    return short
+
+
+def copies_of_c(directories, leaf_words):
+    args = ["./collection", "log", str(directories), str(leaf_words), str(COLLECTIONS)]
+    return min(float(subprocess.run(args, stdout=subprocess.PIPE, check=True).stdout) for _ in range(RUNS))
+
+
+def beside_c(n, leaf_words, ours):
+    words, c = COLLECTIONS * words_of(n, leaf_words), copies_of_c(n, leaf_words)
+    print(f"leaves of {leaf_words} words: {words / ours / 1e6:.1f} million words copied a second, the C program {words / c / 1e6:.1f}: ratio {c / ours:.2f}")
+
+
+def reads(count):
+    """The seconds of so many reads of the root, without and within a collection that has scanned its page, and has much that is gray."""
+    begin, read = "1 begin\n1 root 0\n1 get 0 0 1\n", "1 get 0 0 1\n" * count
+    seconds = []
+    for setup in ("", "flip\nscan\n"):
+        asked = timed("long", setup + begin + read, ("ref", count + 1))
+        seconds.append(asked - timed("long", setup + begin, ("ref", 1)))
+    return seconds
+
+
+def processor_time(process):
+    """The seconds for which a process with one thread had a processor."""
+    with open(f"/proc/{process.pid}/schedstat") as file:
+        return int(file.read().split()[0]) / 1e9
+
+
+class Session:
+    """A session on a copy of a heap: each line is asked by itself, and the time taken that the program works on it."""
+
+    def __init__(self, name):
+        shutil.copyfile(name, "heap.img")
+        self.process = subprocess.Popen([SESSION], stdin=subprocess.PIPE, stdout=subprocess.PIPE)
+
+    def ask(self, line):
+        before = processor_time(self.process)
+        self.process.stdin.write(f"{line}\n".encode())
+        self.process.stdin.flush()
+        answer = self.process.stdout.readline().decode()
+        return processor_time(self.process) - before, answer.split(" -> ")[1].strip()
+
+    def close(self):
+        self.process.stdin.close()
+        self.process.stdout.read()
+        self.process.wait()
+
+
+def pauses_once(name, locks):
+    """The pauses of a flip, with so many objects of the first directory read before it, and of each scan until the last."""
+    session = Session(name)
+    for line in ["1 begin", "1 root 0", "1 get 0 0 1"]:
+        session.ask(line)
+    for field in range(1, locks + 1):
+        session.ask(f"1 get 1 {field} 2")
+        session.ask("1 get 2 0 63")
+    flip, _ = session.ask("flip")
+    scans, answer = [], ""
+    while not answer.startswith("collected"):
+        seconds, answer = session.ask("scan")
+        scans.append(seconds)
+    session.close()
+    return [flip] + scans
+
+
+def pauses(name, locks):
+    """The seconds of the flip, and of the longest scan, where each event counts with the least of its times."""
+    rounds = [pauses_once(name, locks) for _ in range(PAUSES)]
+    flip, *scans = map(min, zip(*rounds))
+    return flip, max(scans)
+
+
+def by_heap(n):
+    few = n // 8 or 1
+    build("small", few)
+    flip, scan = pauses("small", 40)
+    large_flip, large_scan = pauses("long", 40)
+    more_flip, _ = pauses("long", 400)
+    print(f"the longest pauses: a flip of 42 roots {1000 * large_flip:.2f} ms, of 402 roots {1000 * more_flip:.2f} ms, a scan {1000 * large_scan:.2f} ms")
+    print(f"with {2 * n // few} times the heap a flip of 42 roots takes {large_flip / flip:.2f} times as long, the longest scan {large_scan / scan:.2f} times")
+
+
+def main():
+    n = int(sys.argv[1 + len(QUICK)]) if len(sys.argv) > 1 + len(QUICK) else 16
+    if not 1 <= n <= 32:
+        sys.exit("collection: N is from 1 to 32")
+    heap = [os.path.join(TOP, "heap"), *QUICK]
+    subprocess.run([*heap, "format", "1", "65536", "1"], stdout=subprocess.PIPE, check=True)  # builds the program, if it is not built
+    subprocess.run([*heap, "session"], stdin=subprocess.DEVNULL, stdout=subprocess.PIPE, check=True)
+    subprocess.run(["gcc", "-O2", "-o", "collection", f"{TOP}/bench/collection.c"], check=True)
+    print(f"load {os.getloadavg()[0]:.1f}")
+    beside_c(n, 4, by_size(n))
+    build("wide", n, 7)
+    beside_c(n, 7, collecting("wide", n, 7))
+    without, within = reads(10_000)
+    print(f"a read beside a collection, of a page with nothing gray: {within / without:.2f} times as long as without one")
+    by_heap(n)
+
+
+if __name__ == "__main__":
+    with tempfile.TemporaryDirectory() as room:
+        os.chdir(room)
+        main()
