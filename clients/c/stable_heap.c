@@ -267,6 +267,18 @@ sh_result sh_flush(sh_heap *heap, unsigned page) {
     return ask(heap, event, reply);
 }
 
+sh_result sh_flip(sh_heap *heap) {
+    char reply[LINE];
+    return ask(heap, "flip", reply);
+}
+
+sh_result sh_scan(sh_heap *heap, bool *more) {
+    char reply[LINE];
+    sh_result result = ask(heap, "scan", reply);
+    if (result == SH_OK && more) *more = strncmp(reply, "scanned ", 8) == 0;
+    return result;
+}
+
 /* ---- transactions */
 
 sh_result sh_begin(sh_heap *heap, sh_transaction **transaction) {

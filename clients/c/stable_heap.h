@@ -86,6 +86,11 @@ sh_result sh_force(sh_heap *heap, uint64_t *commits);
 /* Stores a page, so that the next opening redoes less. */
 sh_result sh_flush(sh_heap *heap, unsigned page);
 
+/* Begins a collection, unless one is under way; transactions may be active, and go on. Then each scan goes on by one page. `more`, unless it is
+ * NULL, is whether there is more to do; where there is none, the words of objects that nothing reached at the flip are free. */
+sh_result sh_flip(sh_heap *heap);
+sh_result sh_scan(sh_heap *heap, bool *more);
+
 sh_result sh_begin(sh_heap *heap, sh_transaction **transaction);
 
 /* Ends the transaction, whatever it gives: where the seal or an earlier call was refused, it is aborted. If it is not to be durable at once

@@ -422,6 +422,20 @@ class Heap:
         """Stores a page, so that the next opening redoes less: whether it had changed."""
         return self._ask("flush", page)[0] == "flushed"
 
+    def flip(self) -> bool:
+        """Begins a collection: whether none was under way. Transactions may be active, and go on."""
+        return self._ask("flip")[0] == "flipped"
+
+    def scan(self) -> bool:
+        """Goes on with the collection by one page: whether there is more to do."""
+        return self._ask("scan")[0] == "scanned"
+
+    def collect(self) -> None:
+        """Ends the collection that is under way, or makes a whole one: words of objects that nothing reached any more when it began are free."""
+        self.flip()
+        while self.scan():
+            pass
+
     def _take_session(self) -> int:
         with self._has_session:
             self._has_session.wait_for(lambda: self._sessions)
