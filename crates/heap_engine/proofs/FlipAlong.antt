@@ -1,8 +1,9 @@
 -- What transactions would take back, where objects have moved.
-use Rattle.std.proofs.Common.{◌≡◌, ℕ, ◌+◌, ◌<◌, ◌≤◌, List, [], ◌∷◌, ◌++◌, length, take, reverse, get_or, Option, None, Some, refl, sym, ap, ◌∙◌, subst, arith, inl, inr}
+use Rattle.std.proofs.Common.{◌≡◌, ℕ, zero, suc, ◌+◌, ◌<◌, ◌≤◌, List, [], ◌∷◌, ◌++◌, length, take, reverse, get_or, Option, None, Some, refl, sym, ap, ◌∙◌, subst, arith, inl, inr}
 use Rattle.std.specs.Prelude.{All, IsSome, IfSome}
+use Rattle.std.specs.List.{AllByRecursion}
 use Rattle.std.proofs.lemmas.Bool.{cases_eq}
-use Rattle.std.proofs.lemmas.List.{map-append, reverse-append, take_more}
+use Rattle.std.proofs.lemmas.List.{map-append, reverse-append, reverse-reverse, take_more}
 use Rattle.std.proofs.lemmas.List.Elements.{All-nil, All-cons, All-append, All-from_recursion, recursion_from_All}
 use Rattle.log_machine.specs.declared.UndoEntry.{UndoEntry}
 use Rattle.log_machine.specs.Machine.{field_at}
@@ -25,6 +26,17 @@ along_more end pairs us i d within before here =
     ap (translated_list pairs) (take_more us i d within) ∙ map-append (translated_entry pairs) (take i us) (get_or us i d ∷ []) in
     subst (All (LiesBelow end)) (sym more) (All-append (LiesBelow end) (translated_list pairs (take i us)) (u ∷ []) before (All-cons (LiesBelow end) u [] here (All-nil (LiesBelow end))))
 
+below_at : (end : ℕ) (pairs : List (ℕ × ℕ)) (us : List UndoEntry) (i : ℕ) (d : UndoEntry) → i < length us → AllByRecursion (LiesBelow end) (translated_list pairs us)
+    → field_at (moved_to pairs (get_or us i d).object) (get_or us i d).field < end
+below_at end pairs [] i d within all = absurd (omega arith)
+below_at end pairs (u ∷ us) zero d within all = all.0
+below_at end pairs (u ∷ us) (suc i) d within all = below_at end pairs us i d (omega arith) all.1
+
+-- each of them does
+pub along_at : (end : ℕ) (pairs : List (ℕ × ℕ)) (us : List UndoEntry) (i : ℕ) (d : UndoEntry) → i < length us → WroteBelow end (translated_list pairs us)
+    → field_at (moved_to pairs (get_or us i d).object) (get_or us i d).field < end
+along_at end pairs us i d within below = below_at end pairs us i d within (recursion_from_All (LiesBelow end) (translated_list pairs us) below)
+
 -- The sessions.
 
 reverse_translated : (pairs : List (ℕ × ℕ)) (us : List UndoEntry) → reverse (translated_list pairs us) ≡ translated_list pairs (reverse us)
@@ -41,6 +53,13 @@ turned_along end pairs us undo is below =
     let P = LiesBelow end in
     let turned = All-from_recursion P (reverse (translated_list pairs us)) (AllByRecursion-reverse P (translated_list pairs us) (recursion_from_All P (translated_list pairs us) below)) in
     subst (All P) (reverse_translated pairs us ∙ ap (translated_list pairs) is) turned
+
+-- so do those of a transaction that are told the newest last
+pub told_along : (end : ℕ) (pairs : List (ℕ × ℕ)) (table : TableState) (s : ℕ) (us : List UndoEntry) → GoAlongBelow end pairs table → IsSome (transaction_of table s)
+    → IfSome (transaction_of table s) (λ t. reverse us ≡ t.undo) → WroteBelow end (translated_list pairs us)
+told_along end pairs table s us along some is =
+    let undo = undo_if (transaction_of table s) in
+    turned_along end pairs undo us (ap reverse (sym (told_undo (transaction_of table s) us some is)) ∙ reverse-reverse us) (along s)
 
 -- what the transactions of the first sessions wrote lies in so many words then
 abbrev pub GoAlongUpto : ℕ → List (ℕ × ℕ) → TableState → ℕ → Type 0

@@ -54,6 +54,9 @@ not_before s at q none = cases (at == q) (contains s q) refl (sym (inserted_at s
     cases true b is none = absurd (false≢true (sym none))
     cases false b is none = is ∙ none
 
+pub not_moved : (s : State) (k : Collection) (from to size : ℕ) → (can_move s k from size && can_hold s to size) ≡ true → contains k.moved from ≡ false
+not_moved s k from to size can = not_so (contains k.moved from) (both_parts _ _ (both_parts _ _ can).0).1
+
 pub more_words : (from to : ℕ) (words : List ℕ) (records : List Record) → words_copied (Copy from to words ∷ records) ≡ length words + words_copied records
 more_words from to words records =
     sum_by-cons (λ (c : CopiedObject). c.words) (record { from = from; to = to; header = slice_index words 0; words = length words }) (copied_in records)
@@ -85,7 +88,7 @@ run_copy : (s : State) (k : Collection) (from to : ℕ) (words : List ℕ) (reco
 run_copy s k from to words records consistent own can rest =
     let copy : ObjectCopy = record { from = from; to = to; words = words } in
     let told = can_copy_told s k copy can in
-    let fresh : contains k.moved from ≡ false = not_so (contains k.moved from) (both_parts _ _ (both_parts _ _ can).0).1 in
+    let fresh : contains k.moved from ≡ false = not_moved s k from to (length words) can in
     let more = more_words from to words records in
     let follows : copied_one s copy s.collection ≡ Some (with_copy s k copy) = ap (copied_one s copy) own ∙ ap (λ t. if t then Some (with_copy s k copy) else None) can in
     let front = told.front in

@@ -1,5 +1,5 @@
 //! The events of a collection: it begins with a flip, scans the current space page by page, and ends where nothing is gray any more.
-ghost use Rattle.std.specs.Prelude.{◌≡◌, ℕ, ◌≤◌, ◌<◌, ◌^◌, List, length, Option, None, Some, Ok, OnErr, IfOk, IsSome, IsTrue};
+ghost use Rattle.std.specs.Prelude.{◌≡◌, ◌↔◌, ℕ, ◌≤◌, ◌<◌, ◌^◌, List, length, Option, None, Some, Ok, OnErr, IfOk, IsSome, IsTrue};
 ghost use Rattle.flip_copy.specs.Copied.{size_of};
 ghost use Rattle.flip_copy.specs.Plan.{AreCopiesOf};
 ghost use Rattle.heap_memory.specs.Leaves.{key_moves};
@@ -87,7 +87,7 @@ impl Engine {
     /// Whether all that transactions would take back lies in the words when objects have moved.
     fn can_go_along(&self, pairs: &[(u32, u32)]) -> bool
         requires { IsRelocation pairs.now }
-        ensures { IsTrue result → GoAlongBelow (length (cached self.now.cache).words) pairs.now self.now.table }
+        ensures { IsTrue result ↔ GoAlongBelow (length (cached self.now.cache).words) pairs.now self.now.table }
     {
         let words = self.cache.as_slice().len() as u64;
         for session in 1..=SESSIONS {
@@ -166,7 +166,7 @@ impl Engine {
 /// Whether each of these writes is of a field that lies below an address when objects have moved.
 fn lie_below(end: u64, entries: &[UndoEntry], pairs: &[(u32, u32)]) -> bool
     requires { IsRelocation pairs.now }
-    ensures { IsTrue result → WroteBelow end (translated_list pairs.now entries.now) }
+    ensures { IsTrue result ↔ WroteBelow end (translated_list pairs.now entries.now) }
 {
     for UndoEntry { object, field, .. } in entries {
         let address = u64::from(moved_to(pairs, *object));

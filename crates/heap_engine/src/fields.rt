@@ -154,6 +154,7 @@ impl Engine {
         }
         note_scan(&mut self.spaces, &mut self.collection, &scan);
         carry_out(&mut self.log, &mut self.cache, scan.records());
+        // The scan may have led the field on.
         let fields = fields_at(self.cache.as_slice(), object);
         let word = fields.get(field as usize).copied().unwrap_or(0);
         Ok(self.read_into(session, h, word))
