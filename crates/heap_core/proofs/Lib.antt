@@ -1,6 +1,7 @@
 mod Calls
 pub mod CrashLaws
 mod Empty
+mod KeptEntries
 mod OpenErrors
 mod Outside
 mod RefinementGraph

@@ -1,5 +1,5 @@
 //! The heap: events on an image, each of them one step.
-ghost use Rattle.std.specs.Prelude.{◌≡◌, ◌≢◌, ◌⊎◌, ◌↔◌, ◌+◌, ◌≤◌, ◌^◌, ◌<◌, ℕ, List, [], ◌∷◌, ◌++◌, length, min, is_some, Bool, true, None, Some, Ok, Err, IsTrue, IfOk, IfErr, MatchResult, IsErrAnd, OnErr};
+ghost use Rattle.std.specs.Prelude.{◌≡◌, ◌≢◌, ◌⊎◌, ◌↔◌, ◌+◌, ◌≤◌, ◌^◌, ◌<◌, ℕ, List, [], ◌∷◌, ◌++◌, length, min, is_some, Bool, true, None, Some, Ok, Err, IsTrue, IsOk, IfOk, IfErr, MatchResult, IsErrAnd, OnOk, OnErr};
 ghost use Rattle.counts.specs.Count.{greatest};
 ghost use Rattle.disk_model.specs.Disk.{Only};
 ghost use Rattle.disk_model.specs.Keeps.{KeepsDisk, OnlyReads};
@@ -20,11 +20,12 @@ ghost use Rattle.graph_model.specs.declared.id.Id.{Id};
 ghost use Rattle.graph_words.specs.Places.{Places};
 ghost use Rattle.object_layout.specs.Layout.{IsSeenAs};
 ghost use Rattle.heap_model.specs.Opening.{opened, rolled_back, rollback_of, opening_calls, IsFound, IsLeftByOpening};
+ghost use Rattle.heap_core.specs.Ending.{TakesNoMemory, IsReady, entries_kept};
 ghost use Rattle.heap_core.specs.Causes.{step_device, reply_device, opened_device, IsFromOutside, OpenedPasses};
 ghost use Rattle.heap_model.specs.Core.{Core, IsStep, calls, is_dirty};
 ghost use Rattle.page_store.specs.Gates.{open_gates};
 ghost use Rattle.core_laws.specs.Valid.{IsReached};
-ghost use Rattle.heap_engine.specs.EngineState.{LiesWithin, HasNotFailed};
+ghost use Rattle.heap_engine.specs.EngineState.{memory, LiesWithin, HasNotFailed};
 ghost use Rattle.heap_engine.specs.Refinement.{IsLeftByStep};
 ghost use Rattle.commit_order.specs.Heard.{replies_of_commits};
 ghost use Rattle.commit_order.specs.SerialOrder.{IsCommitOrdered};
@@ -38,7 +39,11 @@ use heap_recovery::{Recovered, recover};
 use log_machine::PageWords;
 use object_layout::WordSlice;
 use std::alloc::{AllocError, Global};
-use txn_table::TxnTable;
+use txn_table::{SESSIONS, TxnTable};
+
+/// The most entries for which the history keeps room: of each session the end of its transaction and a force behind it, and a force of what is
+/// sealed already.
+const MOST_KEPT: usize = 2 * SESSIONS as usize + 1;
 
 /// A heap on a disk, for sessions 1 to 32 side by side.
 #[derive(Debug, Drop)]
@@ -52,6 +57,8 @@ pub struct Heap<D: Disk> {
     failed: Option<Failure>,
     ghost inside: { LiesWithin engine (D.extent disk) },
     ghost works: { failed ≡ None → HasNotFailed engine },
+    // The events that take no memory find room for their entries.
+    ghost kept: { failed ≡ None → entries_kept (memory engine) history.entries ≤ history.room },
 }
 
 /// Where the disk failed or stopped.
@@ -79,10 +86,36 @@ fn cut_short(e: DiskError) -> Reply
 fn entered(history: &mut History, event: Event, reply: Reply) -> Reply
     requires { 0 < history.old.room }
     ensures entries { history.new.entries ≡ history.old.entries ++ record { event = event; reply = reply } ∷ [] }
+    ensures room { history.new.room + 1 ≡ history.old.room }
     ensures reply { result ≡ reply }
 {
     history.push(event, reply);
     reply
+}
+
+/// Whether an event takes no memory: it ends a transaction and promotes nothing, or forces commits that were not acknowledged.
+fn is_ready(history: &History, engine: &Engine, event: Event) -> bool
+    ensures { IsTrue result ↔ IsReady (memory engine.now) history.now.entries event }
+{
+    match event {
+        Event::Abort { s } => engine.active(s),
+        Event::Seal { s } => engine.seals_alone(s),
+        Event::Force => history.acked() < engine.sealed(),
+        _ => false,
+    }
+}
+
+/// Makes room for the entry of an event, and behind it for those of the events that take no memory, which find it there.
+fn make_room(history: &mut History, engine: &Engine, event: Event) -> Result<(), AllocError>
+    ensures same { history.new.entries ≡ history.old.entries }
+    ensures kept { history.old.room ≤ history.new.room }
+    ensures room { OnOk result ((65 < history.new.room) ⊎ IsReady (memory engine.now) history.old.entries event) }
+    ensures ready { IsReady (memory engine.now) history.old.entries event → IsOk result }
+{
+    if is_ready(history, engine, event) {
+        return Ok(());
+    }
+    history.reserve(MOST_KEPT + 1)
 }
 
 /// The text of the graph that is seen from the root object on, which stands at this word address.
@@ -93,6 +126,16 @@ fn print(alloc: Global, words: &PageWords, root: u32) -> Result<Vec<u8>, GraphEr
 {
     let mut words = WordSlice::of(words.as_slice());
     Ok(graph_print::canon_text(alloc, &mut words, root)?)
+}
+
+/// How many objects that graph has.
+fn count(alloc: Global, words: &PageWords, root: u32) -> Result<u64, GraphError>
+    requires { length words.now < 2 ^ 32 }
+    ensures count { (name : ℕ → Id) (g : Graph) → IsSeenAs name words.now root g → IfOk result (λ count. count ≡ length (canon g)) }
+    ensures error { (name : ℕ → Id) (g : Graph) → IsSeenAs name words.now root g → IfErr result (λ e. e ≡ GraphError.NoMemory) }
+{
+    let mut words = WordSlice::of(words.as_slice());
+    Ok(graph_print::canon_count(alloc, &mut words, root)?)
 }
 
 impl<D: Disk> Heap<D> {
@@ -174,7 +217,8 @@ impl<D: Disk> Heap<D> {
         }
     }
 
-    /// Makes one step, and answers the event, whose session, if it has one, is from 1 to 32. Want of memory changes nothing.
+    /// Makes one step, and answers the event, whose session, if it has one, is from 1 to 32. Want of memory changes nothing. An abort takes no
+    /// memory, nor does a seal that promotes nothing, or a force of commits that were not acknowledged.
     pub fn step(&mut self, event: Event) -> Result<Reply, AllocError>
         requires { IsOfSession event }
         ensures disk { KeepsDisk D.Disk self.old.disk self.new.disk (step_device result) }
@@ -193,14 +237,17 @@ impl<D: Disk> Heap<D> {
         ensures passes { IsTrue D.tells → (c : Core) → IsCore c self.old → IsReached c → IfOk result (λ reply. Passes (calls c event) (D.passed self.old.disk) (D.passed self.new.disk) (reply_device reply)) }
         // An event that makes no write or sync leaves the disk alone, and does not read it either.
         ensures still { (c : Core) → IsCore c self.old → IsReached c → calls c event ≡ 0 → self.new.disk ≡ self.old.disk }
+        // When memory runs out, transactions can still be ended and commits forced.
+        ensures memory { (c : Core) → IsCore c self.old → IsReached c → (account c.history).failed ≡ None → TakesNoMemory c event → IsOk result }
     {
-        self.history.reserve(1)?;
         if let Some(failure) = self.failed {
+            self.history.reserve(1)?;
             let why = Refusal::Failed {
                 entry: failure.entry,
             };
             return Ok(entered(&mut self.history, event, Reply::Refused { why }));
         }
+        make_room(&mut self.history, &self.engine, event)?;
         let pending = self.engine.pending();
         match self.engine.step_on(&mut self.disk, event) {
             Ok(reply) => Ok(entered(&mut self.history, event, reply)),
@@ -280,6 +327,16 @@ impl<D: Disk> Heap<D> {
     {
         let words = self.engine.committed_words(alloc)?;
         print(alloc, &words, self.engine.root_address())
+    }
+
+    /// How many objects that graph has; no text is made. It asks that the disk has neither failed nor stopped.
+    pub fn objects(&self, alloc: Global) -> Result<u64, GraphError>
+        requires unfailed { failed_at self.now ≡ None }
+        ensures count { (c : Core) → IsCore c self.now → IsReached c → IfOk result (λ count. count ≡ length (canon (serial c.g0 (sealed c.history)))) }
+        ensures error { (c : Core) → IsCore c self.now → IsReached c → IfErr result (λ e. e ≡ GraphError.NoMemory) }
+    {
+        let words = self.engine.committed_words(alloc)?;
+        count(alloc, &words, self.engine.root_address())
     }
 
     /// Gives the disk back.

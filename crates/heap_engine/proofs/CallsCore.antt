@@ -40,6 +40,20 @@ pub either : (o : Option Refusal) (gives reply : Reply) (P : Type 0) → reply �
 either None gives reply P is granted refused = granted is
 either (Some why) gives reply P is granted refused = refused why is
 
+-- what has not changed is as it was
+as_was : (m n : Memory) → n ≡ m → IsAsItWas m n
+as_was m n is = subst (IsAsItWas m) (sym is) (record {
+  log = record { place = record { at = refl; room = refl; tail = refl; forced = refl }; buffer = refl; size = refl; count = refl };
+  words = refl;
+  lsns = refl;
+  store = refl;
+  table = refl;
+  locks = refl;
+  spaces = refl;
+  collection = refl;
+  sealed = refl;
+})
+
 -- An event in memory is answered as the core answers it.
 module _ (m n : Memory) (c : Core) (is : IsMemory m (account c.history) c) (valid : IsValid c) (runs : RunsLocked c.g0 c.first c.history) (event : Event) (s : ℕ) where
   abbrev DoesIt : Reply → Event → Type 0
@@ -48,10 +62,15 @@ module _ (m n : Memory) (c : Core) (is : IsMemory m (account c.history) c) (vali
   abbrev DoesOr : Result Reply AllocError → Event → Type 0
   DoesOr result event = IfOk result (λ reply. Does c event reply n)
 
-  pub begins : (reply : Reply) → event ≡ Begin s → IsOfSession event → reply ≡ reply_of (begin_refusal m s) (answer.Begun m.table.next)
-      → ((k : ℕ) → reply ≡ answer.Begun k → Begins m n s) → ((why : Refusal) → reply ≡ answer.Refused why → n ≡ m) → DoesIt reply event
-  begins reply form one replied done stays =
-      subst (DoesIt reply) (sym form) (begin_does m n c valid runs is s (begin_refused m c valid runs is s (subst IsOfSession form one)) reply replied done stays)
+  begin_result : (result : Result Reply AllocError) → IsOfSession (Begin s) → IfOk result (λ reply. reply ≡ reply_of (begin_refusal m s) (answer.Begun m.table.next))
+      → ((k : ℕ) → result ≡ Ok (answer.Begun k) → Begins m n s) → ((why : Refusal) → result ≡ Ok (answer.Refused why) → n ≡ m) → DoesOr result (Begin s)
+  begin_result (Err e) one replied done stays = tt
+  begin_result (Ok reply) one replied done stays =
+      begin_does m n c valid runs is s (begin_refused m c valid runs is s one) reply replied (λ k begun. done k (ap Ok begun)) (λ why refused. stays why (ap Ok refused))
+
+  pub begins : (result : Result Reply AllocError) → event ≡ Begin s → IsOfSession event → IfOk result (λ reply. reply ≡ reply_of (begin_refusal m s) (answer.Begun m.table.next))
+      → ((k : ℕ) → result ≡ Ok (answer.Begun k) → Begins m n s) → ((why : Refusal) → result ≡ Ok (answer.Refused why) → n ≡ m) → DoesOr result event
+  begins result form one replied done stays = subst (DoesOr result) (sym form) (begin_result result (subst IsOfSession form one) replied done stays)
 
   pub roots : (h : ℕ) (reply : Reply) → event ≡ Root s h → reply ≡ reply_of (handle_refusal (own m s) h) answer.Done
       → (reply ≡ answer.Done → SetsHandle m n s h (Some (root_place m))) → ((why : Refusal) → reply ≡ answer.Refused why → n ≡ m) → DoesIt reply event
@@ -91,9 +110,10 @@ module _ (m n : Memory) (c : Core) (is : IsMemory m (account c.history) c) (vali
       → ((number : ℕ) → result ≡ Ok (answer.Sealed number) → Seals m n s) → ((why : Refusal) → result ≡ Ok (answer.Refused why) → IsAsItWas m n) → DoesOr result event
   seals result form replied done stays = subst (DoesOr result) (sym form) (seal_does m n c valid runs is s (seal_refused m c valid runs is s) result replied done stays)
 
-  pub aborts : (result : Result Reply AllocError) → event ≡ Abort s → IfOk result (λ reply. reply ≡ reply_of (end_refusal (own m s)) answer.Aborted)
-      → (result ≡ Ok answer.Aborted → Aborts m n s) → ((why : Refusal) → result ≡ Ok (answer.Refused why) → IsAsItWas m n) → DoesOr result event
-  aborts result form replied done stays = subst (DoesOr result) (sym form) (abort_does m n c valid runs is s (abort_refused m c valid runs is s) result replied done stays)
+  pub aborts : (reply : Reply) → event ≡ Abort s → reply ≡ reply_of (end_refusal (own m s)) answer.Aborted
+      → (reply ≡ answer.Aborted → Aborts m n s) → ((why : Refusal) → reply ≡ answer.Refused why → n ≡ m) → DoesIt reply event
+  aborts reply form replied done stays =
+      subst (DoesIt reply) (sym form) (abort_does m n c valid runs is s (abort_refused m c valid runs is s) (Ok reply) replied (λ is. done (cc is)) (λ why is. as_was m n (stays why (cc is))))
 
 module _ (m : Memory) (c : Core) (is : IsMemory m (account c.history) c) (valid : IsValid c) (runs : RunsLocked c.g0 c.first c.history) (event : Event) (s : ℕ) where
   pub compares : (h h2 : ℕ) (reply : Reply) → event ≡ Same s h h2 → reply ≡ reply_of (same_refusal m s h h2) (same_reply m s h h2) → Does c event reply m
@@ -132,6 +152,10 @@ module _ (m : Memory) where
       → (reply ≡ answer.Idle → P) → ((why : Refusal) → reply ≡ answer.Refused why → P) → P
   scan_or reply P replied scanned collected still refused =
       either (scan_refusal m replied.0) (scan_reply m replied.0) reply P replied.2 (λ given. scan_granted reply P m.collection replied.0 given scanned collected still) refused
+
+-- a call that must have its memory does not lack it
+pub never_lacks : (result : Result Reply AllocError) (e : AllocError) (reply : Reply) → result ≡ Err e → result ≡ Ok reply → ⊥
+never_lacks result e reply is ok = cc (is, ok)
 
 -- So is one of a collection.
 module _ (m n : Memory) (c : Core) (is : IsMemory m (account c.history) c) (valid : IsValid c) (event : Event) where

@@ -1,6 +1,5 @@
 -- A force: what it leaves of an engine and on the disk, whole or cut short.
-use Rattle.std.proofs.Common.{lit<, ◌<◌, ◌≡◌, ◌≢◌, ◌⊎◌, inl, inr, ℕ, ◌+◌, max, Bool, true, List, [], ◌∷◌, length, Option, Some, None, Result, Ok, Err, refl, sym, ap, ◌∙◌, subst, ⊎_elim, arith}
-use Rattle.std.specs.Prelude.{IsTrue, ◌↔◌}
+use Rattle.std.proofs.Common.{lit<, ◌<◌, ◌≡◌, ◌≢◌, ◌⊎◌, inl, inr, ℕ, ◌+◌, max, List, [], ◌∷◌, length, Option, None, Result, Ok, Err, refl, sym, ap, ◌∙◌, subst, ⊎_elim, arith}
 use Rattle.disk_model.specs.Disk.{part, Only, SameOutside}
 use Rattle.disk_model.specs.declared.disk.DiskError.{DiskError}
 use Rattle.gated_log.specs.declared.log.Log.{Log}
@@ -9,14 +8,12 @@ use Rattle.gated_log.proofs.LogLaws.{buffer_size-Keeps}
 use Rattle.gated_log.specs.LogState.{log_place, log_room, IsBufferEmpty, Keeps, IsSameLog}
 use Rattle.graph_model.specs.declared.event.Event.TheVariants.{Force, Flush}
 use Rattle.graph_model.specs.declared.reply.Refusal.{Refusal}
-use Rattle.graph_model.specs.declared.reply.Refusal.TheVariants.{DiskFault, Stopped}
 use Rattle.graph_model.specs.declared.reply.Reply.{Reply}
 use Rattle.graph_model.specs.declared.reply.Reply.TheVariants.{Durable, Refused}
 use Rattle.graph_model.specs.History.{account}
 use Rattle.core_laws.proofs.Crash.Image.{crash_law, prefixes_on}
 use Rattle.core_laws.proofs.Run.Events.{calls-forced, force_granted}
-use Rattle.core_laws.proofs.Step.Events.{valid_after}
-use Rattle.core_laws.specs.Valid.{RunsLocked, IsValid, IsSound}
+use Rattle.core_laws.specs.Valid.{IsValid, IsSound}
 use Rattle.image_plan.specs.declared.plan.Plan.{Plan}
 use Rattle.image_plan.specs.declared.superblock.Super.{Super}
 use Rattle.image_plan.specs.Plan.{log_offset, image_size}

@@ -1,10 +1,10 @@
 -- Whether a gray object starts in a page, as it is tested.
-use Rattle.std.proofs.Common.{◌≡◌, ◌≢◌, ℕ, zero, suc, ◌+◌, ◌*◌, ◌/◌, ◌<◌, ◌≤◌, ◌||◌, Bool, true, false, List, [], Option, None, Some, refl, sym, ap, ◌∙◌, subst, arith}
-use Rattle.std.specs.Prelude.{◌↔◌, IsSome, if◌then◌else◌}
+use Rattle.std.proofs.Common.{◌≡◌, ◌≢◌, ℕ, zero, suc, ◌+◌, ◌*◌, ◌<◌, ◌≤◌, ◌||◌, Bool, true, false, List, [], Option, None, Some, refl, sym, ap, ◌∙◌, arith}
+use Rattle.std.specs.Prelude.{if◌then◌else◌}
 use Rattle.std.proofs.lemmas.Bool.{false≢true}
 use Rattle.std.specs.FinSet.{contains}
 use Rattle.std.specs.List.{list_any, range_with_len}
-use Rattle.heap_spaces.specs.Collection.{Collection, page_of}
+use Rattle.heap_spaces.specs.Collection.{Collection}
 use Rattle.log_records.specs.declared.Record.{Record}
 use Rattle.read_barrier.specs.Barrier.{IsGrayIn, barrier_page_of}
 use Rattle.heap_memory.specs.Memory.{Memory}

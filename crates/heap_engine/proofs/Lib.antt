@@ -1,6 +1,8 @@
+pub mod Alone
 pub mod Applied
 pub mod CallsCore
 pub mod DeviceCalls
+pub mod Ends
 pub mod EventCore
 pub mod FlushCore
 pub mod FlushDisk
@@ -27,6 +29,7 @@ pub mod Scanned
 pub mod SealLaws
 pub mod SessionsCore
 pub mod SessionsLeft
+pub mod Spare
 pub mod StoreCore
 pub mod Tables
 pub mod TakenBack

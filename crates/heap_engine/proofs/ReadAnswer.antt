@@ -1,11 +1,9 @@
 -- What a read is answered is no failure of the disk.
-use Rattle.std.proofs.Common.{◌≡◌, ℕ, ◌<◌, Bool, true, false, List, [], ◌∷◌, Option, Some, None, Result, Ok, Err, refl}
-use Rattle.std.specs.Prelude.{nat_le, nat_lt, if◌then◌else◌, length}
-use Rattle.disk_model.specs.declared.disk.DiskError.{DiskError}
+use Rattle.std.proofs.Common.{◌≡◌, ℕ, Bool, true, false, List, [], ◌∷◌, Option, Some, None, Ok, refl}
+use Rattle.std.specs.Prelude.{nat_lt, if◌then◌else◌}
 use Rattle.graph_model.specs.declared.reply.Refusal.{Refusal}
-use Rattle.graph_model.specs.declared.reply.Refusal.TheVariants.{NotActive, BadHandle, BadField, LogFull, Busy}
+use Rattle.graph_model.specs.declared.reply.Refusal.TheVariants.{BadHandle, BadField, LogFull}
 use Rattle.graph_model.specs.declared.reply.Reply.{Reply}
-use Rattle.graph_model.specs.declared.reply.Reply.TheVariants as answer
 use Rattle.graph_model.specs.Plain.{busy_with, first_of_two, reply_of}
 use Rattle.heap_words.specs.declared.Word.{Word}
 use Rattle.heap_words.specs.declared.Word.TheVariants as word
@@ -15,9 +13,8 @@ use Rattle.object_locks.specs.declared.holding.Mode.{Mode}
 use Rattle.txn_table.specs.declared.place.Place.{Place}
 use Rattle.txn_table.specs.declared.place.Place.TheVariants.{Stable, Volatile}
 use Rattle.txn_table.specs.Table.{TransactionState}
-use Rattle.heap_model.specs.Core.{full_log}
 use Rattle.heap_memory.specs.Memory.{Memory, held_in, held_or, held_place, own}
-use Rattle.heap_memory.specs.Refusals.{and_then, field_refusal, get_refusal, handle_refusal, lock_refusal, read_refusal_of, records_room}
+use Rattle.heap_memory.specs.Refusals.{and_then, get_refusal, handle_refusal, lock_refusal, read_refusal_of, records_room}
 use Rattle.heap_memory.specs.Replies.{get_reply, meant_behind, word_reply}
 use Rattle.heap_engine.specs.StepResult.{reply_device}
 

@@ -1,9 +1,9 @@
 -- What holds of a log holds once more memory was taken for it.
-use Rattle.std.proofs.Common.{◌≡◌, ℕ, ◌+◌, ◌<◌, ◌≤◌, ◌^◌, List, ◌++◌, length, sym, ap, ◌∙◌, subst, arith}
+use Rattle.std.proofs.Common.{◌≡◌, ℕ, ◌+◌, ◌<◌, ◌≤◌, ◌^◌, List, [], append-nil, sym, ◌∙◌, subst, arith}
 use Rattle.std.proofs.lemmas.Bool.Decides.{nat_tests}
 use Rattle.gated_log.specs.declared.log.Log.{Log}
 use Rattle.gated_log.specs.LogRoom.{used_bytes}
-use Rattle.gated_log.specs.LogState.{log_room, log_tail, buffer_size, log_count, log_used_with, IsSameLog}
+use Rattle.gated_log.specs.LogState.{log_room, log_tail, buffer_size, log_count, log_used, log_used_with, IsSameLog, Keeps}
 use Rattle.heap_memory.specs.Leaves.{Adds}
 use Rattle.log_records.specs.declared.Record.{Record}
 use Rattle.memory_laws.proofs.Kept.Log.{keeps_same}
@@ -18,12 +18,23 @@ module _ (old mid : Log) (same : IsSameLog old mid) where
     kept = λ batches pending keeps. adds.kept batches pending (keeps_same old mid batches pending same keeps);
   }
 
+  -- or none are
+  pub adds_none : Adds old mid []
+  adds_none = record {
+    place = same.place;
+    kept = λ batches pending keeps. subst (Keeps mid batches) (sym (append-nil pending)) (keeps_same old mid batches pending same keeps);
+  }
+
   -- each page lacks its next record
   pub lacks_next : (at : Pages) → EachLacks (log_count old + 1) at → EachLacks (log_count mid + 1) at
   lacks_next at lacking = subst (λ (n : ℕ). EachLacks (n + 1) at) (sym same.count) lacking
 
   pub used_after : (n : ℕ) → log_used_with mid n ≡ log_used_with old n
   used_after n = λ i. used_bytes (same.place.tail i) (same.size i + n)
+
+  -- as many of its bytes are used
+  pub used_same : log_used mid ≡ log_used old
+  used_same = λ i. used_bytes (same.place.tail i) (same.size i)
 
   -- it has room for as many bytes
   pub room_after : (n : ℕ) → log_used_with old n ≤ log_room old → log_used_with mid n ≤ log_room mid

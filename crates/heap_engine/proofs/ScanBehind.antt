@@ -1,5 +1,5 @@
 -- The spaces, the collection and the words behind the records of a scan.
-use Rattle.std.proofs.Common.{◌≡◌, ◌≢◌, ℕ, ◌+◌, ◌-◌, ◌<◌, ◌≤◌, ◌==◌, ◌&&◌, Bool, true, false, List, [], ◌∷◌, ◌++◌, length, map, Option, None, Some, fold, get_or, nat_le, nat_lt, refl, sym, ap, ◌∙◌, subst, arith}
+use Rattle.std.proofs.Common.{◌≡◌, ◌≢◌, ℕ, ◌+◌, ◌-◌, ◌<◌, ◌≤◌, ◌==◌, Bool, true, false, List, [], ◌∷◌, length, Option, None, Some, fold, nat_le, nat_lt, refl, sym, ap, ◌∙◌, subst, arith}
 use Rattle.std.specs.Prelude.{slice_get, slice_index, slice_set, sum_by, unwrap_or, if◌then◌else◌}
 use Rattle.std.specs.List.{AllByRecursion, enumerate_from}
 use Rattle.std.specs.Option.{option_map}
@@ -19,10 +19,10 @@ use Rattle.log_records.specs.declared.Record.TheVariants.{Copy, Scan}
 use Rattle.log_machine.specs.Effect.{WritesBelow, EachWritesBelow}
 use Rattle.log_machine.specs.Machine.{put_all, put_record, copy_writes}
 use Rattle.log_machine.proofs.Addresses.{each_write}
-use Rattle.log_machine.proofs.ListLaws.{AllByRecursion-front, AllByRecursion-behind}
+use Rattle.log_machine.proofs.ListLaws.{AllByRecursion-front}
 use Rattle.log_machine.proofs.WordsFrom.{below_at, put_from-before, put_from-at, put_from-behind}
 use Rattle.log_machine.proofs.WordsLaws.{length-put_all, length-put_record}
-use Rattle.heap_memory.specs.Collecting.{copied_by, copied_in, words_copied, spaces_with, spaces_behind, collection_with, collection_behind}
+use Rattle.heap_memory.specs.Collecting.{copied_in, words_copied, spaces_behind, collection_behind}
 use Rattle.heap_engine.specs.Barrier.{is_page_scan, is_scan_of, copied_word, write_at, word_with, word_after, scanned_by}
 use Rattle.heap_engine.proofs.ScanRun.{both_parts, more_words}
 

@@ -1,9 +1,8 @@
 -- The records of a planned scan can be carried out.
-use Rattle.std.proofs.Common.{◌≡◌, ℕ, ◌+◌, ◌-◌, ◌*◌, ◌^◌, ◌<◌, ◌≤◌, ◌==◌, ◌||◌, ◌&&◌, not, Bool, true, false, List, [], ◌∷◌, length, map, Option, None, Some, refl, sym, ap, ◌∙◌, subst, arith, inl, inr, lit<}
-use Rattle.std.specs.Prelude.{Contains, unwrap_or, sum_by}
+use Rattle.std.proofs.Common.{◌≡◌, ℕ, ◌+◌, ◌-◌, ◌<◌, ◌≤◌, ◌==◌, ◌||◌, ◌&&◌, not, Bool, true, false, List, [], ◌∷◌, length, Option, None, Some, refl, sym, ap, ◌∙◌, subst, arith, lit<}
+use Rattle.std.specs.Prelude.{Contains}
 use Rattle.std.specs.List.{AllByRecursion, flat_map}
 use Rattle.std.specs.declared.cmp.Ordering.TheVariants.{Equal}
-use Rattle.std.specs.Option.{option_map}
 use Rattle.std.specs.FinMap as finmap
 use Rattle.std.specs.FinSet.{FinSet, contains, insert, contains-retain, nat_cmp-IsAntisymmetric}
 use Rattle.std.specs.Ordering.{nat_cmp}
@@ -13,9 +12,8 @@ use Rattle.heap_spaces.specs.declared.collection.CopiedObject.{CopiedObject}
 use Rattle.heap_spaces.specs.Addresses.{with_all, without_page}
 use Rattle.heap_spaces.specs.Collection.{Collection, owed_by, gray_from, page_of}
 use Rattle.heap_spaces.specs.Copying.{with_copies, with_scanned}
-use Rattle.heap_spaces.specs.Spaces.{SpacesState, IsSpaces, with_copied, space_words}
+use Rattle.heap_spaces.specs.Spaces.{SpacesState, IsSpaces, with_copied}
 use Rattle.log_records.specs.declared.Record.{Record}
-use Rattle.log_records.specs.Record.{spellings}
 use Rattle.log_machine.specs.Machine.{State, spaces_of, words_in}
 use Rattle.log_machine.specs.Effect.{EachWritesBelow}
 use Rattle.log_machine.specs.Sound.{IsLoser, IsConsistent}
@@ -24,8 +22,8 @@ use Rattle.log_machine.proofs.MapLaws.{each_empty}
 use Rattle.page_scanner.specs.Scan.{scan_records}
 use Rattle.page_scanner.specs.Passing.{IsScanned}
 use Rattle.heap_memory.specs.Memory.{Memory}
-use Rattle.heap_memory.specs.Collecting.{page_records, copied_in, words_copied, spaces_behind, collection_behind}
-use Rattle.heap_engine.specs.Barrier.{is_page_scan, is_scan_of, words_of, CanKeep, AreNewTo, IsSoundCollection, IsSoundIn, CanScan}
+use Rattle.heap_memory.specs.Collecting.{copied_in, words_copied, collection_behind}
+use Rattle.heap_engine.specs.Barrier.{CanKeep, AreNewTo, IsSoundCollection, IsSoundIn, CanScan}
 use Rattle.heap_engine.proofs.ScanBehind.{scan_spaces, scan_collection}
 use Rattle.heap_engine.proofs.ScanRecords.{scan_shaped}
 use Rattle.heap_engine.proofs.ScanRun.{StandsIn, IsRun, scan_run}

@@ -1,5 +1,5 @@
 -- The records of a planned scan are copies of objects, and the scan behind them, with few writes.
-use Rattle.std.proofs.Common.{◌≡◌, ℕ, zero, suc, ◌+◌, ◌*◌, ◌<◌, ◌≤◌, ◌==◌, ◌&&◌, Bool, true, false, List, [], ◌∷◌, ◌++◌, length, take, drop, Option, None, Some, nat_le, nat_lt, refl, sym, ap, ◌∙◌, subst, arith, length-append, length-take}
+use Rattle.std.proofs.Common.{◌≡◌, ℕ, zero, suc, ◌+◌, ◌*◌, ◌<◌, ◌≤◌, ◌==◌, ◌&&◌, Bool, true, false, List, [], ◌∷◌, ◌++◌, length, drop, Option, None, Some, nat_le, nat_lt, refl, ap, subst, arith, length-append, length-take}
 use Rattle.std.specs.Prelude.{slice_index, option_and_then, if◌then◌else◌}
 use Rattle.std.specs.List.{AllByRecursion}
 use Rattle.std.proofs.lemmas.Bool.{le-leb, lt-ltb, leb-true}
@@ -18,7 +18,7 @@ use Rattle.log_records.specs.declared.Record.TheVariants.{Copy, Scan}
 use Rattle.log_machine.proofs.ListLaws.{AllByRecursion-append}
 use Rattle.object_layout.specs.Layout.{whole_length, object_at, field_words}
 use Rattle.object_layout.proofs.LayoutLaws.{object_small}
-use Rattle.page_scanner.specs.Scan.{Planned, nothing, copied_to, in_from_space, next_free, object_words, can_copy, with_copy, copied, can_write, written, led, led_on, follow, follow_all, is_gray, source, visit, visit_all, is_current, scan, scan_records, records_of}
+use Rattle.page_scanner.specs.Scan.{Planned, nothing, copied_to, in_from_space, next_free, object_words, can_copy, with_copy, copied, can_write, written, led, led_on, follow, follow_all, is_gray, source, visit, visit_all, is_current, scan, scan_records}
 use Rattle.page_scanner.proofs.Steps.{two_steps, tested, planned_parts, IsKept, kept_scan}
 use Rattle.heap_engine.specs.Barrier.{is_page_scan, HasFewWords}
 use Rattle.heap_engine.proofs.ObjectFields.{fields_few}

@@ -1,6 +1,6 @@
 -- What the records of a scan do that follow one another.
-use Rattle.std.proofs.Common.{◌≡◌, ℕ, ◌+◌, ◌*◌, ◌<◌, ◌≤◌, ◌==◌, ◌||◌, ◌&&◌, Bool, true, false, not, List, [], ◌∷◌, length, Option, None, Some, nat_le, nat_lt, refl, sym, ap, ◌∙◌, subst, arith, length-append}
-use Rattle.std.specs.Prelude.{slice_index, sum_by, option_and_then, if◌then◌else◌}
+use Rattle.std.proofs.Common.{◌≡◌, ℕ, ◌+◌, ◌*◌, ◌<◌, ◌≤◌, ◌==◌, ◌||◌, ◌&&◌, Bool, true, false, not, List, [], ◌∷◌, length, None, Some, nat_le, nat_lt, refl, sym, ap, ◌∙◌, subst, arith, length-append}
+use Rattle.std.specs.Prelude.{slice_index, if◌then◌else◌}
 use Rattle.std.specs.List.{AllByRecursion}
 use Rattle.std.specs.Ordering.{nat_cmp}
 use Rattle.std.specs.FinSet.{FinSet, contains, insert}
@@ -22,7 +22,7 @@ use Rattle.log_machine.proofs.CopyRows.{can_copy_told, within, consistent_copy}
 use Rattle.log_machine.proofs.ListLaws.{AllByRecursion-map}
 use Rattle.page_scanner.specs.Passing.{collecting_after_all}
 use Rattle.page_scanner.proofs.Steps.{two_steps, tested}
-use Rattle.heap_memory.specs.Collecting.{copied_by, copied_in, words_copied}
+use Rattle.heap_memory.specs.Collecting.{copied_in, words_copied}
 use Rattle.heap_engine.specs.Barrier.{is_page_scan}
 use Rattle.heap_engine.proofs.TakenBack.{inserted_at}
 

@@ -1,5 +1,5 @@
 -- What the scan leaves that comes before a field is read or written.
-use Rattle.std.proofs.Common.{◌≡◌, ℕ, ◌+◌, ◌<◌, ◌≤◌, List, [], ◌∷◌, ◌++◌, Option, None, Some, Ok, fold, length, true, refl, sym, ap, ◌∙◌, subst, arith, length-append}
+use Rattle.std.proofs.Common.{◌≡◌, ℕ, ◌+◌, ◌<◌, List, [], ◌∷◌, ◌++◌, Option, Some, fold, length, true, sym, ap, ◌∙◌, subst, arith, length-append}
 use Rattle.std.specs.Prelude.{IsSome, IfSome, slice_index}
 use Rattle.std.specs.Option.{option_map}
 use Rattle.std.specs.FinSet as set
@@ -13,12 +13,11 @@ use Rattle.heap_spaces.specs.Spaces.{SpacesState, with_copied}
 use Rattle.log_records.specs.declared.Record.{Record}
 use Rattle.log_records.specs.declared.Record.TheVariants.{Update}
 use Rattle.log_records.specs.Record.{spelling, spellings}
-use Rattle.log_machine.specs.declared.UndoEntry.{UndoEntry}
 use Rattle.log_machine.specs.Machine.{field_at, put_record}
 use Rattle.object_layout.specs.Layout.{field_words}
 use Rattle.object_locks.specs.declared.holding.Mode.TheVariants.{Shared, Exclusive}
 use Rattle.txn_table.specs.declared.place.Place.TheVariants.{Stable}
-use Rattle.txn_table.specs.Table.{TransactionState, TableState, transaction_of, with_transaction, Changes}
+use Rattle.txn_table.specs.Table.{TableState, transaction_of, with_transaction, Changes}
 use Rattle.heap_memory.specs.Memory.{Memory, own}
 use Rattle.heap_memory.specs.Refusals.{asked}
 use Rattle.heap_memory.specs.Collecting.{copied_in, barrier_records, spaces_with, spaces_behind, collection_with, collection_behind}

@@ -1,4 +1,5 @@
 pub mod Barrier
+pub mod Ending
 pub mod EngineState
 pub mod Refinement
 pub mod Reserve

@@ -1,7 +1,7 @@
 //! The engine of an open heap: what it keeps in memory, and its one call, which makes an event.
-ghost use Rattle.std.specs.Prelude.{◌≡◌, ◌+◌, ◌≤◌, length, Ok, IfOk, IsTrue, IsSome, ◌↔◌};
+ghost use Rattle.std.specs.Prelude.{◌≡◌, ◌≢◌, ◌+◌, ◌≤◌, length, Ok, Err, IfOk, IsTrue, IsSome, ◌↔◌};
 ghost use Rattle.disk_model.specs.Keeps.{KeepsDisk};
-ghost use Rattle.gated_log.specs.LogState.{log_room, log_used, is_waiting};
+ghost use Rattle.gated_log.specs.LogState.{log_room, log_used, is_waiting, HasSpare};
 ghost use Rattle.heap_model.specs.Lsns.{log_next_lsn};
 ghost use Rattle.graph_model.specs.History.{account};
 ghost use Rattle.graph_model.specs.History.{IsOfSession};
@@ -14,9 +14,11 @@ ghost use Rattle.heap_memory.specs.Memory.{own};
 ghost use Rattle.heap_model.specs.Core.{Core, is_dirty};
 ghost use Rattle.memory_laws.specs.CoreMemory.{IsMemory};
 ghost use Rattle.heap_engine.specs.Barrier.{IsSoundIn};
+ghost use Rattle.heap_engine.specs.Ending.{NeedsNoMemory, SealsAlone, Ends};
 ghost use Rattle.heap_engine.specs.Reserve.{AreSound};
 ghost use Rattle.heap_engine.specs.StepResult.{engine_device, reply_device};
 
+use crate::seal::are_settled;
 use crate::step_error::StepError;
 use disk_model::Disk;
 use gated_log::Log;
@@ -53,6 +55,8 @@ pub struct Engine {
     ghost gray: { IsSoundIn spaces collection },
     // The log has room for what is kept.
     ghost room: { log_used log + reserved ≤ log_room log },
+    // There is memory for it too.
+    ghost spare: { HasSpare log reserved },
     ghost sound: { AreSound table (length (cached cache).words) reserved sealed },
     ghost sized: { length (cached cache).words ≡ words_in spaces.pages },
     ghost few: { length (cached cache).words ≤ 2097152 },
@@ -70,6 +74,7 @@ pub(crate) fn refused(why: Refusal) -> Reply
 impl Engine {
     ghost use Rattle.heap_engine.specs.EngineState.{memory, opened, LiesWithin, HasNotFailed};
     ghost use Rattle.heap_engine.specs.Refinement.{Steps, StepsOn};
+    ghost use Rattle.heap_engine.specs.declared.step_error.StepError.TheVariants.{NoMemory};
 
     /// The engine of a heap that was just opened: no session has a transaction, and a collection that runs goes on. It takes no memory.
     pub fn new(
@@ -116,9 +121,12 @@ impl Engine {
         // It is a step of the core that the engine is, and so is what a modelled disk holds.
         ensures core { Steps D.Disk event self.old disk.old self.new disk.new result }
         ensures holds { IsTrue D.tells → StepsOn D.Disk event self.old disk.old self.new disk.new result }
+        // When memory runs out transactions can be aborted, or sealed where they promote nothing, and what waits can be forced.
+        ensures memory { NeedsNoMemory (memory self.old) event → result ≢ Err NoMemory }
+        ensures ends { IfOk result (Ends (memory self.old) (memory self.new) event) }
     {
         match event {
-            Event::Begin { s } => Ok(self.begin(s)),
+            Event::Begin { s } => Ok(self.begin(s)?),
             Event::Root { s, h } => Ok(self.root(s, h)),
             Event::New { s, h, len } => Ok(self.make(s, h, len)?),
             Event::Put { s, h, i, v } => Ok(self.put(s, h, i, v)?),
@@ -129,7 +137,7 @@ impl Engine {
             Event::Same { s, h, h2 } => Ok(self.same(s, h, h2)),
             Event::Len { s, h } => Ok(self.len(s, h)),
             Event::Seal { s } => Ok(self.seal(s)?),
-            Event::Abort { s } => Ok(self.abort(s)?),
+            Event::Abort { s } => Ok(self.abort(s)),
             Event::Force => self.force(disk),
             Event::Flip => Ok(self.flip()?),
             Event::Scan => Ok(self.scan()?),
@@ -142,6 +150,13 @@ impl Engine {
         ensures { IsTrue result ↔ IsSome (own (memory self.now) session) }
     {
         self.table.active(session)
+    }
+
+    /// Whether a session has a transaction whose seal promotes nothing. It takes the time of what the transaction wrote.
+    pub fn seals_alone(&self, session: u32) -> bool
+        ensures { IsTrue result ↔ SealsAlone (memory self.now) (own (memory self.now) session) }
+    {
+        self.table.active(session) && are_settled(self.cache.as_slice(), self.table.undo(session))
     }
 
     /// How many transactions were sealed since the heap was opened.

@@ -164,7 +164,7 @@ impl Engine {
     pub(crate) fn make_room_for(&mut self, scan: &PagePlan) -> Result<Option<Refusal>, AllocError>
         requires few { length (spellings scan.now.records.items) < 2 ^ 32 + 2 ^ 24 }
         ensures why { IfOk result (λ why. why ≡ records_room (memory self.old) scan.now.records.items) }
-        ensures memory { result ≡ Ok None → HasSpare self.new.log (length (spellings scan.now.records.items)) }
+        ensures memory { result ≡ Ok None → HasSpare self.new.log (length (spellings scan.now.records.items) + self.new.reserved) }
         ensures room { result ≡ Ok None → log_used_with self.new.log (length (spellings scan.now.records.items)) + self.new.reserved ≤ log_room self.new.log }
         ensures same { IsAsItWas (memory self.old) (memory self.new) }
     {
@@ -248,7 +248,7 @@ impl Engine {
         if let Some(why) = log_refusal(&self.log, need_of(&self.log, bytes), reserved) {
             return Ok(refused(why));
         }
-        self.log.reserve(bytes as usize)?;
+        self.log.reserve((bytes + reserved) as usize)?;
         keep_copies(&mut self.collection, scan.copies())?;
         let entry = UndoEntry { object, field, was };
         if let Err(e) = keep_write(&mut self.table, &mut self.locks, session, entry, lock) {

@@ -24,6 +24,7 @@ mod logging;
 mod seal;
 mod step_error;
 mod storing;
+mod taking_back;
 mod transactions;
 
 pub use engine::Engine;

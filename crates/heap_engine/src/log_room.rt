@@ -51,18 +51,19 @@ impl Engine {
     ghost use Rattle.heap_memory.specs.Refusals.{reserved_without};
     ghost use Rattle.heap_engine.specs.EngineState.{memory};
 
-    /// Makes room in memory for records of so many bytes, or tells why the log has none for them. What is kept for transactions stays.
+    /// Makes room in memory for records of so many bytes, beside what ends all transactions, or tells why the log has none for them. What is
+    /// kept for transactions stays.
     pub(crate) fn make_room(&mut self, bytes: u64) -> Result<Option<Refusal>, AllocError>
         requires few { bytes < 2 ^ 32 + 2 ^ 24 }
         ensures why { IfOk result (λ why. why ≡ no_room self.old.log (log_need self.old.log bytes) (reserved self.old.table)) }
-        ensures memory { result ≡ Ok None → HasSpare self.new.log bytes }
+        ensures memory { result ≡ Ok None → HasSpare self.new.log (bytes + self.new.reserved) }
         ensures room { result ≡ Ok None → log_used_with self.new.log bytes + self.new.reserved ≤ log_room self.new.log }
         ensures same { IsAsItWas (memory self.old) (memory self.new) }
     {
         if let Some(why) = log_refusal(&self.log, need_of(&self.log, bytes), self.reserved) {
             return Ok(Some(why));
         }
-        self.log.reserve(bytes as usize)?;
+        self.log.reserve((bytes + self.reserved) as usize)?;
         Ok(None)
     }
 

@@ -1,5 +1,5 @@
 //! Records are appended to the log, and then put on their pages: no page has a record that the log lacks.
-ghost use Rattle.std.specs.Prelude.{◌≡◌, ◌≤◌, ◌++◌, ◌∷◌, [], length, fold};
+ghost use Rattle.std.specs.Prelude.{◌≡◌, ℕ, ◌+◌, ◌≤◌, ◌++◌, ◌∷◌, [], length, fold};
 ghost use Rattle.gated_log.specs.LogState.{log_room, log_used, log_used_with, HasSpare};
 ghost use Rattle.heap_memory.specs.Leaves.{Adds};
 ghost use Rattle.heap_model.specs.Lsns.{log_next_lsn};
@@ -24,6 +24,7 @@ pub(crate) fn carry_out(log: &mut Log, cache: &mut PageCache, records: &[Record]
     requires new { EachLacks (log_next_lsn log.old) (cached cache.old) }
     ensures log { Adds log.old log.new records.now }
     ensures used { log_used log.new ≡ log_used_with log.old (length (spellings records.now)) }
+    ensures spare { (more : ℕ) → HasSpare log.old (length (spellings records.now) + more) → HasSpare log.new more }
     ensures words { (cached cache.new).words ≡ fold put_record (cached cache.old).words records.now }
     ensures lsns { (cached cache.new).lsns ≡ (redo_all (log_next_lsn log.old) (cached cache.old) records.now).lsns }
     ensures store { cache_store cache.new ≡ cache_store cache.old }
@@ -43,6 +44,7 @@ pub(crate) fn carry_out_write(log: &mut Log, cache: &mut PageCache, scan: &[Reco
     requires new { EachLacks (log_next_lsn log.old) (cached cache.old) }
     ensures log { Adds log.old log.new (scan.now ++ write.now ∷ []) }
     ensures used { log_used log.new ≡ log_used_with log.old (length (spellings (scan.now ++ write.now ∷ []))) }
+    ensures spare { (more : ℕ) → HasSpare log.old (length (spellings (scan.now ++ write.now ∷ [])) + more) → HasSpare log.new more }
     ensures words { (cached cache.new).words ≡ fold put_record (cached cache.old).words (scan.now ++ write.now ∷ []) }
     ensures lsns { (cached cache.new).lsns ≡ (redo_all (log_next_lsn log.old) (cached cache.old) (scan.now ++ write.now ∷ [])).lsns }
     ensures store { cache_store cache.new ≡ cache_store cache.old }

@@ -1,5 +1,6 @@
 //! A seal: what has become reachable from a stable field is promoted, and the transaction is committed.
-ghost use Rattle.std.specs.Prelude.{◌≡◌, ◌+◌, ◌<◌, ◌≤◌, ◌^◌, length, Ok, OnErr, IfOk, IfSome, IsSome};
+ghost use Rattle.std.specs.Prelude.{◌≡◌, ◌↔◌, ◌+◌, ◌<◌, ◌≤◌, ◌^◌, length, Ok, OnErr, IfOk, IfSome, IsOk, IsSome, IsTrue};
+ghost use Rattle.gated_log.specs.LogState.{log_room, log_used_with, HasSpare};
 ghost use Rattle.graph_model.specs.Plain.{reply_of};
 ghost use Rattle.graph_model.specs.declared.reply.Reply.TheVariants.{Sealed};
 ghost use Rattle.heap_memory.specs.Memory.{own};
@@ -8,13 +9,17 @@ ghost use Rattle.heap_spaces.specs.Spaces.{open_words};
 ghost use Rattle.log_machine.specs.Effect.{EachWritesBelow};
 ghost use Rattle.log_records.specs.Record.{spellings};
 ghost use Rattle.page_cache.specs.CacheState.{cached};
-ghost use Rattle.heap_engine.specs.Seal.{IsFound};
+ghost use Rattle.heap_engine.specs.Ending.{SealsAlone, is_settled};
+ghost use Rattle.std.specs.List.{list_all};
+ghost use Rattle.heap_engine.specs.Seal.{IsFound, IsSealOf};
 
 use crate::engine::{Engine, refused};
 use crate::log_room::{bytes_of, log_refusal, need_of};
 use crate::logging::carry_out;
 use graph_model::{Refusal, Reply};
 use heap_spaces::Spaces;
+use heap_words::{FIELDS_AT, is_volatile};
+use log_machine::UndoEntry;
 use log_records::Record;
 use sealing::Sealing;
 use std::alloc::AllocError;
@@ -36,21 +41,41 @@ fn space_refusal(spaces: &Spaces, need: u64) -> Option<Refusal>
     }
 }
 
+/// Whether no field of these writes refers to an object of a transaction's area.
+pub(crate) fn are_settled(words: &[u64], undo: &[UndoEntry]) -> bool
+    ensures { result ≡ list_all (is_settled words.now) undo.now }
+{
+    undo.iter().all(|entry| is_settled(words, entry))
+}
+
+fn is_settled(words: &[u64], entry: &UndoEntry) -> bool
+    ensures { result ≡ is_settled words.now entry.now }
+{
+    let at = entry.object as usize + FIELDS_AT as usize + usize::from(entry.field);
+    let word = words.get(at).copied().unwrap_or(0);
+    !is_volatile(word)
+}
+
 impl Engine {
-    ghost use Rattle.heap_memory.specs.Refusals.{seal_refusal, sealing_records};
+    ghost use Rattle.heap_memory.specs.Refusals.{seal_refusal, sealing_records, reserved_without};
     ghost use Rattle.heap_memory.specs.Leaves.{IsAsItWas, Seals};
     ghost use Rattle.heap_engine.specs.EngineState.{memory};
 
     /// Seals the transaction, and tells how many have been sealed since the heap was opened. What its writes have made reachable from the
-    /// objects of the current space is promoted, and its locks are free again.
+    /// objects of the current space is promoted, and its locks are free again. Where nothing is promoted it takes no memory.
     pub(crate) fn seal(&mut self, session: u32) -> Result<Reply, AllocError>
         ensures reply { IfOk result (λ reply. reply ≡ reply_of (seal_refusal (memory self.old) session) (Sealed (self.old.sealed + 1))) }
         ensures sealed { (number : _) → result ≡ Ok (Sealed number) → Seals (memory self.old) (memory self.new) session }
         ensures refused { (why : _) → result ≡ Ok (Reply.Refused why) → IsAsItWas (memory self.old) (memory self.new) }
         ensures err { OnErr result (IsAsItWas (memory self.old) (memory self.new)) }
+        ensures alone { SealsAlone (memory self.old) (own (memory self.old) session) → result ≡ Ok (Sealed (self.old.sealed + 1)) }
     {
         if !self.table.active(session) {
             return Ok(refused(Refusal::NotActive));
+        }
+        if self.seals_alone(session) {
+            let t = self.table.area(session).transaction();
+            return Ok(self.append_seal(session, 0, &[Record::Commit { t }]));
         }
         let sealing = self.sealing(session)?;
         if let Some(why) = space_refusal(&self.spaces, sealing.need()) {
@@ -62,14 +87,30 @@ impl Engine {
         if let Some(why) = log_refusal(&self.log, need_of(&self.log, bytes), others) {
             return Ok(refused(why));
         }
-        self.log.reserve(bytes as usize)?;
-        carry_out(&mut self.log, &mut self.cache, &records);
-        let _taken = self.spaces.take(sealing.need());
+        self.log.reserve((bytes + others) as usize)?;
+        Ok(self.append_seal(session, sealing.need(), &records))
+    }
+
+    /// Appends the records of a seal, which takes so many words of the current space, and ends the transaction. There is room and memory for
+    /// them, and for the ends of the others.
+    fn append_seal(&mut self, session: u32, need: u64, records: &[Record]) -> Reply
+        requires active { IsSome (own (memory self.old) session) }
+        requires seals { IfSome (own (memory self.old) session) (λ t. IsSealOf (memory self.old) t need records.now) }
+        requires space { need ≤ open_words self.old.spaces }
+        requires inside { EachWritesBelow (length (cached self.old.cache).words) records.now }
+        requires room { IfSome (own (memory self.old) session) (λ t. log_used_with self.old.log (length (spellings records.now)) + reserved_without self.old.table t ≤ log_room self.old.log) }
+        requires memory { IfSome (own (memory self.old) session) (λ t. HasSpare self.old.log (length (spellings records.now) + reserved_without self.old.table t)) }
+        ensures reply { result ≡ Sealed (self.old.sealed + 1) }
+        ensures sealed { Seals (memory self.old) (memory self.new) session }
+    {
+        let others = self.reserved_without(session);
+        carry_out(&mut self.log, &mut self.cache, records);
+        let _taken = self.spaces.take(need);
         self.locks.release(self.table.number(session));
         self.table.end(session);
         self.reserved = others;
         self.sealed += 1;
-        Ok(Reply::Sealed { n: self.sealed })
+        Reply::Sealed { n: self.sealed }
     }
 
     /// What the seal of the transaction promotes.

@@ -1,11 +1,11 @@
 //! The events that write the disk: what is pending is forced, and a page is stored, never ahead of the log.
-ghost use Rattle.std.specs.Prelude.{◌≡◌, ◌⊎◌, ◌+◌, ◌≤◌, ◌<◌, ℕ, nat_lt, Ok, IfOk, IsTrue, OnOk, if◌then◌else◌};
+ghost use Rattle.std.specs.Prelude.{◌≡◌, ◌≢◌, ◌⊎◌, ◌+◌, ◌≤◌, ◌<◌, ℕ, nat_lt, Ok, Err, IfOk, IsTrue, OnOk, if◌then◌else◌};
 ghost use Rattle.disk_model.specs.Disk.{Only, SameOutside, part};
 ghost use Rattle.disk_model.specs.Keeps.{KeepsDisk};
 ghost use Rattle.disk_model.specs.Moments.{LeavesOnly};
 ghost use Rattle.gate_slot.specs.Passing.{Passes};
 ghost use Rattle.gated_log.specs.Log.{HoldsBatches, with_batch};
-ghost use Rattle.gated_log.specs.LogState.{log_place, log_room, log_forced, log_count, log_used, is_waiting, Keeps};
+ghost use Rattle.gated_log.specs.LogState.{log_place, log_room, log_forced, log_count, log_used, is_waiting, HasSpare, Keeps};
 ghost use Rattle.graph_model.specs.declared.event.Event.TheVariants.{Force, Flush};
 ghost use Rattle.graph_model.specs.History.{account};
 ghost use Rattle.image_plan.specs.declared.superblock.Super.{Super};
@@ -34,6 +34,7 @@ fn force_up_to<D: Disk>(log: &mut Log, disk: &mut D, lsn: u64) -> Result<(), Dis
     ensures same_room { log_room log.new ≡ log_room log.old }
     ensures count { log_count log.new ≡ log_count log.old }
     ensures used { log_used log.new ≤ log_used log.old }
+    ensures spare { (more : ℕ) → HasSpare log.old more → HasSpare log.new more }
 
     ensures held { IsTrue D.tells → (c : Core) → Keeps log.old c.batches c.pending → HoldsBatches (part (D.bytes disk.old) (log_place log.old) (log_room log.old)) c.batches
         → OnOk result (HoldsBatches (part (D.bytes disk.new) (log_place log.old) (log_room log.old)) (forced_if (nat_lt (log_forced log.old) lsn) c).batches) }
@@ -52,9 +53,11 @@ fn force_up_to<D: Disk>(log: &mut Log, disk: &mut D, lsn: u64) -> Result<(), Dis
 
 impl Engine {
     ghost use Rattle.heap_engine.specs.EngineState.{memory, LiesWithin, HasNotFailed};
+    ghost use Rattle.heap_engine.specs.Ending.{Ends};
     ghost use Rattle.heap_engine.specs.Refinement.{KnowsPages, OnDisk, IsLeftByStep, Steps, StepsOn};
+    ghost use Rattle.heap_engine.specs.declared.step_error.StepError.TheVariants.{NoMemory};
 
-    /// Forces what is pending.
+    /// Forces what is pending. It takes no memory.
     pub(crate) fn force<D: Disk>(&mut self, disk: &mut D) -> Result<Reply, StepError>
         requires inside { LiesWithin self.old (D.extent disk.old) }
         requires works { HasNotFailed self.old }
@@ -65,6 +68,8 @@ impl Engine {
         ensures answered { IfOk result (λ reply. reply_device reply ≡ Ok tt) }
         ensures core { Steps D.Disk Force self.old disk.old self.new disk.new result }
         ensures holds { IsTrue D.tells → StepsOn D.Disk Force self.old disk.old self.new disk.new result }
+        ensures memory { result ≢ Err NoMemory }
+        ensures ends { IfOk result (Ends (memory self.old) (memory self.new) Force) }
     {
         self.log.force(disk)?;
         Ok(Reply::Durable { n: self.sealed })

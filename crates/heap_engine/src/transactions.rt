@@ -5,10 +5,10 @@ ghost use Rattle.graph_model.specs.declared.reply.Reply.TheVariants.{Begun, Abor
 ghost use Rattle.heap_memory.specs.Memory.{own};
 
 use crate::engine::{Engine, refused};
-use crate::log_room::{bytes_of, log_refusal};
-use crate::logging::carry_out;
+use crate::log_room::log_refusal;
+use crate::taking_back::carry_out_abort;
 use graph_model::{Refusal, Reply};
-use log_machine::{LAST_NUMBER, abort_records, end_bytes};
+use log_machine::{LAST_NUMBER, end_bytes};
 use std::alloc::AllocError;
 
 /// The first number that no transaction has.
@@ -19,50 +19,49 @@ impl Engine {
     ghost use Rattle.heap_memory.specs.Leaves.{IsAsItWas, Begins, Aborts};
     ghost use Rattle.heap_engine.specs.EngineState.{memory};
 
-    /// Begins a transaction of the session, a number from 1 to 32, and returns its number. The log keeps room for its end.
-    pub(crate) fn begin(&mut self, session: u32) -> Reply
+    /// Begins a transaction of the session, a number from 1 to 32, and returns its number. The log keeps room for its end, and the memory.
+    pub(crate) fn begin(&mut self, session: u32) -> Result<Reply, AllocError>
         requires first { 1 ≤ session }
         requires last { session ≤ 32 }
-        ensures reply { result ≡ reply_of (begin_refusal (memory self.old) session) (Begun self.old.table.next) }
-        ensures begun { (n : _) → result ≡ Begun n → Begins (memory self.old) (memory self.new) session }
-        ensures refused { (why : _) → result ≡ Reply.Refused why → self.new ≡ self.old }
+        ensures reply { IfOk result (λ reply. reply ≡ reply_of (begin_refusal (memory self.old) session) (Begun self.old.table.next)) }
+        ensures begun { (n : _) → result ≡ Ok (Begun n) → Begins (memory self.old) (memory self.new) session }
+        ensures refused { (why : _) → result ≡ Ok (Reply.Refused why) → self.new ≡ self.old }
+        ensures err { OnErr result (IsAsItWas (memory self.old) (memory self.new)) }
     {
         if self.table.active(session) {
-            return refused(Refusal::AlreadyActive);
+            return Ok(refused(Refusal::AlreadyActive));
         }
         if self.table.next() == NO_NUMBER {
-            return refused(Refusal::NumbersSpent);
+            return Ok(refused(Refusal::NumbersSpent));
         }
         let reserved = self.reserved + end_bytes(0);
         if let Some(why) = log_refusal(&self.log, 0, reserved) {
-            return refused(why);
+            return Ok(refused(why));
         }
+        self.log.reserve(reserved as usize)?;
         let number = self.table.begin(session);
         self.reserved = reserved;
-        Reply::Begun {
+        Ok(Reply::Begun {
             n: u64::from(number),
-        }
+        })
     }
 
-    /// Takes back what the transaction wrote, and ends it: its locks are free again.
-    pub(crate) fn abort(&mut self, session: u32) -> Result<Reply, AllocError>
-        ensures reply { IfOk result (λ reply. reply ≡ reply_of (end_refusal (own (memory self.old) session)) Aborted) }
-        ensures aborted { result ≡ Ok Aborted → Aborts (memory self.old) (memory self.new) session }
-        ensures refused { (why : _) → result ≡ Ok (Reply.Refused why) → IsAsItWas (memory self.old) (memory self.new) }
-        ensures err { OnErr result (IsAsItWas (memory self.old) (memory self.new)) }
+    /// Takes back what the transaction wrote, and ends it: its locks are free again. It takes no memory.
+    pub(crate) fn abort(&mut self, session: u32) -> Reply
+        ensures reply { result ≡ reply_of (end_refusal (own (memory self.old) session)) Aborted }
+        ensures aborted { result ≡ Aborted → Aborts (memory self.old) (memory self.new) session }
+        ensures refused { (why : _) → result ≡ Reply.Refused why → self.new ≡ self.old }
     {
         if !self.table.active(session) {
-            return Ok(refused(Refusal::NotActive));
+            return refused(Refusal::NotActive);
         }
         let others = self.reserved_without(session);
         let number = self.table.number(session);
         let undo = self.table.undo(session);
-        let records = abort_records(self.alloc, number, undo)?;
-        self.log.reserve(bytes_of(&records) as usize)?;
-        carry_out(&mut self.log, &mut self.cache, &records);
+        carry_out_abort(&mut self.log, &mut self.cache, number, undo);
         self.locks.release(number);
         self.table.end(session);
         self.reserved = others;
-        Ok(Reply::Aborted)
+        Reply::Aborted
     }
 }

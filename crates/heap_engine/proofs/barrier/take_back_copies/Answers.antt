@@ -1,4 +1,4 @@
-use Rattle.heap_engine.proofs.TakenBack.{all_back, kept_words}
+use Rattle.heap_engine.proofs.TakenBack.{all_back}
 use Rattle.heap_engine.proofs.barrier.take_back_copies.Goals as goal
 
 pub returns-in-Some : goal.returns-in-Some

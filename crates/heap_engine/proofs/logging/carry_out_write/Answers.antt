@@ -1,5 +1,5 @@
 use Rattle.std.proofs.Common.{rules, ◌≡◌, ℕ, ◌+◌, List, [], ◌∷◌, ◌++◌, length, refl, sym, ap, ◌∙◌, subst, arith, length-append}
-use Rattle.gated_log.specs.LogState.{log_count}
+use Rattle.gated_log.specs.LogState.{log_count, log_used, log_used_with, log_need}
 use Rattle.log_machine.proofs.ListLaws.{AllByRecursion-behind}
 use Rattle.log_machine.proofs.WordsLaws.{length-put_record, length-put_records}
 use Rattle.log_machine.specs.Effect.{WritesBelow}
@@ -8,7 +8,11 @@ use Rattle.page_cache.specs.CacheState.{cached}
 use Rattle.page_redo.proofs.RedoLaws.{redo_all-append}
 use Rattle.page_redo.specs.Pages.{Pages}
 use Rattle.page_redo.specs.Redo.{redo_record, redo_all}
+use Rattle.log_records.specs.Record.{spelling, spellings}
+use Rattle.log_records.proofs.RecordLaws.{some_spelling}
+use Rattle.std.proofs.lemmas.List.Concat.{flat_map-append}
 use Rattle.heap_engine.proofs.Applied.{still_lacking}
+use Rattle.heap_engine.proofs.Spare.{size_with, size_after}
 use Rattle.heap_engine.proofs.logging.carry_out_write.Goals as goal
 
 -- the pages when records and one behind them were put on them
@@ -53,3 +57,22 @@ returns-clause-logged c =
     let last : log_count c.append.new.self ≡ log_count c.append_all.new.self + 1 = search rules in
     let now : log_count c.append.new.self ≡ count + length all = omega (arith, first, last, length-append c.args.scan.now (c.args.write.now ∷ [])) in
     still_lacking count (count + 1) (log_count c.append.new.self) (cached c.args.cache.now) (cached c.apply.new.self) all c.requires.new refl now are
+
+-- the bytes of all of them
+bytes : (scan : List Record) (write : Record) → length (spellings (scan ++ write ∷ [])) ≡ length (spellings scan) + length (spelling write)
+bytes scan write =
+    let all = ap length (flat_map-append spelling scan (write ∷ [])) in
+    omega (arith, all, length-append (spellings scan) (spellings (write ∷ [])), length-append (spelling write) [])
+
+pub returns-clause-spare : goal.returns-clause-spare
+returns-clause-spare c more spare =
+    let old = c.args.log.now in
+    let mid = c.append_all.new.self in
+    let new = c.append.new.self in
+    let first = length (spellings c.args.scan.now) in
+    let last = length (spelling c.args.write.now) in
+    let used : log_used mid ≡ log_used_with old first = search rules in
+    let then : log_used new ≡ log_used mid + log_need mid last = search rules in
+    let one = size_with old mid first c.append_all.ensures.place.tail used in
+    let two = size_after mid new last (some_spelling c.args.write.now) c.append.ensures.place.tail then in
+    omega (arith, bytes c.args.scan.now c.args.write.now, one, two, c.append_all.ensures.memory, c.append.ensures.memory, spare)

@@ -8,6 +8,7 @@ use Rattle.heap_model.specs.Core.{forced_if}
 use Rattle.heap_model.proofs.Step.Room.{forced-with_batch}
 use Rattle.log_records.specs.declared.Record.{Record}
 use Rattle.heap_engine.proofs.FlushDisk.{on_ok}
+use Rattle.heap_engine.proofs.Spare.{spare_forced}
 use Rattle.heap_engine.proofs.storing.force_up_to.Goals as goal
 
 pub returns-then-forced-lsn-clause-held : goal.returns-then-forced-lsn-clause-held
@@ -20,3 +21,7 @@ returns-then-forced-lsn-clause-held g c tells core keeps holds =
 
 pub returns-then-forced-lsn-clause-moments : goal.returns-then-forced-lsn-clause-moments
 returns-then-forced-lsn-clause-moments g c tells only core keeps holds = c.force.ensures.moments tells only core.batches core.pending keeps holds
+
+pub returns-then-forced-lsn-clause-spare : goal.returns-then-forced-lsn-clause-spare
+returns-then-forced-lsn-clause-spare g c more spare =
+    spare_forced c.force.result c.args.log.now c.force.new.self more c.force.ensures.nothing_waits c.force.ensures.err c.force.ensures.used c.force.ensures.memory spare

@@ -1,5 +1,10 @@
 use Rattle.log_machine.specs.Machine.{words_in}
-use Rattle.std.proofs.Common.{◌≤◌, ℕ, true, Result, Err, refl, sym, ap, ◌∙◌, subst}
+use Rattle.graph_model.specs.declared.reply.Entry.{Entry}
+use Rattle.heap_memory.specs.Memory.{Memory}
+use Rattle.heap_engine.specs.EngineState.{memory}
+use Rattle.heap_core.specs.Ending.{entries_kept}
+use Rattle.heap_core.proofs.KeptEntries.{kept_none}
+use Rattle.std.proofs.Common.{List, arith, ◌≤◌, ℕ, true, Result, Err, refl, sym, ap, ◌∙◌, subst}
 use Rattle.disk_model.specs.declared.disk.DiskError.{DiskError}
 use Rattle.disk_model.specs.Keeps.{OnlyReads}
 use Rattle.disk_model.proofs.MomentLaws.{begins}
@@ -156,3 +161,9 @@ returns-in-Err-clause-durable_damaged g c tells only at is = cc
 
 pub returns-in-Err-recover-clause-durable_damaged : goal.returns-in-Err-recover-clause-durable_damaged
 returns-in-Err-recover-clause-durable_damaged g c tells only at is = c.in-Err-recover.ensures.durable_damaged tells only at (ap (λ e. Err e) (damaged_as c.in-Err-recover.e at (sym c.from.ensures ∙ is)))
+
+pub invariant_of-result-clause-kept : goal.invariant_of-result-clause-kept
+invariant_of-result-clause-kept g c still =
+    let m = memory c.new-engine.result in
+    let none = kept_none m c.set_next.new.self.next (ap (λ (x : Memory). x.table) c.new-engine.ensures) (ap (λ (x : Memory). x.sealed) c.new-engine.ensures) in
+    omega (arith, none, ap (λ (l : List Entry). entries_kept m l) c.new-in-Ok-recover.ensures)

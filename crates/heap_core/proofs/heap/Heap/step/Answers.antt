@@ -1,4 +1,7 @@
-use Rattle.std.proofs.Common.{◌+◌, List, Result, Err, [], ◌∷◌, ◌++◌, length, refl, sym, ap, ◌∙◌, subst}
+use Rattle.std.specs.Prelude.{◌⊎◌, ◌<◌, ◌≤◌}
+use Rattle.heap_engine.specs.EngineState.{memory}
+use Rattle.heap_core.specs.Ending.{IsReady, entries_kept}
+use Rattle.std.proofs.Common.{ℕ, arith, ◌+◌, List, Result, Err, [], ◌∷◌, ◌++◌, length, refl, sym, ap, ◌∙◌, subst}
 use Rattle.disk_model.specs.Keeps.{KeepsDisk}
 use Rattle.disk_model.specs.declared.disk.DiskError.{DiskError}
 use Rattle.gate_slot.specs.Passing.{Passes}
@@ -13,14 +16,14 @@ use Rattle.heap_core.proofs.CrashLaws.{heap_left}
 use Rattle.heap_core.specs.HeapState.{entry_of}
 use Rattle.heap_core.proofs.StepCore.{remembers, whole_steps, cut_steps, failed_steps, with_history, whole_on, cut_on, failed_on, failed_passes}
 use Rattle.heap_engine.specs.declared.step_error.StepError.{StepError}
-use Rattle.heap_engine.specs.declared.step_error.StepError.TheVariants.{NoMemory, Disk}
 use Rattle.heap_engine.specs.Refinement.{IsLeftByStep, CameTo}
 use Rattle.heap_engine.specs.StepResult.{engine_device, StepPasses}
 use Rattle.heap_engine.proofs.DeviceCalls.{stays}
+use Rattle.heap_core.proofs.KeptEntries.{room_one, room_left, room_lacking}
 use Rattle.heap_core.proofs.heap.Heap.step.Goals as goal
 
-pub returns-in_err-reserve-clause-moments : goal.returns-in_err-reserve-clause-moments
-returns-in_err-reserve-clause-moments g c tells s core heap reached =
+pub returns-in_err-make_room-clause-moments : goal.returns-in_err-make_room-clause-moments
+returns-in_err-make_room-clause-moments g c tells s core heap reached =
     let d = g.D.Disk in
     let disk = c.args.self.now.disk in
     stays d.moment d.left_since disk (d.may_leave disk) (IsLeftByStep core (d.bytes disk)) (g.met.D.Disk.only_now tells disk) (heap_left s core _ _ heap.disk reached.sound)
@@ -79,7 +82,7 @@ returns-in-Ok-clause-core g c core heap reached =
       steps.next,
       steps.step,
       record {
-        history = with_history g.D.Disk core c.args.event c.in-Ok.reply _ _ _ c.args.self.now.history.entries _ heap.history (c.entered-in-Ok.ensures.entries ∙ ap (λ (l : List Entry). l ++ record { event = c.args.event; reply = c.in-Ok.reply } ∷ []) c.reserve.ensures.same) steps;
+        history = with_history g.D.Disk core c.args.event c.in-Ok.reply _ _ _ c.args.self.now.history.entries _ heap.history (c.entered-in-Ok.ensures.entries ∙ ap (λ (l : List Entry). l ++ record { event = c.args.event; reply = c.in-Ok.reply } ∷ []) c.make_room.ensures.same) steps;
         before = heap.before ∙ sym (same_step core steps.next c.args.event c.in-Ok.reply steps.step).before;
         memory = steps.memory;
         engine = steps.engine;
@@ -96,7 +99,7 @@ returns-in-Ok-clause-holds g c tells s core heap reached =
       steps.step,
       record {
         core = record {
-          history = with_history g.D.Disk core c.args.event c.in-Ok.reply _ _ _ c.args.self.now.history.entries _ heap.core.history (c.entered-in-Ok.ensures.entries ∙ ap (λ (l : List Entry). l ++ record { event = c.args.event; reply = c.in-Ok.reply } ∷ []) c.reserve.ensures.same) steps;
+          history = with_history g.D.Disk core c.args.event c.in-Ok.reply _ _ _ c.args.self.now.history.entries _ heap.core.history (c.entered-in-Ok.ensures.entries ∙ ap (λ (l : List Entry). l ++ record { event = c.args.event; reply = c.in-Ok.reply } ∷ []) c.make_room.ensures.same) steps;
           before = heap.core.before ∙ sym (same_step core steps.next c.args.event c.in-Ok.reply steps.step).before;
           memory = steps.memory;
           engine = steps.engine;
@@ -135,7 +138,7 @@ pub returns-in-Err-NoMemory-clause-kept : goal.returns-in-Err-NoMemory-clause-ke
 returns-in-Err-NoMemory-clause-kept g c core heap =
     let none = c.in_default.is in
     let is = c.step_on.ensures.core.kept (c.in-Err-NoMemory.is ∙ ap Err c.in-Err-NoMemory.field-0-is) core (heap.engine none) in
-    record { history = c.reserve.ensures.same ∙ heap.history; before = heap.before; memory = remembers g.D.Disk core c.step_on.new.self c.step_on.new.disk c.args.self.now.failed none is; engine = λ still. is }
+    record { history = c.make_room.ensures.same ∙ heap.history; before = heap.before; memory = remembers g.D.Disk core c.step_on.new.self c.step_on.new.disk c.args.self.now.failed none is; engine = λ still. is }
 
 pub returns-in-Err-NoMemory-clause-untouched : goal.returns-in-Err-NoMemory-clause-untouched
 returns-in-Err-NoMemory-clause-untouched g c = c.step_on.ensures.core.untouched (c.in-Err-NoMemory.is ∙ ap Err c.in-Err-NoMemory.field-0-is)
@@ -158,12 +161,12 @@ returns-in-Err-Disk-clause-core g c core heap reached =
     let cut = subst P err (c.step_on.ensures.core.core core engine reached) in
     let known = some_waits _ core.batches core.pending engine.memory.log in
     let steps = cut_steps g.D.Disk core c.args.event c.cut_short.result c.step_on.new.self c.step_on.new.disk (length c.entries.result.now) c.pending-pending.result _ engine.unfailed cut c.cut_short.ensures.told
-    (ap (λ (l : List Entry). length l) (c.entries.ensures ∙ c.reserve.ensures.same ∙ heap.history)) refl (λ yes. known.0 (sym c.pending-pending.ensures ∙ yes), λ some. c.pending-pending.ensures ∙ known.1 some) in
+    (ap (λ (l : List Entry). length l) (c.entries.ensures ∙ c.make_room.ensures.same ∙ heap.history)) refl (λ yes. known.0 (sym c.pending-pending.ensures ∙ yes), λ some. c.pending-pending.ensures ∙ known.1 some) in
     rw c.entered-in-Err-Disk.ensures.reply (
       steps.next,
       steps.step,
       record {
-        history = with_history g.D.Disk core c.args.event c.cut_short.result _ _ _ c.args.self.now.history.entries _ heap.history (c.entered-in-Err-Disk.ensures.entries ∙ ap (λ (l : List Entry). l ++ record { event = c.args.event; reply = c.cut_short.result } ∷ []) c.reserve.ensures.same) steps;
+        history = with_history g.D.Disk core c.args.event c.cut_short.result _ _ _ c.args.self.now.history.entries _ heap.history (c.entered-in-Err-Disk.ensures.entries ∙ ap (λ (l : List Entry). l ++ record { event = c.args.event; reply = c.cut_short.result } ∷ []) c.make_room.ensures.same) steps;
         before = heap.before ∙ sym (same_step core steps.next c.args.event c.cut_short.result steps.step).before;
         memory = steps.memory;
         engine = steps.engine;
@@ -178,13 +181,13 @@ returns-in-Err-Disk-clause-holds g c tells s core heap reached =
     let cut = subst P err (c.step_on.ensures.core.core core engine reached) in
     let known = some_waits _ core.batches core.pending engine.memory.log in
     let steps = cut_steps g.D.Disk core c.args.event c.cut_short.result c.step_on.new.self c.step_on.new.disk (length c.entries.result.now) c.pending-pending.result _ engine.unfailed cut c.cut_short.ensures.told
-    (ap (λ (l : List Entry). length l) (c.entries.ensures ∙ c.reserve.ensures.same ∙ heap.core.history)) refl (λ yes. known.0 (sym c.pending-pending.ensures ∙ yes), λ some. c.pending-pending.ensures ∙ known.1 some) in
+    (ap (λ (l : List Entry). length l) (c.entries.ensures ∙ c.make_room.ensures.same ∙ heap.core.history)) refl (λ yes. known.0 (sym c.pending-pending.ensures ∙ yes), λ some. c.pending-pending.ensures ∙ known.1 some) in
     rw c.entered-in-Err-Disk.ensures.reply (
       steps.next,
       steps.step,
       record {
         core = record {
-          history = with_history g.D.Disk core c.args.event c.cut_short.result _ _ _ c.args.self.now.history.entries _ heap.core.history (c.entered-in-Err-Disk.ensures.entries ∙ ap (λ (l : List Entry). l ++ record { event = c.args.event; reply = c.cut_short.result } ∷ []) c.reserve.ensures.same) steps;
+          history = with_history g.D.Disk core c.args.event c.cut_short.result _ _ _ c.args.self.now.history.entries _ heap.core.history (c.entered-in-Err-Disk.ensures.entries ∙ ap (λ (l : List Entry). l ++ record { event = c.args.event; reply = c.cut_short.result } ∷ []) c.make_room.ensures.same) steps;
           before = heap.core.before ∙ sym (same_step core steps.next c.args.event c.cut_short.result steps.step).before;
           memory = steps.memory;
           engine = steps.engine;
@@ -217,3 +220,33 @@ returns-in-Err-Disk-clause-passes g c tells core heap reached =
 
 pub returns-in-Err-Disk-clause-still : goal.returns-in-Err-Disk-clause-still
 returns-in-Err-Disk-clause-still g c core heap reached no_calls = c.step_on.ensures.core.still core (heap.engine c.in_default.is) reached no_calls
+
+-- The room for entries.
+
+pub entered-requires-in-Err-Disk : goal.entered-requires-in-Err-Disk
+entered-requires-in-Err-Disk g c =
+    let heap = c.args.self.now in
+    room_one heap.engine heap.history.entries c.args.event c.make_room.new.history.room (omega (arith, heap.kept c.in_default.is, c.make_room.ensures.kept)) c.in_ok-make_room.ensures.room
+
+pub entered-requires-in-Ok : goal.entered-requires-in-Ok
+entered-requires-in-Ok g c =
+    let heap = c.args.self.now in
+    room_one heap.engine heap.history.entries c.args.event c.make_room.new.history.room (omega (arith, heap.kept c.in_default.is, c.make_room.ensures.kept)) c.in_ok-make_room.ensures.room
+
+pub invariant_of-self-in-Ok-clause-kept : goal.invariant_of-self-in-Ok-clause-kept
+invariant_of-self-in-Ok-clause-kept g c still =
+    let heap = c.args.self.now in
+    let made = c.make_room.new.history in
+    let now = c.entered-in-Ok.new.history in
+    let room = subst (λ (n : ℕ). (65 < n) ⊎ IsReady (memory heap.engine) heap.history.entries c.args.event) (sym c.entered-in-Ok.ensures.room) c.in_ok-make_room.ensures.room in
+    let all = room_left heap.engine (memory c.step_on.new.self) heap.history.entries c.args.event c.in-Ok.reply now.room (omega (arith, heap.kept still, c.make_room.ensures.kept, c.entered-in-Ok.ensures.room)) room c.in-Ok.ensures.ends in
+    let entries = c.entered-in-Ok.ensures.entries ∙ ap (λ (l : List Entry). l ++ record { event = c.args.event; reply = c.in-Ok.reply } ∷ []) c.make_room.ensures.same in
+    subst (λ (l : List Entry). entries_kept (memory c.step_on.new.self) l ≤ now.room) (sym entries) all
+
+pub invariant_of-self-in-Err-NoMemory-clause-kept : goal.invariant_of-self-in-Err-NoMemory-clause-kept
+invariant_of-self-in-Err-NoMemory-clause-kept g c still =
+    let heap = c.args.self.now in
+    let made = c.make_room.new.history in
+    let all = room_lacking (memory heap.engine) (memory c.step_on.new.self) heap.history.entries c.args.event made.room
+    (λ needs. c.step_on.ensures.memory needs (c.in-Err-NoMemory.is ∙ ap Err c.in-Err-NoMemory.field-0-is)) c.in_ok-make_room.ensures.room in
+    subst (λ (l : List Entry). entries_kept (memory c.step_on.new.self) l ≤ made.room) (sym c.make_room.ensures.same) all

@@ -1,8 +1,11 @@
-use Rattle.std.proofs.Common.{◌≡◌, ℕ, ◌+◌, ◌≤◌, List, ◌++◌, length, reverse, Some, refl, sym, ap, ◌∙◌, subst, arith}
+use Rattle.std.proofs.Common.{◌≡◌, ℕ, ◌+◌, ◌≤◌, List, length, reverse, Some, refl, sym, ap, ◌∙◌, subst, arith}
 use Rattle.std.specs.Prelude.{◌<◌, IsSome, IfSome, fold}
 use Rattle.std.proofs.lemmas.List.Elements.{recursion_from_All}
-use Rattle.gated_log.specs.LogState.{log_room, log_used_with}
+use Rattle.gated_log.specs.LogState.{log_room, log_used_with, HasSpare}
 use Rattle.heap_memory.specs.Leaves.{Adds}
+use Rattle.heap_model.specs.Lsns.{log_next_lsn}
+use Rattle.log_machine.proofs.AbortLaws.{abort_length}
+use Rattle.page_redo.specs.Redo.{redo_all}
 use Rattle.log_records.specs.declared.Record.{Record}
 use Rattle.log_records.specs.Record.{spellings}
 use Rattle.log_machine.specs.declared.UndoEntry.{UndoEntry}
@@ -15,7 +18,6 @@ use Rattle.heap_engine.specs.declared.engine.Engine.{Engine}
 use Rattle.heap_engine.proofs.Tables.{there, told, sound_same, sound_ended}
 use Rattle.heap_engine.proofs.Room.{abort_room}
 use Rattle.heap_engine.proofs.Applied.{abort_below}
-use Rattle.heap_engine.proofs.Reserved.{adds_to, lacks_next, used_after, room_after, lsns_after, few_fit}
 use Rattle.heap_engine.proofs.engine.Engine.abort.Goals as goal
 
 -- The transaction that is aborted, the records that abort it, and what is kept for the others.
@@ -54,75 +56,79 @@ below s session others records a =
     let wrote = recursion_from_All (λ (u : UndoEntry). field_at u.object u.field < size) t.undo (s.sound.each session t a.was).inside in
     subst (λ (rs : List Record). EachWritesBelow size rs) (sym a.is) (abort_below size t.number t.undo wrote)
 
-pub bytes_of-requires : goal.bytes_of-requires
-bytes_of-requires c =
+-- there is memory for the records, and for what is kept for the others
+spare : (s : Engine) (session others : ℕ) (records : List Record) → IsAborted s session others records → HasSpare s.log (length (spellings records) + others)
+spare s session others records a =
+    let long : length (spellings records) + 5 ≡ end_bytes (length a.transaction.undo) =
+    ap (λ (rs : List Record). length (spellings rs) + 5) a.is ∙ abort_length a.transaction.number a.transaction.undo in
+    omega (arith, long, a.kept, s.spare)
+
+pub carry_out_abort-requires-clause-memory : goal.carry_out_abort-requires-clause-memory
+carry_out_abort-requires-clause-memory c =
     let s = c.args.self.now in
-    let a = aborted s c.args.session c.reserved_without-others.result c.number-number.result c.undo-undo.result.now c.deref.result.now (c.active.ensures.0 c.if-not-active.false)
-    c.reserved_without-others.ensures.kept c.number-number.ensures c.undo-undo.ensures (c.deref.ensures.value ∙ c.in_ok-records.ensures) in
-    omega (arith, few_fit s.log (length (spellings c.deref.result.now)) c.reserved_without-others.result (fits s c.args.session c.reserved_without-others.result c.deref.result.now a))
+    let others = c.reserved_without-others.result in
+    let records = abort_records c.number-number.result (reverse c.undo-undo.result.now) in
+    let a = aborted s c.args.session others c.number-number.result c.undo-undo.result.now records (c.active.ensures.0 c.if-not-active.false) c.reserved_without-others.ensures.kept c.number-number.ensures c.undo-undo.ensures refl in
+    omega (arith, spare s c.args.session others records a)
 
-pub reserve-requires : goal.reserve-requires
-reserve-requires c =
+pub carry_out_abort-requires-clause-room : goal.carry_out_abort-requires-clause-room
+carry_out_abort-requires-clause-room c =
     let s = c.args.self.now in
-    let a = aborted s c.args.session c.reserved_without-others.result c.number-number.result c.undo-undo.result.now c.deref.result.now (c.active.ensures.0 c.if-not-active.false)
-    c.reserved_without-others.ensures.kept c.number-number.ensures c.undo-undo.ensures (c.deref.ensures.value ∙ c.in_ok-records.ensures) in
-    omega (arith, c.bytes_of.ensures, few_fit s.log (length (spellings c.deref.result.now)) c.reserved_without-others.result (fits s c.args.session c.reserved_without-others.result c.deref.result.now a))
+    let others = c.reserved_without-others.result in
+    let records = abort_records c.number-number.result (reverse c.undo-undo.result.now) in
+    let a = aborted s c.args.session others c.number-number.result c.undo-undo.result.now records (c.active.ensures.0 c.if-not-active.false) c.reserved_without-others.ensures.kept c.number-number.ensures c.undo-undo.ensures refl in
+    omega (arith, fits s c.args.session others records a)
 
-pub carry_out-requires-clause-memory : goal.carry_out-requires-clause-memory
-carry_out-requires-clause-memory c =
-    let same = ap (λ (rs : List Record). length (spellings rs)) (c.deref.ensures.value ∙ sym c.deref-2.ensures.value) in
-    omega (arith, same, c.bytes_of.ensures, c.in_ok-reserve.ensures.spare)
-
-pub carry_out-requires-clause-room : goal.carry_out-requires-clause-room
-carry_out-requires-clause-room c =
+pub carry_out_abort-requires-clause-inside : goal.carry_out_abort-requires-clause-inside
+carry_out_abort-requires-clause-inside c =
     let s = c.args.self.now in
-    let a = aborted s c.args.session c.reserved_without-others.result c.number-number.result c.undo-undo.result.now c.deref-2.result.now (c.active.ensures.0 c.if-not-active.false)
-    c.reserved_without-others.ensures.kept c.number-number.ensures c.undo-undo.ensures (c.deref-2.ensures.value ∙ c.in_ok-records.ensures) in
-    room_after s.log c.reserve.new.self c.reserve.ensures.same (length (spellings c.deref-2.result.now)) (omega (arith, fits s c.args.session c.reserved_without-others.result c.deref-2.result.now a))
-
-pub carry_out-requires-clause-inside : goal.carry_out-requires-clause-inside
-carry_out-requires-clause-inside c =
-    let s = c.args.self.now in
-    let a = aborted s c.args.session c.reserved_without-others.result c.number-number.result c.undo-undo.result.now c.deref-2.result.now (c.active.ensures.0 c.if-not-active.false)
-    c.reserved_without-others.ensures.kept c.number-number.ensures c.undo-undo.ensures (c.deref-2.ensures.value ∙ c.in_ok-records.ensures) in
-    below s c.args.session c.reserved_without-others.result c.deref-2.result.now a
-
-pub carry_out-requires-clause-new : goal.carry_out-requires-clause-new
-carry_out-requires-clause-new c = let s = c.args.self.now in lacks_next s.log c.reserve.new.self c.reserve.ensures.same (cached s.cache) s.logged
+    let others = c.reserved_without-others.result in
+    let records = abort_records c.number-number.result (reverse c.undo-undo.result.now) in
+    let a = aborted s c.args.session others c.number-number.result c.undo-undo.result.now records (c.active.ensures.0 c.if-not-active.false) c.reserved_without-others.ensures.kept c.number-number.ensures c.undo-undo.ensures refl in
+    below s c.args.session others records a
 
 pub invariant_of-self-2-clause-room : goal.invariant_of-self-2-clause-room
 invariant_of-self-2-clause-room c =
     let s = c.args.self.now in
-    let a = aborted s c.args.session c.reserved_without-others.result c.number-number.result c.undo-undo.result.now c.deref-2.result.now (c.active.ensures.0 c.if-not-active.false)
-    c.reserved_without-others.ensures.kept c.number-number.ensures c.undo-undo.ensures (c.deref-2.ensures.value ∙ c.in_ok-records.ensures) in
-    let used = c.carry_out.ensures.used ∙ used_after s.log c.reserve.new.self c.reserve.ensures.same (length (spellings c.deref-2.result.now)) in
-    omega (arith, used, fits s c.args.session c.reserved_without-others.result c.deref-2.result.now a, c.carry_out.ensures.log.place.room, c.reserve.ensures.same.place.room)
+    let others = c.reserved_without-others.result in
+    let records = abort_records c.number-number.result (reverse c.undo-undo.result.now) in
+    let a = aborted s c.args.session others c.number-number.result c.undo-undo.result.now records (c.active.ensures.0 c.if-not-active.false) c.reserved_without-others.ensures.kept c.number-number.ensures c.undo-undo.ensures refl in
+    omega (arith, c.carry_out_abort.ensures.used, fits s c.args.session others records a, c.carry_out_abort.ensures.log.place.room)
+
+pub invariant_of-self-2-clause-spare : goal.invariant_of-self-2-clause-spare
+invariant_of-self-2-clause-spare c =
+    let s = c.args.self.now in
+    let others = c.reserved_without-others.result in
+    let records = abort_records c.number-number.result (reverse c.undo-undo.result.now) in
+    let a = aborted s c.args.session others c.number-number.result c.undo-undo.result.now records (c.active.ensures.0 c.if-not-active.false) c.reserved_without-others.ensures.kept c.number-number.ensures c.undo-undo.ensures refl in
+    c.carry_out_abort.ensures.spare others (spare s c.args.session others records a)
 
 pub invariant_of-self-2-clause-sound : goal.invariant_of-self-2-clause-sound
 invariant_of-self-2-clause-sound c =
     let s = c.args.self.now in
     let others = c.reserved_without-others.result in
-    let a = aborted s c.args.session c.reserved_without-others.result c.number-number.result c.undo-undo.result.now c.deref-2.result.now (c.active.ensures.0 c.if-not-active.false)
-    c.reserved_without-others.ensures.kept c.number-number.ensures c.undo-undo.ensures (c.deref-2.ensures.value ∙ c.in_ok-records.ensures) in
+    let records = abort_records c.number-number.result (reverse c.undo-undo.result.now) in
+    let a = aborted s c.args.session others c.number-number.result c.undo-undo.result.now records (c.active.ensures.0 c.if-not-active.false) c.reserved_without-others.ensures.kept c.number-number.ensures c.undo-undo.ensures refl in
     let ended = sound_ended s.table (length (cached s.cache).words) s.reserved others s.sealed s.sealed c.args.session a.transaction s.sound a.was a.kept (omega arith) in
-    sound_same (with_ended s.table c.args.session) c.end.new.self (length (cached s.cache).words) (length (cached c.carry_out.new.cache).words) others others s.sealed ended c.end.ensures c.carry_out.ensures.size refl
+    sound_same (with_ended s.table c.args.session) c.end.new.self (length (cached s.cache).words) (length (cached c.carry_out_abort.new.cache).words) others others s.sealed ended c.end.ensures c.carry_out_abort.ensures.size refl
 
 pub returns-clause-aborted : goal.returns-clause-aborted
 returns-clause-aborted c is =
     let s = c.args.self.now in
     let o = transaction_of s.table c.args.session in
-    let a = aborted s c.args.session c.reserved_without-others.result c.number-number.result c.undo-undo.result.now c.deref-2.result.now (c.active.ensures.0 c.if-not-active.false)
-    c.reserved_without-others.ensures.kept c.number-number.ensures c.undo-undo.ensures (c.deref-2.ensures.value ∙ c.in_ok-records.ensures) in
+    let others = c.reserved_without-others.result in
+    let records = abort_records c.number-number.result (reverse c.undo-undo.result.now) in
+    let a = aborted s c.args.session others c.number-number.result c.undo-undo.result.now records (c.active.ensures.0 c.if-not-active.false) c.reserved_without-others.ensures.kept c.number-number.ensures c.undo-undo.ensures refl in
     let t = a.transaction in
     let number = told o t (λ v. c.number-number.result ≡ v.number) a.was c.number-number.ensures in
     record {
       transaction = t;
       was = a.was;
       left = record {
-        log = subst (λ (rs : List Record). Adds s.log c.carry_out.new.log rs) a.is (adds_to s.log c.reserve.new.self c.reserve.ensures.same c.carry_out.new.log c.deref-2.result.now c.carry_out.ensures.log);
-        words = c.carry_out.ensures.words ∙ ap (λ (rs : List Record). fold put_record (cached s.cache).words rs) a.is;
-        lsns = lsns_after s.log c.reserve.new.self c.reserve.ensures.same (cached s.cache) (cached c.carry_out.new.cache) c.deref-2.result.now _ c.carry_out.ensures.lsns a.is;
-        store = c.carry_out.ensures.store;
+        log = subst (λ (rs : List Record). Adds s.log c.carry_out_abort.new.log rs) a.is c.carry_out_abort.ensures.log;
+        words = c.carry_out_abort.ensures.words ∙ ap (λ (rs : List Record). fold put_record (cached s.cache).words rs) a.is;
+        lsns = c.carry_out_abort.ensures.lsns ∙ ap (λ (rs : List Record). (redo_all (log_next_lsn s.log) (cached s.cache) rs).lsns) a.is;
+        store = c.carry_out_abort.ensures.store;
         table = c.end.ensures;
         locks = c.release.ensures ∙ ap (without s.locks) number;
         spaces = refl;

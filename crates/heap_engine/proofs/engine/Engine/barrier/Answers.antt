@@ -1,5 +1,5 @@
 use Rattle.heap_engine.specs.EngineState.{memory}
-use Rattle.std.proofs.Common.{◌≡◌, ℕ, Option, None, Some, refl, sym, ap, ◌∙◌, subst}
+use Rattle.std.proofs.Common.{refl, sym, ◌∙◌, subst}
 use Rattle.heap_engine.proofs.Found.{map_ok}
 use Rattle.heap_engine.specs.Barrier.{CanScan}
 use Rattle.heap_engine.proofs.ScanReady.{none_ready}

@@ -4,10 +4,11 @@ use Rattle.page_cache.specs.CacheState.{cached}
 use Rattle.txn_table.specs.Table.{transaction_of, with_begun}
 use Rattle.heap_engine.proofs.Tables.{idle, sound_same, sound_begun}
 use Rattle.heap_engine.proofs.Room.{room_left}
+use Rattle.heap_engine.proofs.Reserved.{adds_none, used_same}
 use Rattle.heap_engine.proofs.engine.Engine.begin.Goals as goal
 
-pub invariant_of-self-clause-sound : goal.invariant_of-self-clause-sound
-invariant_of-self-clause-sound c =
+pub invariant_of-self-2-clause-sound : goal.invariant_of-self-2-clause-sound
+invariant_of-self-2-clause-sound c =
     let old = c.args.self.now in
     let none = idle (transaction_of old.table c.args.session) c.active.result c.active.ensures c.if-active.false in
     let small : old.table.next + 1 < 2 ^ 32 = omega arith in
@@ -15,8 +16,30 @@ invariant_of-self-clause-sound c =
     sound_same (with_begun old.table c.args.session) c.begin-number.new.self (length (cached old.cache).words) (length (cached old.cache).words) (old.reserved + end_bytes 0) (old.reserved + c.end_bytes.result) old.sealed
     begun c.begin-number.ensures.begun refl (omega (arith, c.end_bytes.ensures))
 
-pub invariant_of-self-clause-room : goal.invariant_of-self-clause-room
-invariant_of-self-clause-room c =
+pub invariant_of-self-2-clause-room : goal.invariant_of-self-2-clause-room
+invariant_of-self-2-clause-room c =
     let old = c.args.self.now in
     let left = room_left old.log 0 (old.reserved + c.end_bytes.result) (sym c.log_refusal.ensures ∙ c.in_default.is) in
-    omega (arith, left)
+    omega (arith, left, used_same old.log c.reserve.new.self c.reserve.ensures.same, c.reserve.ensures.same.place.room)
+
+pub reserve-requires : goal.reserve-requires
+reserve-requires c =
+    let old = c.args.self.now in
+    let left = room_left old.log 0 (old.reserved + c.end_bytes.result) (sym c.log_refusal.ensures ∙ c.in_default.is) in
+    omega (arith, left, old.log.small)
+
+pub returns-clause-begun : goal.returns-clause-begun
+returns-clause-begun c n is = record {
+  log = adds_none c.args.self.now.log c.reserve.new.self c.reserve.ensures.same;
+  words = refl;
+  lsns = refl;
+  store = refl;
+  table = c.begin-number.ensures.begun;
+  locks = refl;
+  spaces = refl;
+  collection = refl;
+  sealed = refl;
+}
+
+pub invariant_of-self-2-clause-spare : goal.invariant_of-self-2-clause-spare
+invariant_of-self-2-clause-spare c = omega (arith, c.in_ok-reserve.ensures.spare)

@@ -1,5 +1,6 @@
-use Rattle.std.proofs.Common.{rules, ◌≡◌, ℕ, List, [], ◌∷◌, length, None, Some, refl, sym, ap, ◌∙◌, subst, arith}
+use Rattle.std.proofs.Common.{rules, ◌≡◌, ℕ, ◌+◌, length-append, List, [], ◌∷◌, length, None, Some, refl, sym, ap, ◌∙◌, subst, arith}
 use Rattle.std.specs.Prelude.{fold}
+use Rattle.gated_log.specs.LogState.{HasSpare}
 use Rattle.page_cache.specs.CacheState.{cached}
 use Rattle.heap_spaces.specs.Collection.{Collection}
 use Rattle.heap_spaces.specs.Copying.{begun, with_copies}
@@ -116,3 +117,10 @@ returns-then-is_some-clause-reply c =
     let s = c.args.self.now in
     let roots = some_roots s.table s.locks (length (cached s.cache).words) s.reserved s.sealed s.sound in
     (roots.0, roots.1, flip_waits (memory s) roots.0 (search rules))
+
+pub invariant_of-self-2-clause-spare : goal.invariant_of-self-2-clause-spare
+invariant_of-self-2-clause-spare c =
+    let mid = c.make_room.new.self in
+    let spare : HasSpare mid.log (c.length.result + mid.reserved) = search rules in
+    let long = c.length.ensures.value ∙ ap (λ (rec : Record). length (spelling rec)) (c.record.ensures ∙ sym c.into_record.ensures) in
+    c.carry_out.ensures.spare mid.reserved (omega (arith, spare, long, length-append (spelling c.into_record.result) []))

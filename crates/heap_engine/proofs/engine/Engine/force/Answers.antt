@@ -1,4 +1,4 @@
-use Rattle.std.proofs.Common.{rules, ◌≡◌, Result, Ok, Err, refl}
+use Rattle.std.proofs.Common.{rules, ◌≡◌, Ok, Err, refl}
 use Rattle.disk_model.proofs.MomentLaws.{weaker}
 use Rattle.graph_model.specs.declared.event.Event.TheVariants.{Force}
 use Rattle.graph_model.specs.declared.reply.Reply.TheVariants.{Durable}
@@ -9,6 +9,7 @@ use Rattle.heap_engine.specs.Refinement.{IsLeftByStep}
 use Rattle.heap_engine.proofs.DeviceCalls.{force_passes, no_calls_empty}
 use Rattle.heap_engine.proofs.EventCore.{engine_valid, engine_after}
 use Rattle.heap_engine.proofs.ForceCore.{same_log, keeps, holds, knows_forced, force_does, forced_on, force_leaves, force_cut_short}
+use Rattle.heap_engine.proofs.Spare.{spare_forced}
 use Rattle.heap_engine.proofs.engine.Engine.force.Goals as goal
 
 pub returns-clause-core : goal.returns-clause-core
@@ -86,3 +87,8 @@ returns-in_err-force-clause-holds g c tells =
       passes = λ core is reached.
           force_passes core log _ _ (Err e) (engine_valid d core old c.args.disk.now is reached) (keeps core old log is.memory (same_log old.log)) (c.in_err-force.ensures.passes tells);
     })
+
+pub invariant_of-self-clause-spare : goal.invariant_of-self-clause-spare
+invariant_of-self-clause-spare g c =
+    let log = c.args.self.now.log in
+    spare_forced c.force.result log c.force.new.self c.args.self.now.reserved c.force.ensures.nothing_waits c.force.ensures.err c.force.ensures.used c.force.ensures.memory c.args.self.now.spare

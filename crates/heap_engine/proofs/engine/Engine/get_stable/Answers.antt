@@ -1,4 +1,7 @@
-use Rattle.std.proofs.Common.{rules, ◌≡◌, refl, sym, ap, ◌∙◌}
+use Rattle.std.proofs.Common.{rules, ◌≡◌, ◌+◌, List, length, refl, sym, ap, ◌∙◌, arith}
+use Rattle.gated_log.specs.LogState.{HasSpare}
+use Rattle.log_records.specs.declared.Record.{Record}
+use Rattle.log_records.specs.Record.{spellings}
 use Rattle.std.specs.Prelude.{slice_index}
 use Rattle.std.specs.FinSet as set
 use Rattle.object_layout.specs.Layout.{field_words}
@@ -59,3 +62,10 @@ returns-clause-got c granted =
       sealed = refl;
     })
     c.requires.active c.number.ensures word c.read_into.ensures.left
+
+pub invariant_of-self-2-clause-spare : goal.invariant_of-self-2-clause-spare
+invariant_of-self-2-clause-spare c =
+    let mid = c.make_room_for.new.self in
+    let spare : HasSpare mid.log (length (spellings c.in_ok-scan.scan.records.items) + mid.reserved) = search rules in
+    let same = ap (λ (rs : List Record). length (spellings rs)) c.records.ensures in
+    c.carry_out.ensures.spare mid.reserved (omega (arith, spare, same))

@@ -1,4 +1,7 @@
-use Rattle.std.proofs.Common.{List, Some, sym, ap, ◌∙◌, arith}
+use Rattle.std.proofs.Common.{rules, ◌+◌, List, Some, length, sym, ap, ◌∙◌, arith}
+use Rattle.gated_log.specs.LogState.{HasSpare}
+use Rattle.log_records.specs.declared.Record.{Record}
+use Rattle.log_records.specs.Record.{spellings}
 use Rattle.heap_spaces.specs.declared.collection.CopiedObject.{CopiedObject}
 use Rattle.heap_memory.specs.Collecting.{spaces_behind, collection_behind}
 use Rattle.heap_memory.specs.Refusals.{scan_refusal}
@@ -67,3 +70,10 @@ returns-clause-scanned c objects words is =
       collection = is.collection ∙ (λ i. collection_behind (same.collection i) (sym c.records.ensures i));
       sealed = same.sealed;
     }))
+
+pub invariant_of-self-2-clause-spare : goal.invariant_of-self-2-clause-spare
+invariant_of-self-2-clause-spare c =
+    let mid = c.make_room_for.new.self in
+    let spare : HasSpare mid.log (length (spellings c.in_ok-scan.scan.records.items) + mid.reserved) = search rules in
+    let same = ap (λ (rs : List Record). length (spellings rs)) c.records.ensures in
+    c.carry_out.ensures.spare mid.reserved (omega (arith, spare, same))

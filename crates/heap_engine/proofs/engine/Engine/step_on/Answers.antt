@@ -1,30 +1,34 @@
+use Rattle.std.specs.Prelude.{IfOk}
 use Rattle.std.proofs.Common.{rules, ◌≡◌, ◌+◌, Result, Ok, Err, refl, sym, ap, ◌∙◌, subst}
 use Rattle.disk_model.specs.Keeps.{KeepsDisk}
 use Rattle.disk_model.proofs.KeepsLaws.{keeps_none}
 use Rattle.graph_model.specs.declared.reply.Reply.{Reply}
 use Rattle.graph_model.specs.declared.reply.Reply.TheVariants.{Begun, Done, Sealed, Aborted}
 use Rattle.heap_memory.specs.Memory.{own}
-use Rattle.heap_memory.specs.Refusals.{begin_refusal, handle_refusal, new_refusal, put_refusal, clear_refusal, link_refusal, get_refusal, seal_refusal, end_refusal}
+use Rattle.heap_memory.specs.Refusals.{begin_refusal, handle_refusal, new_refusal, put_refusal, clear_refusal, link_refusal, seal_refusal, end_refusal}
 use Rattle.heap_model.specs.Core.{AsksDisk}
 use Rattle.memory_laws.proofs.Does.{Does}
 use Rattle.heap_engine.specs.declared.step_error.StepError.{StepError}
 use Rattle.heap_engine.specs.declared.step_error.StepError.TheVariants.{NoMemory}
+use Rattle.heap_engine.specs.Ending.{NeedsNoMemory, Ends}
 use Rattle.heap_engine.specs.EngineState.{memory}
 use Rattle.heap_engine.specs.StepResult.{engine_device, reply_device}
-use Rattle.heap_engine.proofs.CallsCore.{begins, roots, drops, makes, puts, clears, links, gets, seals, aborts, flips, scans, compares, counts, either, answered, granted_or, read_or, flip_or, scan_or}
+use Rattle.heap_engine.proofs.CallsCore.{begins, roots, drops, makes, puts, clears, links, gets, seals, aborts, flips, scans, compares, counts, either, answered, granted_or, never_lacks, read_or, flip_or, scan_or}
 use Rattle.heap_engine.proofs.EventCore.{LeavesStored, leaves_same, leaves_as, same_as_it_was, LeavesDisk, call_leaves, lack_leaves}
+use Rattle.heap_engine.proofs.Ends.{ends_sealed, ends_aborted, ends_granted}
 use Rattle.heap_engine.proofs.Found.{map_ok}
 use Rattle.heap_engine.proofs.ReadAnswer.{read_answered}
 use Rattle.heap_engine.proofs.engine.Engine.step_on.Goals as goal
 
-pub returns-in-Begin : goal.returns-in-Begin
-returns-in-Begin g c =
+pub returns-in_ok-begin-in-Begin : goal.returns-in_ok-begin-in-Begin
+returns-in_ok-begin-in-Begin g c =
     let old = c.args.self.now in
     let new = c.begin.new.self in
-    let leaves = either (begin_refusal (memory old) c.in-Begin.s) (Begun old.table.next) c.begin.result (LeavesStored old new) c.begin.ensures.reply
+    let leaves = granted_or (begin_refusal (memory old) c.in-Begin.s) (Begun old.table.next) c.begin.result c.in_ok-begin-in-Begin.field-0 (LeavesStored old new) c.in_ok-begin-in-Begin.was c.begin.ensures.reply
     (λ done. let left = c.begin.ensures.begun old.table.next done in record { log = left.log.place; store = left.store }) (λ why refused. leaves_same old new (c.begin.ensures.refused why refused)) in
-    let all = call_leaves g.D.Disk c.args.event old new c.args.disk.now c.begin.result c.requires.session (subst AsksDisk c.in-Begin.is) leaves
-    (λ core is valid runs. begins (memory old) (memory new) core is valid runs c.args.event c.in-Begin.s c.begin.result c.in-Begin.is c.requires.session c.begin.ensures.reply c.begin.ensures.begun (λ why refused. ap memory (c.begin.ensures.refused why refused))) in
+    let all = call_leaves g.D.Disk c.args.event old new c.args.disk.now c.in_ok-begin-in-Begin.field-0 c.requires.session (subst AsksDisk c.in-Begin.is) leaves
+    (λ core is valid runs. answered c.begin.result c.in_ok-begin-in-Begin.field-0 (λ reply. Does core c.args.event reply (memory new)) c.in_ok-begin-in-Begin.was
+    (begins (memory old) (memory new) core is valid runs c.args.event c.in-Begin.s c.begin.result c.in-Begin.is c.requires.session c.begin.ensures.reply c.begin.ensures.begun (λ why refused. ap memory (c.begin.ensures.refused why refused)))) in
     record {
       inside = all.inside c.requires.inside;
       works = λ fine. all.works c.requires.works;
@@ -32,6 +36,26 @@ returns-in-Begin g c =
       answered = search rules;
       core = all.core;
       holds = λ tells. all.holds (g.met.D.Disk.only_now tells c.args.disk.now);
+      memory = λ none. absurd (subst (NeedsNoMemory (memory old)) c.in-Begin.is none);
+      ends = subst (λ e. Ends (memory old) (memory new) e c.in_ok-begin-in-Begin.field-0) (sym c.in-Begin.is) tt;
+    }
+
+pub returns-in_err-begin-in-Begin : goal.returns-in_err-begin-in-Begin
+returns-in_err-begin-in-Begin g c =
+    let old = c.args.self.now in
+    let new = c.begin.new.self in
+    let err : c.from_residual.result ≡ Err NoMemory = search rules in
+    let P : Result Reply StepError → Type 0 = λ r. LeavesDisk g.D.Disk c.args.event old new c.args.disk.now r in
+    let all = subst P (sym err) (lack_leaves g.D.Disk c.args.event old new c.args.disk.now c.in_err-begin-in-Begin.ensures.err) in
+    record {
+      inside = all.inside c.requires.inside;
+      works = λ fine. all.works c.requires.works;
+      disk = subst (λ (r : Result Reply StepError). KeepsDisk g.D.Disk c.args.disk.now c.args.disk.now (engine_device r)) (sym err) (keeps_none g.D.Disk c.args.disk.now tt);
+      answered = search rules;
+      core = all.core;
+      holds = λ tells. all.holds (g.met.D.Disk.only_now tells c.args.disk.now);
+      memory = λ none. absurd (subst (NeedsNoMemory (memory old)) c.in-Begin.is none);
+      ends = subst (λ (r : Result Reply StepError). IfOk r (Ends (memory old) (memory new) c.args.event)) (sym err) tt;
     }
 
 pub returns-in-Root : goal.returns-in-Root
@@ -49,6 +73,8 @@ returns-in-Root g c =
       answered = search rules;
       core = all.core;
       holds = λ tells. all.holds (g.met.D.Disk.only_now tells c.args.disk.now);
+      memory = λ none. absurd (subst (NeedsNoMemory (memory old)) c.in-Root.is none);
+      ends = subst (λ e. Ends (memory old) (memory new) e c.root.result) (sym c.in-Root.is) tt;
     }
 
 pub returns-in-Drop : goal.returns-in-Drop
@@ -66,6 +92,8 @@ returns-in-Drop g c =
       answered = search rules;
       core = all.core;
       holds = λ tells. all.holds (g.met.D.Disk.only_now tells c.args.disk.now);
+      memory = λ none. absurd (subst (NeedsNoMemory (memory old)) c.in-Drop.is none);
+      ends = subst (λ e. Ends (memory old) (memory new) e c.drop_handle.result) (sym c.in-Drop.is) tt;
     }
 
 pub returns-in-Same : goal.returns-in-Same
@@ -80,6 +108,8 @@ returns-in-Same g c =
       answered = search rules;
       core = all.core;
       holds = λ tells. all.holds (g.met.D.Disk.only_now tells c.args.disk.now);
+      memory = λ none. absurd (subst (NeedsNoMemory (memory old)) c.in-Same.is none);
+      ends = subst (λ e. Ends (memory old) (memory old) e c.same.result) (sym c.in-Same.is) tt;
     }
 
 pub returns-in-Len : goal.returns-in-Len
@@ -94,6 +124,8 @@ returns-in-Len g c =
       answered = search rules;
       core = all.core;
       holds = λ tells. all.holds (g.met.D.Disk.only_now tells c.args.disk.now);
+      memory = λ none. absurd (subst (NeedsNoMemory (memory old)) c.in-Len.is none);
+      ends = subst (λ e. Ends (memory old) (memory old) e c.len.result) (sym c.in-Len.is) tt;
     }
 
 pub returns-in_ok-make-in-New : goal.returns-in_ok-make-in-New
@@ -112,13 +144,15 @@ returns-in_ok-make-in-New g c =
       answered = search rules;
       core = all.core;
       holds = λ tells. all.holds (g.met.D.Disk.only_now tells c.args.disk.now);
+      memory = λ none. absurd (subst (NeedsNoMemory (memory old)) c.in-New.is none);
+      ends = subst (λ e. Ends (memory old) (memory new) e c.in_ok-make-in-New.field-0) (sym c.in-New.is) tt;
     }
 
 pub returns-in_err-make-in-New : goal.returns-in_err-make-in-New
 returns-in_err-make-in-New g c =
     let old = c.args.self.now in
     let new = c.make.new.self in
-    let err : c.from_residual.result ≡ Err NoMemory = search rules in
+    let err : c.from_residual-in_err-make-in-New.result ≡ Err NoMemory = search rules in
     let P : Result Reply StepError → Type 0 = λ r. LeavesDisk g.D.Disk c.args.event old new c.args.disk.now r in
     let all = subst P (sym err) (lack_leaves g.D.Disk c.args.event old new c.args.disk.now (same_as_it_was old new c.in_err-make-in-New.ensures.err)) in
     record {
@@ -128,6 +162,8 @@ returns-in_err-make-in-New g c =
       answered = search rules;
       core = all.core;
       holds = λ tells. all.holds (g.met.D.Disk.only_now tells c.args.disk.now);
+      memory = λ none. absurd (subst (NeedsNoMemory (memory old)) c.in-New.is none);
+      ends = subst (λ (r : Result Reply StepError). IfOk r (Ends (memory old) (memory new) c.args.event)) (sym err) tt;
     }
 
 pub returns-in_ok-put-in-Put : goal.returns-in_ok-put-in-Put
@@ -146,6 +182,8 @@ returns-in_ok-put-in-Put g c =
       answered = search rules;
       core = all.core;
       holds = λ tells. all.holds (g.met.D.Disk.only_now tells c.args.disk.now);
+      memory = λ none. absurd (subst (NeedsNoMemory (memory old)) c.in-Put.is none);
+      ends = subst (λ e. Ends (memory old) (memory new) e c.in_ok-put-in-Put.field-0) (sym c.in-Put.is) tt;
     }
 
 pub returns-in_err-put-in-Put : goal.returns-in_err-put-in-Put
@@ -162,6 +200,8 @@ returns-in_err-put-in-Put g c =
       answered = search rules;
       core = all.core;
       holds = λ tells. all.holds (g.met.D.Disk.only_now tells c.args.disk.now);
+      memory = λ none. absurd (subst (NeedsNoMemory (memory old)) c.in-Put.is none);
+      ends = subst (λ (r : Result Reply StepError). IfOk r (Ends (memory old) (memory new) c.args.event)) (sym err) tt;
     }
 
 pub returns-in_ok-clear-in-Clear : goal.returns-in_ok-clear-in-Clear
@@ -180,6 +220,8 @@ returns-in_ok-clear-in-Clear g c =
       answered = search rules;
       core = all.core;
       holds = λ tells. all.holds (g.met.D.Disk.only_now tells c.args.disk.now);
+      memory = λ none. absurd (subst (NeedsNoMemory (memory old)) c.in-Clear.is none);
+      ends = subst (λ e. Ends (memory old) (memory new) e c.in_ok-clear-in-Clear.field-0) (sym c.in-Clear.is) tt;
     }
 
 pub returns-in_err-clear-in-Clear : goal.returns-in_err-clear-in-Clear
@@ -196,6 +238,8 @@ returns-in_err-clear-in-Clear g c =
       answered = search rules;
       core = all.core;
       holds = λ tells. all.holds (g.met.D.Disk.only_now tells c.args.disk.now);
+      memory = λ none. absurd (subst (NeedsNoMemory (memory old)) c.in-Clear.is none);
+      ends = subst (λ (r : Result Reply StepError). IfOk r (Ends (memory old) (memory new) c.args.event)) (sym err) tt;
     }
 
 pub returns-in_ok-link-in-Link : goal.returns-in_ok-link-in-Link
@@ -214,6 +258,8 @@ returns-in_ok-link-in-Link g c =
       answered = search rules;
       core = all.core;
       holds = λ tells. all.holds (g.met.D.Disk.only_now tells c.args.disk.now);
+      memory = λ none. absurd (subst (NeedsNoMemory (memory old)) c.in-Link.is none);
+      ends = subst (λ e. Ends (memory old) (memory new) e c.in_ok-link-in-Link.field-0) (sym c.in-Link.is) tt;
     }
 
 pub returns-in_err-link-in-Link : goal.returns-in_err-link-in-Link
@@ -230,6 +276,8 @@ returns-in_err-link-in-Link g c =
       answered = search rules;
       core = all.core;
       holds = λ tells. all.holds (g.met.D.Disk.only_now tells c.args.disk.now);
+      memory = λ none. absurd (subst (NeedsNoMemory (memory old)) c.in-Link.is none);
+      ends = subst (λ (r : Result Reply StepError). IfOk r (Ends (memory old) (memory new) c.args.event)) (sym err) tt;
     }
 
 pub returns-in_ok-get-in-Get : goal.returns-in_ok-get-in-Get
@@ -250,6 +298,8 @@ returns-in_ok-get-in-Get g c =
           (map_ok c.get.result _ (λ (x : Reply). reply_device x ≡ Ok tt) (λ x is. ap reply_device is ∙ read_answered (memory old) c.in-Get.s c.in-Get.h c.in-Get.i c.in-Get.h2) c.get.ensures.reply);
       core = all.core;
       holds = λ tells. all.holds (g.met.D.Disk.only_now tells c.args.disk.now);
+      memory = λ none. absurd (subst (NeedsNoMemory (memory old)) c.in-Get.is none);
+      ends = subst (λ e. Ends (memory old) (memory new) e c.in_ok-get-in-Get.field-0) (sym c.in-Get.is) tt;
     }
 
 pub returns-in_err-get-in-Get : goal.returns-in_err-get-in-Get
@@ -266,6 +316,8 @@ returns-in_err-get-in-Get g c =
       answered = search rules;
       core = all.core;
       holds = λ tells. all.holds (g.met.D.Disk.only_now tells c.args.disk.now);
+      memory = λ none. absurd (subst (NeedsNoMemory (memory old)) c.in-Get.is none);
+      ends = subst (λ (r : Result Reply StepError). IfOk r (Ends (memory old) (memory new) c.args.event)) (sym err) tt;
     }
 
 pub returns-in_ok-seal-in-Seal : goal.returns-in_ok-seal-in-Seal
@@ -284,6 +336,8 @@ returns-in_ok-seal-in-Seal g c =
       answered = search rules;
       core = all.core;
       holds = λ tells. all.holds (g.met.D.Disk.only_now tells c.args.disk.now);
+      memory = λ none is. cc is;
+      ends = subst (λ e. Ends (memory old) (memory new) e c.in_ok-seal-in-Seal.field-0) (sym c.in-Seal.is) (λ alone. let was = c.seal.ensures.alone alone in (cc (was, c.in_ok-seal-in-Seal.was), ends_sealed old new c.in-Seal.s (c.seal.ensures.sealed (old.sealed + 1) was)));
     }
 
 pub returns-in_err-seal-in-Seal : goal.returns-in_err-seal-in-Seal
@@ -300,17 +354,18 @@ returns-in_err-seal-in-Seal g c =
       answered = search rules;
       core = all.core;
       holds = λ tells. all.holds (g.met.D.Disk.only_now tells c.args.disk.now);
+      memory = λ none. absurd (never_lacks c.seal.result _ _ c.in_err-seal-in-Seal.was (c.seal.ensures.alone (subst (NeedsNoMemory (memory old)) c.in-Seal.is none)));
+      ends = subst (λ (r : Result Reply StepError). IfOk r (Ends (memory old) (memory new) c.args.event)) (sym err) tt;
     }
 
-pub returns-in_ok-abort-in-Abort : goal.returns-in_ok-abort-in-Abort
-returns-in_ok-abort-in-Abort g c =
+pub returns-in-Abort : goal.returns-in-Abort
+returns-in-Abort g c =
     let old = c.args.self.now in
     let new = c.abort.new.self in
-    let leaves = granted_or (end_refusal (own (memory old) c.in-Abort.s)) Aborted c.abort.result c.in_ok-abort-in-Abort.field-0 (LeavesStored old new) c.in_ok-abort-in-Abort.was c.abort.ensures.reply
-    (λ done. let left = (c.abort.ensures.aborted done).left in record { log = left.log.place; store = left.store }) (λ why refused. leaves_as old new (c.abort.ensures.refused why refused)) in
-    let all = call_leaves g.D.Disk c.args.event old new c.args.disk.now c.in_ok-abort-in-Abort.field-0 c.requires.session (subst AsksDisk c.in-Abort.is) leaves
-    (λ core is valid runs. answered c.abort.result c.in_ok-abort-in-Abort.field-0 (λ reply. Does core c.args.event reply (memory new)) c.in_ok-abort-in-Abort.was
-    (aborts (memory old) (memory new) core is valid runs c.args.event c.in-Abort.s c.abort.result c.in-Abort.is c.abort.ensures.reply c.abort.ensures.aborted c.abort.ensures.refused)) in
+    let leaves = either (end_refusal (own (memory old) c.in-Abort.s)) Aborted c.abort.result (LeavesStored old new) c.abort.ensures.reply
+    (λ done. let left = (c.abort.ensures.aborted done).left in record { log = left.log.place; store = left.store }) (λ why refused. leaves_same old new (c.abort.ensures.refused why refused)) in
+    let all = call_leaves g.D.Disk c.args.event old new c.args.disk.now c.abort.result c.requires.session (subst AsksDisk c.in-Abort.is) leaves
+    (λ core is valid runs. aborts (memory old) (memory new) core is valid runs c.args.event c.in-Abort.s c.abort.result c.in-Abort.is c.abort.ensures.reply c.abort.ensures.aborted (λ why refused. ap memory (c.abort.ensures.refused why refused))) in
     record {
       inside = all.inside c.requires.inside;
       works = λ fine. all.works c.requires.works;
@@ -318,22 +373,8 @@ returns-in_ok-abort-in-Abort g c =
       answered = search rules;
       core = all.core;
       holds = λ tells. all.holds (g.met.D.Disk.only_now tells c.args.disk.now);
-    }
-
-pub returns-in_err-abort-in-Abort : goal.returns-in_err-abort-in-Abort
-returns-in_err-abort-in-Abort g c =
-    let old = c.args.self.now in
-    let new = c.abort.new.self in
-    let err : c.from_residual-in_err-abort-in-Abort.result ≡ Err NoMemory = search rules in
-    let P : Result Reply StepError → Type 0 = λ r. LeavesDisk g.D.Disk c.args.event old new c.args.disk.now r in
-    let all = subst P (sym err) (lack_leaves g.D.Disk c.args.event old new c.args.disk.now c.in_err-abort-in-Abort.ensures.err) in
-    record {
-      inside = all.inside c.requires.inside;
-      works = λ fine. all.works c.requires.works;
-      disk = subst (λ (r : Result Reply StepError). KeepsDisk g.D.Disk c.args.disk.now c.args.disk.now (engine_device r)) (sym err) (keeps_none g.D.Disk c.args.disk.now tt);
-      answered = search rules;
-      core = all.core;
-      holds = λ tells. all.holds (g.met.D.Disk.only_now tells c.args.disk.now);
+      memory = λ none is. cc is;
+      ends = subst (λ e. Ends (memory old) (memory new) e c.abort.result) (sym c.in-Abort.is) (λ some. let done = ends_granted (own (memory old) c.in-Abort.s) c.abort.result some c.abort.ensures.reply in (done, ends_aborted old new c.in-Abort.s (c.abort.ensures.aborted done)));
     }
 
 pub returns-in_ok-flip-in-Flip : goal.returns-in_ok-flip-in-Flip
@@ -355,6 +396,8 @@ returns-in_ok-flip-in-Flip g c =
       answered = search rules;
       core = all.core;
       holds = λ tells. all.holds (g.met.D.Disk.only_now tells c.args.disk.now);
+      memory = λ none. absurd (subst (NeedsNoMemory (memory old)) c.in-Flip.is none);
+      ends = subst (λ e. Ends (memory old) (memory new) e c.in_ok-flip-in-Flip.field-0) (sym c.in-Flip.is) tt;
     }
 
 pub returns-in_err-flip-in-Flip : goal.returns-in_err-flip-in-Flip
@@ -371,6 +414,8 @@ returns-in_err-flip-in-Flip g c =
       answered = search rules;
       core = all.core;
       holds = λ tells. all.holds (g.met.D.Disk.only_now tells c.args.disk.now);
+      memory = λ none. absurd (subst (NeedsNoMemory (memory old)) c.in-Flip.is none);
+      ends = subst (λ (r : Result Reply StepError). IfOk r (Ends (memory old) (memory new) c.args.event)) (sym err) tt;
     }
 
 pub returns-in_ok-scan-in-Scan : goal.returns-in_ok-scan-in-Scan
@@ -393,6 +438,8 @@ returns-in_ok-scan-in-Scan g c =
       answered = search rules;
       core = all.core;
       holds = λ tells. all.holds (g.met.D.Disk.only_now tells c.args.disk.now);
+      memory = λ none. absurd (subst (NeedsNoMemory (memory old)) c.in-Scan.is none);
+      ends = subst (λ e. Ends (memory old) (memory new) e c.in_ok-scan-in-Scan.field-0) (sym c.in-Scan.is) tt;
     }
 
 pub returns-in_err-scan-in-Scan : goal.returns-in_err-scan-in-Scan
@@ -409,4 +456,6 @@ returns-in_err-scan-in-Scan g c =
       answered = search rules;
       core = all.core;
       holds = λ tells. all.holds (g.met.D.Disk.only_now tells c.args.disk.now);
+      memory = λ none. absurd (subst (NeedsNoMemory (memory old)) c.in-Scan.is none);
+      ends = subst (λ (r : Result Reply StepError). IfOk r (Ends (memory old) (memory new) c.args.event)) (sym err) tt;
     }

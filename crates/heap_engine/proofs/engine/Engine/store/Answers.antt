@@ -1,10 +1,12 @@
-use Rattle.std.proofs.Common.{rules, ◌≡◌, Bool, Err, refl, sym, ap, ◌∙◌, subst, ⊎_elim}
+use Rattle.std.proofs.Common.{rules, ◌≡◌, ℕ, ◌+◌, Bool, Err, refl, sym, ap, ◌∙◌, subst, arith, ⊎_elim}
 use Rattle.std.specs.Prelude.{is_err}
 use Rattle.disk_model.specs.Disk.{part}
 use Rattle.disk_model.proofs.MomentLaws.{joined, weaker}
 use Rattle.gate_slot.specs.Passing.{Passes}
 use Rattle.gated_log.specs.Log.{HoldsBatches}
-use Rattle.gated_log.specs.LogState.{log_place, log_room, Keeps}
+use Rattle.gated_log.specs.LogState.{log_place, log_room, log_count, Keeps}
+use Rattle.page_cache.specs.CacheState.{cached}
+use Rattle.page_redo.specs.Redo.{EachLacks}
 use Rattle.heap_model.specs.Core.{forced_if, flush_calls}
 use Rattle.page_redo.specs.Pages.{Pages}
 use Rattle.heap_engine.specs.Refinement.{IsLeftByStep}
@@ -99,3 +101,29 @@ returns-clause-passes g c tells core works pages =
     let knows = knows_mid core w c.args.p works c.requires.page old mid old pages outside in
     flush_passes core w c.args.p works c.requires.page c.lsn.result _ _ _ old mid c.flush.result c.lsn.ensures.value c.requires.dirty pages outside
     (c.in_ok-force_up_to.ensures.passes tells) (c.flush.ensures.calls tells knows)
+
+-- the log when what was pending was forced, or was not
+logged : (at now : Pages) (old new : ℕ) → EachLacks (old + 1) at → new ≡ old → now ≡ at → EachLacks (new + 1) now
+logged at now old new lacking count is = subst (EachLacks (new + 1)) (sym is) (subst (λ n. EachLacks (n + 1) at) (sym count) lacking)
+
+pub invariant_of-self : goal.invariant_of-self
+invariant_of-self g c =
+    let e = c.args.self.now in
+    record {
+      owed = e.owed;
+      gray = e.gray;
+      room = omega (arith, e.room, c.force_up_to.ensures.used, c.force_up_to.ensures.same_room);
+      spare = c.force_up_to.ensures.spare e.reserved e.spare;
+      sound = e.sound;
+      sized = e.sized;
+      few = e.few;
+      logged = logged (cached e.cache) (cached e.cache) (log_count e.log) (log_count c.force_up_to.new.log) e.logged c.force_up_to.ensures.count refl;
+    }
+
+pub invariant_of-self-2-clause-spare : goal.invariant_of-self-2-clause-spare
+invariant_of-self-2-clause-spare g c = let e = c.args.self.now in c.force_up_to.ensures.spare e.reserved e.spare
+
+pub invariant_of-self-2-clause-logged : goal.invariant_of-self-2-clause-logged
+invariant_of-self-2-clause-logged g c =
+    let e = c.args.self.now in
+    logged (cached e.cache) (cached c.flush.new.self) (log_count e.log) (log_count c.force_up_to.new.log) e.logged c.force_up_to.ensures.count c.flush.ensures.pages

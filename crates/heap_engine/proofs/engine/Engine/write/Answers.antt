@@ -1,8 +1,7 @@
-use Rattle.std.proofs.Common.{◌≡◌, ℕ, ◌≤◌, List, length, Option, sym, ap, ◌∙◌, subst, arith}
-use Rattle.std.specs.Prelude.{IsSome, IsSomeAnd, IfSome}
+use Rattle.std.proofs.Common.{◌≡◌, length, Option, sym, ap, ◌∙◌, subst, arith}
+use Rattle.std.specs.Prelude.{IsSomeAnd}
 use Rattle.page_cache.specs.CacheState.{cached}
 use Rattle.volatile_area.specs.Area.{HasField, with_field}
-use Rattle.txn_table.specs.declared.place.Place.{Place}
 use Rattle.txn_table.specs.Table.{TransactionState, transaction_of}
 use Rattle.heap_memory.specs.Memory.{fields_at}
 use Rattle.heap_engine.proofs.Tables.{there, told, sound_area}

@@ -1,5 +1,5 @@
-use Rattle.std.proofs.Common.{rules, ◌≡◌, ◌+◌, ◌≤◌, ◌++◌, [], ◌∷◌, List, length, true, refl, sym, ap, ◌∙◌, subst, arith}
-use Rattle.gated_log.specs.LogState.{log_room, log_used, log_need, log_used_with}
+use Rattle.std.proofs.Common.{rules, ◌≡◌, ◌+◌, ◌++◌, [], ◌∷◌, List, length, true, refl, sym, ap, ◌∙◌, subst, arith}
+use Rattle.gated_log.specs.LogState.{log_used, log_need, log_used_with}
 use Rattle.heap_spaces.specs.Spaces.{SpacesState}
 use Rattle.log_machine.specs.declared.UndoEntry.{UndoEntry}
 use Rattle.log_machine.specs.Machine.{field_at, words_in}
@@ -16,7 +16,7 @@ use Rattle.heap_engine.specs.Barrier.{is_scan_of, word_after, CanScan}
 use Rattle.heap_engine.specs.EngineState.{memory}
 use Rattle.heap_engine.proofs.ObjectFields.{field_within}
 use Rattle.heap_engine.proofs.Reserved.{used_after}
-use Rattle.heap_engine.proofs.Room.{room_left, used_with_need}
+use Rattle.heap_engine.proofs.Room.{room_left, used_with_need, need_more}
 use Rattle.heap_engine.proofs.Scanned.{noted, noted_owes, noted_sound, update_bytes, wrote_at}
 use Rattle.heap_engine.proofs.Tables.{sound_same, sound_write}
 use Rattle.heap_engine.proofs.engine.Engine.write_stable.Goals as goal
@@ -88,3 +88,21 @@ returns-clause-done c was =
       sealed = refl;
     })
     c.requires.active c.number-t.ensures c.in_default-keep_write.ensures.kept
+
+pub reserve-requires : goal.reserve-requires
+reserve-requires c =
+    let s = c.args.self.now in
+    let n = length (spellings c.in_ok-scan.scan.records.items) in
+    let left = room_left s.log c.need_of.result (s.reserved + 19) (sym c.log_refusal.ensures ∙ c.in_default-log_refusal.is) in
+    let need : c.need_of.result ≡ log_need s.log (n + 27) = c.need_of.ensures ∙ ap (λ k. log_need s.log (k + 27)) c.bytes.ensures in
+    omega (arith, left, need, c.bytes.ensures, need_more s.log (n + 27), s.log.small)
+
+pub invariant_of-self-2-clause-spare : goal.invariant_of-self-2-clause-spare
+invariant_of-self-2-clause-spare c =
+    let s = c.args.self.now in
+    let n = length (spellings c.in_ok-scan.scan.records.items) in
+    let records = c.records.result.now in
+    let written = Update c.number-t.result c.args.object c.args.field c.word_behind-was.result c.args.word in
+    let size : length (spellings (records ++ written ∷ [])) ≡ n + 27 =
+    update_bytes records c.number-t.result c.args.object c.args.field c.word_behind-was.result c.args.word ∙ ap (λ (rs : List Record). length (spellings rs) + 27) c.records.ensures in
+    c.carry_out_write.ensures.spare (s.reserved + 19) (omega (arith, size, c.bytes.ensures, c.in_ok-reserve.ensures.spare))

@@ -1,0 +1,4 @@
+pub mod Events
+pub mod Rows
+pub mod Runs
+pub mod Sets

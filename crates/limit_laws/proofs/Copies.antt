@@ -1,0 +1,15 @@
+pub mod Disturbed
+pub mod Edges
+pub mod Flips
+pub mod Followed
+pub mod Idle
+pub mod Locks
+pub mod Moves
+pub mod Quiet
+pub mod Reached
+pub mod Refers
+pub mod Scans
+pub mod Seals
+pub mod Steps
+pub mod Tidy
+pub mod Undisturbed

@@ -1,0 +1,131 @@
+-- A seal leaves a core tidy.
+use Rattle.std.proofs.Common.{◌≡◌, ◌≢◌, ◌⊎◌, inl, inr, ℕ, true, List, ◌++◌, Option, None, Some, is_some, refl, sym, ap, ◌∙◌, subst}
+use Rattle.std.specs.Prelude.{Contains, slice_get}
+use Rattle.std.specs.FinSet.{contains}
+use Rattle.std.specs.Option.{option_to_list}
+use Rattle.std.proofs.lemmas.Option.{same_Some}
+use Rattle.graph_model.specs.declared.id.Id.{Id}
+use Rattle.graph_model.specs.declared.val.Val.{Val}
+use Rattle.graph_model.specs.Graph.{Graph, fields}
+use Rattle.graph_model.specs.History.{Account, account, account_after}
+use Rattle.graph_model.specs.declared.event.Event.TheVariants.{Seal}
+use Rattle.graph_model.specs.declared.reply.Reply.TheVariants.{Sealed}
+use Rattle.graph_model.proofs.Runs.History.{serial-append}
+use Rattle.graph_model.specs.Locking.{Exclusive, Lock, locks_of}
+use Rattle.graph_model.specs.Transaction.{Transaction, run, serial}
+use Rattle.commit_order.specs.Heard.{Heard, heard_in}
+use Rattle.commit_order.specs.SerialOrder.{numbers_begun}
+use Rattle.commit_order.proofs.LockingLaws.{fields-run, locks_of-other, runs_alike}
+use Rattle.commit_order.proofs.OrderLaws.{IsOrdered}
+use Rattle.heap_spaces.specs.Collection.{Collection}
+use Rattle.log_records.specs.declared.Record.{Record}
+use Rattle.log_machine.specs.Machine.{State, after_all, losing}
+use Rattle.log_machine.proofs.MachineLaws.{after_all-append2}
+use Rattle.graph_words.specs.Places.{Places, address_of, made_by}
+use Rattle.graph_words.proofs.Places.Addresses.{address_of-one, some_address}
+use Rattle.graph_words.proofs.Seal.Places.{address_of-append_left}
+use Rattle.collection_words.proofs.Copy.Named.{named, own_front}
+use Rattle.collection_words.proofs.Copy.Stands.{completed_own}
+use Rattle.collection_words.proofs.Laid.Sources.{here_ends}
+use Rattle.collection_words.proofs.Laid.Underway.{underway}
+use Rattle.seen_laws.proofs.States.{sealed_stands, writes_of_all}
+use Rattle.heap_model.specs.Core.{Core, all_records, all_words, call_records, done, event_places, event_records, ground, log_start, sealed_places}
+use Rattle.core_laws.proofs.Collecting.Entries.{all_at}
+use Rattle.core_laws.proofs.Step.Goes.{writing_of}
+use Rattle.core_laws.proofs.Seal.Cases as cases
+use Rattle.core_laws.proofs.Seal.Told as seal
+use Rattle.core_laws.proofs.Sessions.Actives.{each_session}
+use Rattle.core_laws.specs.Valid.{Agrees, IsValid}
+use Rattle.limit_laws.proofs.Copies.Disturbed.{some_none}
+use Rattle.limit_laws.proofs.Copies.Steps.{true_false}
+use Rattle.limit_laws.proofs.Copies.Tidy.{KeepsTidy}
+
+-- What a seal leaves of a core: the same collection, the current objects and those that it made stable.
+pub record IsSealedTo (g : Graph) (a b : Account) (e f : Core) (s n : State) (session : ℕ) (t : Transaction) : Type 0 where
+  pub graph : serial f.g0 b.sealed ≡ (run (serial e.g0 a.sealed) t).graph
+  pub collection : n.collection ≡ s.collection
+  pub gray : (k : Collection) → s.collection ≡ Some k → (z : Id) (at : ℕ) → address_of f.places z ≡ Some at → contains k.gray at ≡ true → address_of e.places z ≡ Some at
+  pub places : (z : Id) (at : ℕ) → address_of f.places z ≡ Some at → (address_of e.places z ≡ Some at) ⊎ (z.t ≡ t.number)
+  pub remaining : f.remaining ≡ e.remaining
+  pub others : (r : ℕ) (u : Transaction) → b.active r ≡ Some u → (session ≢ r) × (a.active r ≡ Some u)
+
+module _ (g : Graph) (a b : Account) (e f : Core) (h : Agrees a e) (n : State) (session : ℕ) (t : Transaction) (active : a.active session ≡ Some t) {numbers : List ℕ} {heard : Heard} (o : IsOrdered e.g0 numbers a heard)
+    (to : IsSealedTo g a b e f h.behind n session t) (tidy : KeepsTidy g a e h.behind) where
+  abbrev before : Graph
+  before = serial e.g0 a.sealed
+
+  -- an object that it did not make has the fields that it had, if it was not locked
+  not_made : (ps : Places) (z : Id) (at : ℕ) → ((k : ℕ) → address_of ps (made_by t.number k) ≡ None) → address_of ps z ≡ Some at → z.t ≢ t.number
+  not_made ps z at apart there same = let clash = sym (apart z.k) ∙ ap (λ (m : ℕ). address_of ps (made_by m z.k)) (sym same) ∙ there in cc clash
+
+  pub tidy_sealed : KeepsTidy g b f n
+  tidy_sealed =
+      let w = writing_of a e session t active h in
+      record {
+        leads = λ k run z y at i there gray refers left.
+            let was = sym to.collection ∙ run in
+            let old = to.gray k was z at there gray in
+            let free = λ (lock : Contains (locks_of before t) (z, Exclusive)). true_false gray (tidy.black k was session t z at active lock old) in
+            let same = fields-run before t z (not_made e.places z at w.made.apart old) free in
+            tidy.leads k was z y at i old gray (ap (λ (vs : List Val). slice_get vs i) (sym (ap (λ (x : Graph). fields x z) to.graph ∙ same)) ∙ refers) (ap (λ (ps : Places). is_some (address_of ps y)) (sym to.remaining) ∙ left);
+        rest = λ z y i left reached refers.
+            let here = ap (λ (ps : Places). is_some (address_of ps z)) (sym to.remaining) ∙ left in
+            let at = some_address (address_of e.remaining z) here in
+            let free = λ (lock : Contains (locks_of before t) (z, Exclusive)). some_none (all_at (λ (l : Lock). address_of e.remaining l.0 ≡ None) (locks_of before t) (z, Exclusive) w.unlocked lock) here in
+            let same = fields-run before t z (not_made e.remaining z at.0 w.apart at.1) free in
+            tidy.rest z y i here reached (ap (λ (vs : List Val). slice_get vs i) (sym (ap (λ (x : Graph). fields x z) to.graph ∙ same)) ∙ refers);
+        black = λ k run r u z at now lock there.
+            let was = sym to.collection ∙ run in
+            let also = to.others r u now in
+            let beside = o.beside session r t u also.0 active also.1 in
+            let alike = runs_alike before t u o.closed (λ same. beside.differ (sym same)) (o.unused session t active) beside.apart in
+            let held = subst (λ (ls : List Lock). Contains ls (z, Exclusive)) (sym alike.locks) (subst (λ (x : Graph). Contains (locks_of x u) (z, Exclusive)) to.graph lock) in
+            elim (to.places z at there) [
+              | inl old ↦ tidy.black k was r u z at also.1 held old
+              | inr made ↦ absurd (locks_of-other before u t.number z Exclusive o.closed (λ same. beside.differ (sym same)) (o.unused session t active) held made)
+            ];
+      }
+
+-- The seal of a core.
+
+module _ (g : Graph) (e : Core) (valid : IsValid e) (n : State) (s m : ℕ) (t : Transaction) (active : (account e.history).active s ≡ Some t)
+    (o : IsOrdered e.g0 (numbers_begun e.history) (account e.history) (heard_in e.history)) (space : seal.HasSpace (account e.history) e valid o s t active) (follows : after_all valid.behind (event_records e (Seal s)) ≡ Some n) where
+  abbrev a : Account
+  a = account e.history
+
+  records_are : event_records e (Seal s) ≡ seal.records a e valid o s t active
+  records_are = ap (λ (x : Option Transaction). call_records (ground e) e.g0 a x (Seal s)) active ∙ seal.seal_is a e valid o s t active
+
+  places_are : event_places e (Seal s) ≡ seal.placed a e valid o s t active
+  places_are = ap (sealed_places (ground e) e.g0 a) active ∙ seal.places_are a e valid o s t active
+
+  last_is : n ≡ seal.last a e valid o s t active
+  last_is = same_Some n (seal.last a e valid o s t active)
+      (sym follows ∙ sym (after_all-append2 (log_start e) valid.behind (all_records e) (event_records e (Seal s)) valid.told.reached)
+      ∙ ap (λ (rs : List Record). after_all (log_start e) (all_records e ++ rs)) records_are ∙ cases.reached a e valid o s t active space)
+
+  in_later : (z : Id) (at : ℕ) → address_of (done e (Seal s)).places z ≡ Some at → address_of (e.places ++ seal.placed a e valid o s t active) z ≡ Some at
+  in_later z at there = ap (λ (ps : Places). address_of (e.places ++ ps) z) (sym places_are) ∙ there
+
+  gray_old : (k : Collection) → valid.behind.collection ≡ Some k → (z : Id) (at : ℕ) → address_of (done e (Seal s)).places z ≡ Some at → contains k.gray at ≡ true → address_of e.places z ≡ Some at
+  gray_old k run z at there gray =
+      let heap = valid.told.heap in
+      let collects = underway (record { run = run; spaced = heap.spaced; long = heap.long; small = heap.small; laid = heap.laid }) in
+      let own = own_front e.places e.remaining (completed_own (writes_of_all (losing valid.behind)) collects (sealed_stands valid.behind e.places e.remaining (all_words e) valid.told.stands)) in
+      let old = named e.places at own (collects.from.grays at gray) in
+      let told = cases.sealed_told a e valid o s t active space in
+      let later = e.places ++ seal.placed a e valid o s t active in
+      let same : old.0 ≡ z = address_of-one _ _ later _ at old.0 z (here_ends told.heap.laid) (address_of-append_left e.places (seal.placed a e valid o s t active) old.0 at old.1) (in_later z at there) in
+      subst (λ (x : Id). address_of e.places x ≡ Some at) same old.1
+
+  pub sealed_to : IsSealedTo g a (account_after a (record { event = Seal s; reply = Sealed m })) e (done e (Seal s)) valid.behind n s t
+  sealed_to = record {
+    graph = ap (λ (x : Option Transaction). serial e.g0 (a.sealed ++ option_to_list x)) active ∙ serial-append e.g0 a.sealed t;
+    collection = ap (λ (x : State). x.collection) last_is;
+    gray = gray_old;
+    places = λ z at there. cases.old_or_new a e valid o s t active space z at (in_later z at there);
+    remaining = refl;
+    others = λ r u now.
+        let P : ℕ → Option Transaction → Type 0 = λ q x. x ≡ Some u → (s ≢ q) × (a.active q ≡ Some u) in
+        each_session P a.active s None (λ never. absurd (cc never)) (λ q other is. ((λ same. other (sym same)), is)) r now;
+  }

@@ -1,0 +1,63 @@
+-- What a collection copies.
+use Rattle.std.specs.Prelude.{◌≡◌, ◌↔◌, ℕ, ◌+◌, true, List, length, sum_by, is_some, None}
+use Rattle.std.specs.List.{AllByRecursion}
+use Rattle.graph_model.specs.declared.event.Event.{Event}
+use Rattle.graph_model.specs.declared.event.Event.TheVariants.{Force, Flip, Scan, Flush}
+use Rattle.graph_model.specs.declared.id.Id.{Id}
+use Rattle.graph_model.specs.declared.reply.Reply.TheVariants as reply
+use Rattle.graph_model.specs.Canon.{Reached}
+use Rattle.graph_model.specs.Graph.{Graph, fields}
+use Rattle.graph_model.specs.History.{account, IsOfSession}
+use Rattle.graph_model.specs.Transaction.{serial}
+use Rattle.graph_words.specs.Places.{Places, address_of}
+use Rattle.collection_words.specs.Placing.{moved_by_all}
+use Rattle.heap_model.specs.Core.{Core, IsRun, after, answer, placing}
+use Rattle.core_laws.specs.Active.{active_in}
+use Rattle.core_laws.specs.Valid.{IsReached}
+use Rattle.limit_laws.specs.Bytes.{appended}
+use Rattle.limit_laws.specs.Progress.{BeganNone}
+
+-- an event of no session
+abbrev pub IsOfNone : Event → Type 0
+IsOfNone Force = Unit {0}
+IsOfNone Flip = Unit {0}
+IsOfNone Scan = Unit {0}
+IsOfNone (Flush p) = Unit {0}
+IsOfNone event = ⊥
+
+-- no transaction is active
+abbrev pub IsIdle : Core → Type 0
+IsIdle c = (s : ℕ) → active_in c s ≡ None
+
+-- The objects that a collection has copied which began in c, each where its copy stands, if nothing was made stable since: those that stood at the
+-- addresses from which the Flip and Copy records have copied.
+abbrev pub copied_since : Core → Core → Places
+copied_since c d = (moved_by_all (placing c) (appended c d)).places
+
+-- the graph that the sealed transactions have left
+abbrev pub sealed_graph : Core → Graph
+sealed_graph c = serial c.g0 (account c.history).sealed
+
+-- the words that these objects take
+abbrev pub words_of : Graph → Places → ℕ
+words_of g places = sum_by (λ p. 2 + length (fields g p.0)) places
+
+-- What was copied from c to d is just what is reached from the root in the graph of c, and takes so many words.
+pub record CopiesReached (c d : Core) (used : ℕ) : Type 0 where
+  pub exactly : (id : Id) → (is_some (address_of (copied_since c d) id) ≡ true) ↔ Reached (sealed_graph c) id
+  pub words : used ≡ words_of (sealed_graph c) (copied_since c d)
+
+-- A collection that no session disturbs copies no garbage, and all else. It begins in c, where no transaction is active, and ends with a scan of
+-- d; between are scans, forces and flushes, granted or refused, and flips that begin no other.
+abbrev pub UndisturbedTheorem : Type 0
+UndisturbedTheorem =
+    (c d : Core) (events : List Event) (objects words used : ℕ) → IsReached c → IsIdle c → answer c Flip ≡ reply.Flipped objects words
+    → IsRun (after c Flip) events d → AllByRecursion IsOfNone events → BeganNone (after c Flip) d → answer d Scan ≡ reply.Collected used → CopiesReached c d used
+
+-- A collection copies no garbage, whatever sessions do while it is under way. It begins in c, where no transaction is active; all that it has copied
+-- until d is reached from the root in the graph of c.
+abbrev pub NoGarbageTheorem : Type 0
+NoGarbageTheorem =
+    (c d : Core) (events : List Event) (objects words : ℕ) → IsReached c → IsIdle c → answer c Flip ≡ reply.Flipped objects words
+    → AllByRecursion IsOfSession events → IsRun (after c Flip) events d → BeganNone (after c Flip) d
+    → (id : Id) → is_some (address_of (copied_since c d) id) ≡ true → Reached (sealed_graph c) id

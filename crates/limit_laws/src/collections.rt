@@ -1,0 +1,32 @@
+//! How long a collection lasts, how many bytes of the log it takes, and what it copies.
+ghost use Rattle.limit_laws.specs.Bytes.{BytesTheorem};
+ghost use Rattle.limit_laws.specs.Copies.{NoGarbageTheorem, UndisturbedTheorem};
+ghost use Rattle.limit_laws.specs.Progress.{EndTheorem, PagesTheorem};
+
+/// The pages that scans are answered with ascend while one collection is under way, whatever sessions do meanwhile, and there are no more of them
+/// than a space has pages.
+pub fn collections_go_through_pages_once()
+    ensures { PagesTheorem }
+{}
+
+/// When as many scans went over a page as a space has pages, the next one is answered `collected`, if it is not refused.
+pub fn collections_end()
+    ensures { EndTheorem }
+{}
+
+/// What collections append takes 16 bytes for each word that they copy, 12 for each reference that a scan leads to the current space, and 6 for
+/// each of them.
+pub fn collections_take_few_bytes()
+    ensures { BytesTheorem }
+{}
+
+/// A collection that no session disturbs copies just what is reached from the root, and is answered as many used words as that takes.
+pub fn undisturbed_collections_copy_what_is_reached()
+    ensures { UndisturbedTheorem }
+{}
+
+/// A collection that begins where no transaction is active copies nothing but what is reached from the root at its flip, whatever sessions do
+/// while it is under way.
+pub fn collections_copy_no_garbage()
+    ensures { NoGarbageTheorem }
+{}
