@@ -12,6 +12,7 @@ ghost use Rattle.heap_program.specs.Stored.{IsStored};
 ghost use Rattle.heap_model.specs.Theorems.{SayingTheorem, OneMeaningTheorem};
 ghost use Rattle.heap_recovery.specs.Faults.{IsFaultAt, IsNoHeap};
 ghost use Rattle.heap_recovery.specs.declared.at.At.{At};
+ghost use Rattle.image_laws.specs.Kinds.{AreBytes, IsOfOneKind};
 ghost use Rattle.image_plan.specs.Super.{IsSuper, superblock};
 ghost use Rattle.image_plan.specs.declared.superblock.Super.{Super};
 ghost use Rattle.log_machine.specs.Machine.{State, commits, spaces_of};
@@ -81,6 +82,11 @@ pub fn commits_of_a_log()
 /// An image that is no heap is not shaped.
 pub fn no_heap_is_not_shaped()
     ensures { (s : Super) (batches : List (List Record)) (stored : Pages) (image : List ℕ) → IsNoHeap image → IsShaped s batches stored image → ⊥ }
+{}
+
+/// Each image is no heap's, or damaged, at one place first, or shaped, and one of these alone.
+pub fn each_image_is_of_one_kind()
+    ensures { (image : List ℕ) → AreBytes image → IsOfOneKind image }
 {}
 
 /// Each legal image is one of which the theorems on runs speak: a graph stands in it, each object under the name of its birth.

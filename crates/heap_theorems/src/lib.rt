@@ -5,4 +5,5 @@
 pub mod graphs;
 pub mod histories;
 pub mod images;
+pub mod limits;
 pub mod scripts;

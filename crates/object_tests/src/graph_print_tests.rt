@@ -1,5 +1,5 @@
 //! Texts of small heaps in memory.
-use graph_print::{PrintError, canon_text};
+use graph_print::{PrintError, canon_count, canon_text};
 use object_layout::WordSlice;
 use std::process::Abort;
 use std::test::Fail;
@@ -89,4 +89,28 @@ fn graphs_are_printed(rt: HostRuntime) -> Result<(), Fail> {
         }
     }
     Ok(())
+}
+
+/// How many objects each of these has.
+const COUNTED: [(&[u64], Result<u64, PrintError>); 5] = [
+    (&[17, 0, 29, 0, 0, 2], Ok(1)),
+    (&[17, 0, 26, 38, 0, 0, 5, 1, 50, 5, 2, 1, 1, 3], Ok(4)),
+    // A field leads to the old place of an object, and another one to its new place: it is one object.
+    (&[17, 0, 26, 38, 0, 0, 38, 0, 0, 5, 2, 0], Ok(2)),
+    (
+        &[18, 0, 0, 0, 0, 0],
+        Err(PrintError::Damaged { address: 0 }),
+    ),
+    (
+        &[17, 0, 26, 0, 0, 0, 9, 4, 2, 30],
+        Err(PrintError::Damaged { address: 6 }),
+    ),
+];
+
+#[test]
+fn objects_are_counted(rt: HostRuntime) {
+    for (words, want) in &COUNTED {
+        let mut words = WordSlice::of(words);
+        assert_eq!(rt; canon_count(rt.alloc(), &mut words, 0), *want);
+    }
 }

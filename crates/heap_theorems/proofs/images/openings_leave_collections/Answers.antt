@@ -1,4 +1,4 @@
-use Rattle.std.proofs.Common.{◌≡◌, Some, sym, ap, ◌∙◌}
+use Rattle.std.proofs.Common.{◌≡◌, sym, ap, ◌∙◌}
 use Rattle.std.proofs.lemmas.Option.{same_Some}
 use Rattle.log_machine.specs.Machine.{State, settled, spaces_of}
 use Rattle.heap_model.proofs.Opening.Rolled.{rolled_reached}

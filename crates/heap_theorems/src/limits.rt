@@ -1,0 +1,45 @@
+//! What a core is limited to: the room of its log, and how long collections last, how many bytes they take, and what they copy.
+ghost use Rattle.limit_laws.specs.Bytes.{BytesTheorem};
+ghost use Rattle.limit_laws.specs.Copies.{NoGarbageTheorem, UndisturbedTheorem};
+ghost use Rattle.limit_laws.specs.Progress.{EndTheorem, PagesTheorem};
+ghost use Rattle.limit_laws.specs.Room.{EndsTheorem, FitsTheorem, RollbackTheorem};
+
+/// What the log uses and keeps lies within it.
+pub fn log_keeps_room()
+    ensures { FitsTheorem }
+{}
+
+/// The ends of transactions never lack room.
+pub fn ends_have_room()
+    ensures { EndsTheorem }
+{}
+
+/// An opening has room to take back what had not ended.
+pub fn rollbacks_have_room()
+    ensures { RollbackTheorem }
+{}
+
+/// A collection goes once through the pages.
+pub fn pages_are_scanned_once()
+    ensures { PagesTheorem }
+{}
+
+/// And then it ends.
+pub fn collections_end()
+    ensures { EndTheorem }
+{}
+
+/// Collections take few bytes of the log for each word that they copy.
+pub fn collections_take_few_bytes()
+    ensures { BytesTheorem }
+{}
+
+/// A collection that begins where no transaction is active copies nothing but what is reached, whatever sessions do meanwhile.
+pub fn collections_copy_no_garbage()
+    ensures { NoGarbageTheorem }
+{}
+
+/// One that no session disturbs copies all that is reached.
+pub fn undisturbed_collections_copy_all_else()
+    ensures { UndisturbedTheorem }
+{}

@@ -1,0 +1,11 @@
+pub mod Batches
+pub mod Bytes
+pub mod Decode
+pub mod Fit
+pub mod Log
+pub mod Objects
+pub mod OneKind
+pub mod Pages
+pub mod Records
+pub mod Super
+pub mod Walk

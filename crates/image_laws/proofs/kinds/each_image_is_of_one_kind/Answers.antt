@@ -1,0 +1,5 @@
+use Rattle.image_laws.proofs.OneKind.{one_kind}
+use Rattle.image_laws.proofs.kinds.each_image_is_of_one_kind.Goals as goal
+
+pub returns : goal.returns
+returns c = one_kind
