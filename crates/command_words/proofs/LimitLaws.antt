@@ -21,13 +21,13 @@ use Rattle.clap.specs.declared.builder.value_parser.ValueParser.TheVariants as v
 use Rattle.clap.proofs.CallerReads.{signed_reads}
 use Rattle.clap.proofs.ValueTestLemmas.{accepts-Accepts}
 use Rattle.clap.proofs.WalkLemmas.{both}
-use Rattle.command_words.specs.Command.{command, command_of, given_in, given_of, number_in, parsed_number, parsed_numbers, play_of, stop_of, without_fault}
+use Rattle.command_words.specs.Command.{command, command_of, given_in, given_of, load_of, number_in, parsed_number, parsed_numbers, play_of, stop_of, without_fault}
 use Rattle.command_words.proofs.NumberLaws.{number_fits, parses}
 use Rattle.command_words.specs.Limits.{IsPages, IsStop, IsWithin}
 use Rattle.command_words.proofs.RowLaws.{IsPlainRule, Passes, found, level_good, neither}
 use Rattle.command_words.specs.Table.{program}
 use Rattle.command_words.specs.declared.commands.Command.{Command}
-use Rattle.command_words.specs.declared.commands.Command.TheVariants.{Format, Graph, Play}
+use Rattle.command_words.specs.declared.commands.Command.TheVariants.{Format, Graph, Load, Play}
 
 -- ---- the number in a row
 
@@ -146,6 +146,33 @@ graph_within s name words none c e =
     let same : Graph ≡ c = cc in
     subst IsWithin same tt
 
+load_within : (s : Shape) (seed count fresh : Rule) → s.name ≡ codes "load" → AllByRecursion (IsPlainRule s.rules) s.rules → ((x : ℕ) → arg_by_short s.rules x ≡ None)
+    → IsNumber s.rules (codes "seed") 0 2147483647 seed → IsNumber s.rules (codes "count") 0 100000 count → IsNumber s.rules (codes "fresh") 1 16384 fresh → SpellsWithin s
+load_within s seed count fresh name plain letters is_seed is_count are_pages words none c e =
+    go (number_in 32 rows (codes "seed")) (number_in 32 rows (codes "count")) (given_in 32 rows (codes "fresh")) refl refl refl
+    (ap (λ (t : Text). command_of t rows) (sym name) ∙ e)
+  where
+    rows : List Row
+    rows = rows_after s.rules [] words
+
+    all : AllByRecursion (Passes s.rules) (rows_after s.rules [] words)
+    all = level_good s plain letters words none
+
+    go : (x n : Option ℕ) (p : Option (Option ℕ)) → number_in 32 (rows_after s.rules [] words) (codes "seed") ≡ x → number_in 32 (rows_after s.rules [] words) (codes "count") ≡ n
+        → given_in 32 (rows_after s.rules [] words) (codes "fresh") ≡ p → load_of x n p ≡ Some c → IsWithin c
+    go None n p a b d is = cc
+    go (Some x) None p a b d is = cc
+    go (Some x) (Some n) None a b d is = cc
+    go (Some x) (Some n) (Some p) a b d is =
+        let x_in = number_within s.rules (rows_after s.rules [] words) (codes "seed") 0 2147483647 x seed is_seed (omega arith) all a in
+        let n_in = number_within s.rules (rows_after s.rules [] words) (codes "count") 0 100000 n count is_count (omega arith) all b in
+        let same : Load x n p ≡ c = cc in
+        subst IsWithin same (
+          omega arith,
+          n_in.1,
+          pages_within s.rules (rows_after s.rules [] words) (codes "fresh") fresh p are_pages all (given_is_in 32 (rows_after s.rules [] words) (codes "fresh") p d),
+        )
+
 all_within : AllByRecursion SpellsWithin (built program).subs
 unfolding program
 all_within = (
@@ -156,7 +183,15 @@ all_within = (
     play_within _ _ refl
         (record { own = refl; some_value = refl; set = refl; no_default = refl }, (record { own = refl; some_value = refl; set = refl; no_default = refl }, (record { own = refl; some_value = refl; set = refl; no_default = refl }, tt)))
         (λ x. refl) (refl, refl),
-    (graph_within _ refl, tt),
+    (
+      graph_within _ refl,
+      (
+        load_within _ _ _ _ refl
+            (record { own = refl; some_value = refl; set = refl; no_default = refl }, (record { own = refl; some_value = refl; set = refl; no_default = refl }, (record { own = refl; some_value = refl; set = refl; no_default = refl }, tt)))
+            (λ x. refl) (refl, refl) (refl, refl) (refl, refl),
+        tt,
+      ),
+    ),
   ),
 )
 

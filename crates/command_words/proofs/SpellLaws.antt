@@ -23,12 +23,12 @@ use Rattle.clap.specs.declared.builder.value_parser.ValueParser.TheVariants as v
 use Rattle.clap.proofs.CallerReads.{signed_reads}
 use Rattle.clap.proofs.ValueTestLemmas.{accepts-Accepts}
 use Rattle.clap.proofs.WalkLemmas.{both}
-use Rattle.command_words.specs.Command.{IsTaken, command, command_of, given_in, given_of, number_in, parsed_number, parsed_numbers, play_of, stop_of, without_fault}
+use Rattle.command_words.specs.Command.{IsTaken, command, command_of, given_in, given_of, load_of, number_in, parsed_number, parsed_numbers, play_of, stop_of, without_fault}
 use Rattle.command_words.proofs.NumberLaws.{parses, parses_not}
 use Rattle.command_words.proofs.RowLaws.{HasValue, IsPlainRule, Passes, found, level_good, neither}
 use Rattle.command_words.specs.Table.{program}
 use Rattle.command_words.specs.declared.commands.Command.{Command}
-use Rattle.command_words.specs.declared.commands.Command.TheVariants.{Format, Graph, Play}
+use Rattle.command_words.specs.declared.commands.Command.TheVariants.{Format, Graph, Load, Play}
 
 -- ---- what is given is read
 
@@ -165,6 +165,23 @@ play_spells s fresh stop again name plain letters are_pages is_stop is_again wor
 graph_spells : (s : Shape) → s.name ≡ codes "graph" → Spells s
 graph_spells s name words none = (Graph, ap (λ (t : Text). command_of t (rows_after s.rules [] words)) name)
 
+load_spells : (s : Shape) (seed count fresh : Rule) → s.name ≡ codes "load" → s.subcommand_negates_reqs ≡ false → AllByRecursion (IsPlainRule s.rules) s.rules
+    → ((x : ℕ) → arg_by_short s.rules x ≡ None) → IsNumber s.rules (codes "seed") 32 seed → IsNumber s.rules (codes "count") 32 count → IsNumber s.rules (codes "fresh") 32 fresh
+    → ((rows : List Row) → IsWhole s rows → (is_given (codes "seed") rows ≡ true) × (is_given (codes "count") rows ≡ true)) → Spells s
+load_spells s seed count fresh name negates plain letters is_seed is_count are_pages needs words none =
+    let rows = rows_after s.rules [] words in
+    let all = level_good s plain letters words none in
+    let given = needs rows (none_missing s words negates none) in
+    let x = number_read s.rules rows (codes "seed") 32 seed is_seed all given.0 in
+    let n = number_read s.rules rows (codes "count") 32 count is_count all given.1 in
+    let p = given_read s.rules rows (codes "fresh") 32 fresh are_pages all in (
+      Load x.0 n.0 p.0,
+      ap (λ (t : Text). command_of t rows) name
+          ∙ ap (λ o. load_of o (number_in 32 rows (codes "count")) (given_in 32 rows (codes "fresh"))) x.1
+          ∙ ap (λ o. load_of (Some x.0) o (given_in 32 rows (codes "fresh"))) n.1
+          ∙ ap (λ o. load_of (Some x.0) (Some n.0) o) p.1,
+    )
+
 given : (b : Bool) → not b ≡ false → b ≡ true
 given true e = refl
 given false e = cc
@@ -184,7 +201,19 @@ all_spell = (
     play_spells _ _ _ _ refl
         (record { own = refl; some_value = refl; set = refl; no_default = refl }, (record { own = refl; some_value = refl; set = refl; no_default = refl }, (record { own = refl; some_value = refl; set = refl; no_default = refl }, tt)))
         (λ x. refl) (refl, signed_number 1 16384 (omega arith)) (refl, unsigned_number) (refl, unsigned_number),
-    (graph_spells _ refl, tt),
+    (
+      graph_spells _ refl,
+      (
+        load_spells _ _ _ _ refl refl
+            (record { own = refl; some_value = refl; set = refl; no_default = refl }, (record { own = refl; some_value = refl; set = refl; no_default = refl }, (record { own = refl; some_value = refl; set = refl; no_default = refl }, tt)))
+            (λ x. refl) (refl, signed_number 0 2147483647 (omega arith)) (refl, signed_number 0 100000 (omega arith)) (refl, signed_number 1 16384 (omega arith))
+            (λ rows whole.
+            let first = or_parts (not (is_given (codes "seed") rows)) _ whole in
+            let second = or_parts (not (is_given (codes "count") rows)) _ first.1 in
+            (given _ first.0, given _ second.0)),
+        tt,
+      ),
+    ),
   ),
 )
 

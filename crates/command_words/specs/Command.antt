@@ -10,7 +10,7 @@ use Rattle.clap.specs.declared.error.kind.ErrorKind.{ErrorKind}
 use Rattle.clap.specs.declared.error.kind.ErrorKind.TheVariants as kind
 use Rattle.command_words.specs.Table.{program}
 use Rattle.command_words.specs.declared.commands.Command.{Command}
-use Rattle.command_words.specs.declared.commands.Command.TheVariants.{Format, Play, Graph}
+use Rattle.command_words.specs.declared.commands.Command.TheVariants.{Format, Play, Graph, Load}
 use Rattle.command_words.specs.declared.commands.CommandError.{CommandError}
 use Rattle.command_words.specs.declared.commands.CommandError.TheVariants.{NoMemory, Usage}
 use Rattle.command_words.specs.declared.commands.Numbers.{Numbers}
@@ -54,11 +54,20 @@ play_of _ _ _ = None
 abbrev pub play_in : List Row → Option Command
 play_in rows = play_of (given_in 32 rows (codes "fresh")) (given_in 64 rows (codes "stop")) (given_in 64 rows (codes "again"))
 
+abbrev pub load_of : Option ℕ → Option ℕ → Option (Option ℕ) → Option Command
+load_of (Some seed) (Some count) (Some fresh) = Some (Load seed count fresh)
+load_of _ _ _ = None
+
+abbrev pub load_in : List Row → Option Command
+load_in rows = load_of (number_in 32 rows (codes "seed")) (number_in 32 rows (codes "count")) (given_in 32 rows (codes "fresh"))
+
 -- the command of that name, with what its matches hold
 abbrev pub command_of : Text → List Row → Option Command
 command_of name rows =
     if bytes_eq name (codes "format") then option_map (λ numbers. Format numbers) (numbers_in rows)
-    else (if bytes_eq name (codes "play") then play_in rows else (if bytes_eq name (codes "graph") then Some Graph else None))
+    else (if bytes_eq name (codes "play") then play_in rows
+    else (if bytes_eq name (codes "graph") then Some Graph
+    else (if bytes_eq name (codes "load") then load_in rows else None)))
 
 -- what an error of the parser is to the program
 abbrev pub error_of : ErrorKind → CommandError

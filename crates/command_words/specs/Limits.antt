@@ -1,7 +1,7 @@
 -- What the numbers of a command keep to.
 use Rattle.std.specs.Prelude.{ℕ, ◌<◌, ◌≤◌, ◌^◌, IfSome, ⊤}
 use Rattle.command_words.specs.declared.commands.Command.{Command}
-use Rattle.command_words.specs.declared.commands.Command.TheVariants.{Format, Play, Graph}
+use Rattle.command_words.specs.declared.commands.Command.TheVariants.{Format, Play, Graph, Load}
 use Rattle.command_words.specs.declared.commands.Numbers.{Numbers}
 use Rattle.command_words.specs.declared.commands.Stop.{Stop}
 
@@ -24,3 +24,4 @@ abbrev pub IsWithin : Command → Type 0
 IsWithin (Format numbers) = AreNumbers numbers
 IsWithin (Play fresh stop) = IfSome fresh IsPages × IfSome stop IsStop
 IsWithin Graph = ⊤
+IsWithin (Load seed count fresh) = (seed < 2 ^ 31) × (count ≤ 100000) × IfSome fresh IsPages

@@ -41,6 +41,13 @@ play_row = row (codes "play") (
 abbrev pub graph_row : Shape
 graph_row = row (codes "graph") []
 
+abbrev pub load_row : Shape
+load_row = row (codes "load") (
+    argument (codes "seed") (between 0 2147483647)
+    ∷ argument (codes "count") (between 0 100000)
+    ∷ option (codes "fresh") (between 1 16384)
+    ∷ [])
+
 -- the program: one of its commands is required, and neither help nor a version is among them
 unfoldable pub program : App
 program = record {
@@ -51,5 +58,5 @@ program = record {
     disable_version_flag = true;
     subcommand_required = true;
   };
-  subs = format_row ∷ play_row ∷ graph_row ∷ [];
+  subs = format_row ∷ play_row ∷ graph_row ∷ load_row ∷ [];
 }

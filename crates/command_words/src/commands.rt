@@ -15,6 +15,15 @@ pub enum Command {
     },
     /// Print the graph that is reached from the root.
     Graph,
+    /// Make a load from a number, play it, and print what came of it.
+    Load {
+        /// The number; below 2147483648.
+        seed: u32,
+        /// How many rounds it has; at most 100000.
+        count: u32,
+        /// How many pages each space of a heap has that is made for this run alone, if one is; from 1 to 16384.
+        fresh: Option<u32>,
+    },
 }
 
 /// The numbers that an empty heap is made from.

@@ -2,7 +2,7 @@
 ghost use Rattle.std.specs.Prelude.{◌≡◌, IfOk, Some, false};
 ghost use Rattle.clap.specs.Words.{app_of, rule_of, shape_of};
 ghost use Rattle.clap.specs.declared.builder.command.Command.TheViews.{out-Command};
-ghost use Rattle.command_words.specs.Table.{argument, between, format_row, option, play_row, program};
+ghost use Rattle.command_words.specs.Table.{argument, between, format_row, load_row, option, play_row, program};
 
 use clap::builder::ValueParser;
 use clap::{Arg, Command, value_parser};
@@ -56,6 +56,18 @@ fn play_command<'a>(alloc: Global) -> Result<Command<'a>, AllocError>
         .arg(option(alloc, "again", value_parser!(u64)))
 }
 
+fn load_command<'a>(alloc: Global) -> Result<Command<'a>, AllocError>
+    ensures row { IfOk result (λ c. shape_of c ≡ load_row) }
+    ensures local { IfOk result (λ c. (out-Command c).has_globals ≡ false) }
+{
+    let seed = value_parser!(u32).range(0..=2_147_483_647);
+    let count = value_parser!(u32).range(0..=100_000);
+    Command::new(alloc, "load")
+        .arg(required_argument(alloc, "seed", seed))?
+        .arg(required_argument(alloc, "count", count))?
+        .arg(option(alloc, "fresh", pages()))
+}
+
 /// All commands of the program. One of them is required, and neither help nor a version is among them.
 pub(crate) fn program<'a>(alloc: Global) -> Result<Command<'a>, AllocError>
     ensures { IfOk result (λ c. app_of c ≡ program) }
@@ -67,5 +79,6 @@ pub(crate) fn program<'a>(alloc: Global) -> Result<Command<'a>, AllocError>
         .subcommand_required(true)
         .subcommand(format_command(alloc)?)?
         .subcommand(play_command(alloc)?)?
-        .subcommand(Command::new(alloc, "graph"))
+        .subcommand(Command::new(alloc, "graph"))?
+        .subcommand(load_command(alloc)?)
 }

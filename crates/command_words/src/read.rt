@@ -1,7 +1,7 @@
 //! Reading a command off the matches of the words.
 ghost use Rattle.std.specs.Prelude.{◌≡◌, Err, IfOk, None, OnOk, Some, map, string_bytes};
 ghost use Rattle.clap.specs.Words.{found_of, kind_of, rows_of};
-ghost use Rattle.command_words.specs.Command.{IsTaken, command, command_of, error_of, given_in, number_in, numbers_in, play_in, stop_of};
+ghost use Rattle.command_words.specs.Command.{IsTaken, command, command_of, error_of, given_in, load_in, number_in, numbers_in, play_in, stop_of};
 ghost use Rattle.command_words.specs.Limits.{IsWithin};
 
 use crate::commands::{Command, CommandError, Numbers, Stop};
@@ -88,6 +88,16 @@ fn read_play(play: &ArgMatches) -> Option<Command>
     })
 }
 
+fn read_load(load: &ArgMatches) -> Option<Command>
+    ensures { result ≡ load_in (rows_of (found_of load.now)) }
+{
+    Some(Command::Load {
+        seed: read_u32(load, "seed")?,
+        count: read_u32(load, "count")?,
+        fresh: given_u32(load, "fresh")?,
+    })
+}
+
 /// The command of that name with its matches.
 fn read_matches(name: &str, found: &ArgMatches) -> Option<Command>
     ensures { result ≡ command_of name.now (rows_of (found_of found.now)) }
@@ -96,6 +106,7 @@ fn read_matches(name: &str, found: &ArgMatches) -> Option<Command>
         "format" => Some(Command::Format(read_numbers(found)?)),
         "play" => read_play(found),
         "graph" => Some(Command::Graph),
+        "load" => read_load(found),
         _ => None,
     }
 }

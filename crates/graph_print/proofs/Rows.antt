@@ -25,6 +25,7 @@ use Rattle.graph_print.specs.declared.print_error.PrintError.{PrintError}
 use Rattle.graph_print.specs.declared.print_error.PrintError.TheVariants.{Damaged}
 use Rattle.graph_print.specs.FromRead.{print_error}
 use Rattle.graph_print.specs.Printed.{IsFieldPrinted, AreFieldsPrinted}
+use Rattle.graph_print.specs.Numbered.{IsFieldNumbered, AreFieldsNumbered}
 
 whole_push : (words ws : List ℕ) (w : ℕ) → AreWhole words ws → IsWholeField words (meaning w) → AreWhole words (ws ++ w ∷ [])
 whole_push words [] w all whole zero v is = subst (λ (x : ℕ). IsWholeField words (meaning x)) (same_Some w v is) whole
@@ -32,14 +33,24 @@ whole_push words [] w all whole (suc i) v is = cc
 whole_push words (x ∷ ws) w all whole zero v is = all zero v is
 whole_push words (x ∷ ws) w all whole (suc i) v is = whole_push words ws w (λ k. all (suc k)) whole i v is
 
+order_push : (words p0 p1 p2 ws : List ℕ) (w : ℕ) → p1 ≡ with_places p0 (targets words ws) → p2 ≡ with_place p1 (target words w) → p2 ≡ with_places p0 (targets words (ws ++ w ∷ []))
+order_push words p0 p1 p2 ws w all one =
+    one
+    ∙ ap (λ ps. with_place ps (target words w)) all
+    ∙ sym (places_push p0 (targets words ws) (target words w))
+    ∙ ap (with_places p0) (sym (map-append (target words) ws (w ∷ [])))
+
+-- one field more, without its text
+pub numbered_more : (words p0 p1 p2 ws : List ℕ) (w : ℕ) → AreFieldsNumbered words p0 p1 ws → IsFieldNumbered words p1 p2 w → AreFieldsNumbered words p0 p2 (ws ++ w ∷ [])
+numbered_more words p0 p1 p2 ws w all one = record {
+  whole = whole_push words ws w all.whole one.whole;
+  order = order_push words p0 p1 p2 ws w all.order one.order;
+}
+
 -- one field more
 pub fields_more : (words p0 p1 p2 t0 t1 t2 ws : List ℕ) (w : ℕ) → AreFieldsPrinted words p0 p1 t0 t1 ws → IsFieldPrinted words p1 p2 t1 t2 w → AreFieldsPrinted words p0 p2 t0 t2 (ws ++ w ∷ [])
 fields_more words p0 p1 p2 t0 t1 t2 ws w all one =
-    let order : p2 ≡ with_places p0 (targets words (ws ++ w ∷ [])) =
-    one.order
-    ∙ ap (λ ps. with_place ps (target words w)) all.order
-    ∙ sym (places_push p0 (targets words ws) (target words w))
-    ∙ ap (with_places p0) (sym (map-append (target words) ws (w ∷ []))) in
+    let order = order_push words p0 p1 p2 ws w all.order one.order in
     let Known : List ℕ → Type 0 = λ ps. AreNumbered words ps ws in
     let known = subst Known (sym all.order) (targets_numbered words p0 ws) in
     let shown = field_text (shown_word words p2 (meaning w)) in
@@ -117,15 +128,26 @@ no_more xs i none = elim (cases_lt i (length xs)) [
   | inr past ↦ past
 ]
 
+rows_count : (words : List ℕ) (start count : ℕ) (places : List ℕ) → IsOrder words start count places → slice_get places count ≡ None → count ≡ length (rows words places places)
+rows_count words start count places order over =
+    let past = no_more places count over in
+    let within = order_within words start count places order in
+    let long = length-map places (λ x. row words places (field_words words x)) in
+    omega arith
+
+-- when all are gone over, they are as many as the canon has rows
+pub order_count : (name : ℕ → Id) (words : List ℕ) (start : ℕ) (g : Graph) (count : ℕ) (places : List ℕ) → IsSeenAs name words start g → IsOrder words start count places
+    → slice_get places count ≡ None → count ≡ length (canon g)
+order_count name words start g count places seen order over =
+    rows_count words start count places order over ∙ ap length (sym (order_canon name words start g count places seen order over))
+
 -- all rows
 pub rows_all : (name : ℕ → Id) (words : List ℕ) (start : ℕ) (g : Graph) (count : ℕ) (places text : List ℕ) → IsSeenAs name words start g → IsOrder words start count places
     → slice_get places count ≡ None → text ≡ rows_text 0 (rows words places (take count places))
     → codes "graph " ++ decimal count ++ 10 ∷ text ≡ canon_text (canon g)
 rows_all name words start g count places text seen order over told =
     let past = no_more places count over in
-    let within = order_within words start count places order in
-    let long = length-map places (λ x. row words places (field_words words x)) in
-    let many : count ≡ length (rows words places places) = omega arith in
+    let many = rows_count words start count places order over in
     ap (λ t. codes "graph " ++ decimal count ++ 10 ∷ t) (told ∙ ap (λ ps. rows_text 0 (rows words places ps)) (take_all count places past))
     ∙ ap (λ n. codes "graph " ++ decimal n ++ 10 ∷ rows_text 0 (rows words places places)) many
     ∙ ap canon_text (sym (order_canon name words start g count places seen order over))

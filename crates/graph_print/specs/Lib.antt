@@ -1,4 +1,5 @@
 pub mod FromRead
+pub mod Numbered
 pub mod Numbering
 pub mod Order
 pub mod PrintFailure

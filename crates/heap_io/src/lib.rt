@@ -12,7 +12,7 @@ mod writing;
 pub use memory_sink::MemorySink;
 pub use memory_source::MemorySource;
 pub use reading::{TakeAllError, take_all};
-pub use sink::{Sink, SinkFailed};
+pub use sink::{Discard, Sink, SinkFailed};
 pub use source::{Source, SourceFailed};
 pub use standard::{StdSink, StdSource};
 pub use writing::put_all;

@@ -1,5 +1,5 @@
 //! Where bytes go.
-ghost use Rattle.std.specs.Prelude.{◌≡◌, ℕ, ◌<◌, ◌≤◌, Bool, List, ◌++◌, length, take, IsTrue, IfOk, OnErr};
+ghost use Rattle.std.specs.Prelude.{◌≡◌, ℕ, ◌<◌, ◌≤◌, Bool, false, List, [], ◌++◌, length, take, IsTrue, IfOk, OnErr};
 ghost use Rattle.heap_io.specs.Stream.{HasCause};
 
 /// A call of `put` failed. The sink holds what it held.
@@ -26,4 +26,31 @@ pub trait Sink {
         ensures put { IsTrue tells → IfOk result (λ n. written self.new ≡ written self.old ++ take n piece.now) }
         ensures err { IsTrue tells → OnErr result (written self.new ≡ written self.old) }
         ensures cause { HasCause (faults self.old) (faults self.new) result };
+
+    /// Whether what is written is let go, so that no text has to be made for it.
+    fn discards(&self) -> bool
+        ensures { IsTrue result → ¬ IsTrue tells }
+    {
+        false
+    }
+}
+
+/// A sink that takes all and keeps nothing.
+#[derive(Clone, Copy, Debug, PartialEq, Eq)]
+pub struct Discard;
+
+impl Sink for Discard {
+    ghost tells = { false };
+
+    ghost written = { λ _. [] };
+
+    ghost faults = { λ _. 0 };
+
+    fn put(&mut self, piece: &[u8]) -> Result<usize, SinkFailed> {
+        Ok(piece.len())
+    }
+
+    fn discards(&self) -> bool {
+        true
+    }
 }

@@ -111,4 +111,11 @@ impl<W: Write> Sink for StdSink<W> {
             }
         }
     }
+
+    // Who reads it wants all of it.
+    fn discards(&self) -> bool
+        ensures { result ≡ false }
+    {
+        false
+    }
 }

@@ -23,13 +23,24 @@ use Rattle.heap_core.specs.declared.errors.FormatError.TheVariants as format
 use Rattle.command_words.specs.declared.commands.Numbers.{Numbers}
 use Rattle.heap_program.specs.Commands.{makes, IsEndOf, PrintsGraph}
 use Rattle.heap_program.specs.Headline.{IsEndOfPlay, BlamesNoImage, graph_text, starts_asked, restarts_asked}
+use Rattle.heap_program.specs.Load.{RunsLoad}
 use Rattle.heap_program.specs.Refusals.{IsToldOfEach}
+use Rattle.heap_program.specs.Causes.{IsOpenedEnd}
+use Rattle.heap_program.proofs.RunLaws.{load_not_run}
 use Rattle.heap_program.specs.StatusOf.{command_status, format_status}
 use Rattle.heap_program.proofs.Written.{none_written}
 
 -- words spell one command
 pub same_play : (a : Option ℕ) (s : Option Stop) (b : Option ℕ) (t : Option Stop) → Some (asked.Play a s) ≡ Some (asked.Play b t) → (a ≡ b) × (s ≡ t)
 same_play a s b t same = (cc, cc)
+
+pub same_load : (x n : ℕ) (a : Option ℕ) (y m : ℕ) (b : Option ℕ) → asked.Load x n a ≡ asked.Load y m b → (x ≡ y) × (n ≡ m) × (a ≡ b)
+same_load x n a y m b same = (cc, cc, cc)
+
+-- words that are no command, or for which there was no memory, end in no run that is done
+pub command_not_done : (e : CommandError) → command_status e ≡ status.Done → ⊥
+command_not_done asking.Usage is = cc
+command_not_done asking.NoMemory is = cc
 
 -- Memory was refused while the words were read: nothing was done.
 pub graph_unread : {D : Type 0} (g : Ghosts D) (disk : D) (e : CommandError) (words : Option Command) → words ≡ Some asked.Graph → (e ≡ asking.Usage → words ≡ None) → (by : Status) → by ≡ command_status e
@@ -50,6 +61,12 @@ graph_unread g disk asking.NoMemory words is usage by by_is now only s batches s
       written = λ t. record { front = none_written before (graph_text graph); whole = λ done. cc };
       end = rw by_is tt;
     }
+
+-- The same of a load.
+pub load_unread : {D : Type 0} (g : Ghosts D) (disk : D) → Only (g.bytes disk) (g.may_leave disk) → ((image : List ℕ) → g.left_since disk (g.moment disk) image → g.may_leave disk image) → (seed count : ℕ) (fresh : Option ℕ) (e : CommandError) (words : Option Command)
+    → words ≡ Some (asked.Load seed count fresh) → (e ≡ asking.Usage → words ≡ None) → (by : Status) → by ≡ command_status e → (told : Bool) (before : List ℕ) → RunsLoad g fresh seed count disk disk by told before before
+load_unread g disk only now seed count fresh asking.Usage words is usage by by_is told before = let none : words ≡ None = usage refl in cc
+load_unread g disk only now seed count fresh asking.NoMemory words is usage by by_is told before = load_not_run g disk only now fresh seed count by told before (rw by_is tt)
 
 -- The statuses of a format: those of what it writes, and of its errors.
 pub written_format : (n : Numbers) (s : Status) → IsEndOfPlay s → IsEndOf (asked.Format n) s
@@ -98,6 +115,11 @@ no_stop (Some stop) is = absurd (some stop.again is)
     some None asks = omega arith
     some (Some m) asks = omega arith
 
+-- a load that makes no heap names no pages
+pub load_made : (seed count : ℕ) (fresh : Option ℕ) → makes (asked.Load seed count fresh) ≡ None → fresh ≡ None
+load_made seed count None none = refl
+load_made seed count (Some pages) none = cc
+
 -- a play that makes no heap names no pages
 pub not_made : (fresh : Option ℕ) (stop : Option Stop) → makes (asked.Play fresh stop) ≡ None → fresh ≡ None
 not_made None stop none = refl
@@ -127,3 +149,22 @@ unread_ends which words asking.Usage by is usage by_is = let none : words ≡ No
 unread_ends (asked.Format n) words asking.NoMemory by is usage by_is = rw by_is tt
 unread_ends (asked.Play fresh stop) words asking.NoMemory by is usage by_is = rw by_is tt
 unread_ends asked.Graph words asking.NoMemory by is usage by_is = rw by_is tt
+unread_ends (asked.Load seed count fresh) words asking.NoMemory by is usage by_is = rw by_is tt
+
+-- the statuses of a load: those of a run that has opened a disk, or could not, and of a format
+pub opened_load : (seed count : ℕ) (fresh : Option ℕ) (s : Status) → IsOpenedEnd s → IsEndOf (asked.Load seed count fresh) s
+opened_load seed count fresh status.Done end = end
+opened_load seed count fresh status.NoMemory end = end
+opened_load seed count fresh status.Usage end = end
+opened_load seed count fresh (status.Script line) end = end
+opened_load seed count fresh status.ReadFault end = end
+opened_load seed count fresh status.WriteFault end = end
+opened_load seed count fresh status.DiskFault end = end
+opened_load seed count fresh status.NotHeap end = end
+opened_load seed count fresh (status.Damaged at) end = end
+opened_load seed count fresh (status.TooSmall size need) end = tt
+
+pub format_load : (seed count : ℕ) (fresh : Option ℕ) (e : FormatError) → IsEndOf (asked.Load seed count fresh) (format_status e)
+format_load seed count fresh (format.TooSmall size need) = tt
+format_load seed count fresh format.DiskFault = tt
+format_load seed count fresh format.Stopped = tt

@@ -4,6 +4,8 @@ mod CommandLaws
 pub mod CoreSteps
 pub mod Counts
 pub mod Lines
+mod LoadRuns
+mod RoundsLaws
 pub mod NextRun
 mod PlayAborts
 pub mod PlayCore

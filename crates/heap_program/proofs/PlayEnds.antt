@@ -221,6 +221,15 @@ module _ {D : Type 0} {g : Ghosts D} (s : Super) (c : Core) (running : IsRunning
         end = written_end output;
       }
 
+  -- it tells of the core that was reached
+  pub ends_whole_at : {B : Type 0} (h : Ghosts B) (start final : B) (at_opening : ℕ) (keeps : KeepsThroughout h None at_opening c made core start final) (output : Result (Unit {0}) WriteError) (after' : List ℕ) → plays.behind ≡ [] → MadeAll c made core
+      → (IsTrue told → after ≡ before ++ lines_text core.history) → (IsTrue told → WroteText output after (graph_text (serial core.g0 (sealed core.history))) after') → final ≡ keeps.stopped
+      → h.passed keeps.stopped ≡ counted (at_opening + total_calls c made) (h.passed start) → Only (h.bytes final) (h.may_leave final)
+      → (played : IsPlayed h None at_opening c events start final (status_after output) told before after') × (played.run.core ≡ core)
+  unfolding ends_whole
+  ends_whole_at h start final at_opening keeps output after' nothing reached out wrote same calls last =
+      (ends_whole h start final at_opening keeps output after' nothing reached out wrote same calls last, refl)
+
   -- The heap was to be opened again, and what came back to be written.
   module _ {B : Type 0} (h : Ghosts B) (start final : B) (stop : Stop) (at_opening : ℕ) (keeps : KeepsThroughout h (Some stop.after) at_opening c made core start final)
       (calls : Unharmed h start keeps.stopped → h.passed keeps.stopped ≡ counted (min stop.after (at_opening + total_calls c made)) (h.passed start)) (few_calls : h.passed keeps.stopped ≤ counted (min stop.after (at_opening + total_calls c made)) (h.passed start)) where

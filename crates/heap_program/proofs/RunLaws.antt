@@ -21,6 +21,7 @@ use Rattle.heap_model.specs.Ending.{all_events}
 use Rattle.script_text.specs.Line.{events}
 use Rattle.heap_program.proofs.CoreSteps.{made_limits, made_reached, script_is, all_playable}
 use Rattle.heap_program.specs.CrashSafe.{IsCrashSafe, RunsSafely}
+use Rattle.heap_program.specs.Load.{RunsLoad}
 use Rattle.heap_program.specs.Playable.{IsReadFrom}
 use Rattle.heap_program.specs.Stored.{stored_core, stored_calls}
 use Rattle.core_laws.specs.Ended.{IsUnfailed}
@@ -35,7 +36,7 @@ use Rattle.heap_core.specs.Format.{IsFormatting}
 use Rattle.heap_program.specs.declared.status.Status.{Status}
 use Rattle.heap_program.specs.declared.status.Status.TheVariants as status
 use Rattle.command_words.specs.declared.commands.Stop.{Stop}
-use Rattle.heap_program.specs.Headline.{lasting, made_super, made_core, IsEndOfPlay, BlamesNoImage, IsUnmade, IsPlayed, PlaysScript, Runs, RestartsDisk, stop_after}
+use Rattle.heap_program.specs.Headline.{lasting, made_super, made_core, IsEndOfPlay, BlamesNoImage, IsUnmade, IsNotMade, IsPlayed, PlaysScript, Runs, RestartsDisk, stop_after}
 use Rattle.script_text.specs.declared.line.Line.{Line}
 use Rattle.heap_program.specs.Causes.{IsInputError}
 
@@ -94,15 +95,22 @@ module _ {D : Type 0} (g : Ghosts D) (disk : D) (only : Only (g.bytes disk) (g.m
   unread s (status.Damaged at) input = absurd input
   unread s (status.TooSmall size need) input = absurd input
 
-  pub not_read : (fresh : Option ℕ) (stop : Option Stop) (is_script : List Line → Type 0) (by : Status) (told : Bool) (before : List ℕ) → IsInputError by → Runs g fresh stop is_script disk disk by told before before
-  not_read None stop is_script by told before input = inl (record { reason = input; same = refl; nothing = λ t. refl })
-  not_read (Some pages) stop is_script by told before input = inl (record {
+  unmade : (pages : ℕ) (by : Status) (told : Bool) (before : List ℕ) → IsInputError by → IsNotMade g (made_super pages) disk disk by told before before
+  unmade pages by told before input = record {
     reason = unread (made_super pages) by input;
     nothing = λ t. refl;
     moments = still (IsFormatting (made_super pages) (g.bytes disk)) (inr (inl refl));
     outside = still (SameOutside 0 (image_size pages 1048576) (g.bytes disk)) (record { size = refl; before = λ i low. refl; behind = λ i high. refl });
     restarts = refl;
-  })
+  }
+
+  pub not_read : (fresh : Option ℕ) (stop : Option Stop) (is_script : List Line → Type 0) (by : Status) (told : Bool) (before : List ℕ) → IsInputError by → Runs g fresh stop is_script disk disk by told before before
+  not_read None stop is_script by told before input = inl (record { reason = input; same = refl; nothing = λ t. refl })
+  not_read (Some pages) stop is_script by told before input = inl (unmade pages by told before input)
+
+  pub load_not_run : (fresh : Option ℕ) (seed count : ℕ) (by : Status) (told : Bool) (before : List ℕ) → IsInputError by → RunsLoad g fresh seed count disk disk by told before before
+  load_not_run None seed count by told before input = inl (record { reason = input; same = refl; nothing = λ t. refl })
+  load_not_run (Some pages) seed count by told before input = inl (unmade pages by told before input)
 
 -- What a run says of crashes in short.
 module _ {D : Type 0} (g : Ghosts D) (now : (disk : D) (image : List ℕ) → g.left_since disk (g.moment disk) image → g.may_leave disk image) (start final : D) where

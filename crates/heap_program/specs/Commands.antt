@@ -1,4 +1,4 @@
--- What the commands that play no script promise, and what each command asks of the disk.
+-- What the commands that play nothing promise, and what each command asks of the disk.
 use Rattle.std.specs.Prelude.{◌≡◌, ◌≢◌, ◌⊎◌, ℕ, ◌+◌, ◌≤◌, List, [], ◌∷◌, ◌++◌, codes, Bool, IsTrue, Option, None, Some}
 use Rattle.std.specs.Fmt.{decimal}
 use Rattle.counts.specs.Count.{counted}
@@ -28,6 +28,8 @@ makes (asked.Format n) = Some (heap_of n.pages n.log_bytes n.first)
 makes (asked.Play None stop) = None
 makes (asked.Play (Some pages) stop) = Some (made_super pages)
 makes asked.Graph = None
+makes (asked.Load seed count None) = None
+makes (asked.Load seed count (Some pages)) = Some (made_super pages)
 
 -- the numbers of a heap, as a command names them
 abbrev pub superblock_numbers : Super → Numbers
@@ -38,11 +40,13 @@ abbrev pub restarts_of : Command → ℕ
 restarts_of (asked.Format n) = 0
 restarts_of (asked.Play fresh stop) = restarts_asked stop
 restarts_of asked.Graph = 0
+restarts_of (asked.Load seed count fresh) = 0
 
 -- What a command can be done on: a disk that is large enough for the heap that it makes, or one that holds a heap.
 abbrev pub CanRun : Command → ℕ → List ℕ → Type 0
 CanRun (asked.Format n) extent image = image_size n.pages n.log_bytes ≤ extent
 CanRun (asked.Play fresh stop) extent image = CanPlay fresh extent image
+CanRun (asked.Load seed count fresh) extent image = CanPlay fresh extent image
 CanRun asked.Graph extent image = (s : Super) × (batches : List (List Record)) × (stored : Pages) × IsShaped s batches stored image
 
 -- A command that reads a script.
@@ -57,6 +61,8 @@ IsEndOf (asked.Format n) s = IsEndOfPlay s
 IsEndOf (asked.Play fresh stop) status.Usage = ⊥
 IsEndOf (asked.Play fresh stop) s = Unit {0}
 IsEndOf asked.Graph s = IsOpenedEnd s
+IsEndOf (asked.Load seed count fresh) (status.TooSmall size need) = Unit {0}
+IsEndOf (asked.Load seed count fresh) s = IsOpenedEnd s
 
 -- the line of a format, with the size of the image in bytes
 abbrev pub formatted_line : Super → List ℕ

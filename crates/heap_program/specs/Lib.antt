@@ -2,6 +2,7 @@ pub mod Causes
 pub mod Commands
 pub mod CrashSafe
 pub mod Headline
+pub mod Load
 pub mod Output
 pub mod Play
 pub mod Playable

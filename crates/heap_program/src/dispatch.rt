@@ -20,12 +20,14 @@ ghost use Rattle.heap_model.specs.Opening.{IsFound};
 ghost use Rattle.heap_program.specs.Causes.{DiskRose, StreamCause, RunsDisk};
 ghost use Rattle.heap_program.specs.Commands.{makes, superblock_numbers, restarts_of, IsPlay, IsEndOf, CanRun, RunsFormat, PrintsGraph, WritesText, formatted_line};
 ghost use Rattle.heap_program.specs.CrashSafe.{RunsSafely};
+ghost use Rattle.heap_program.specs.Load.{RunsLoad, SummarizesSome};
 ghost use Rattle.heap_program.specs.Headline.{OfTold, PrintsRun, IsOfOwnImage, Runs, IsUntouching, EndsUnread, EndsUnmade, BlamesNoImage, RestartsDisk, graph_text, stop_after};
 ghost use Rattle.heap_program.specs.Playable.{IsReadFrom};
 ghost use Rattle.heap_recovery.specs.Faults.{IsLeftOf};
 ghost use Rattle.heap_program.specs.Refusals.{IsFault, IsWordFault, IsToldOf, IsToldOfEach, EndsRefused, IsLeftAlone, LeavesAlone};
 ghost use Rattle.script_text.specs.Script.{script};
 
+use crate::loading::run_load;
 use crate::playing::run_play;
 use crate::printing::{run_format, run_graph};
 use crate::status::Status;
@@ -34,8 +36,8 @@ use disk_model::Disk;
 use heap_io::{Sink, Source};
 use std::alloc::Global;
 
-/// Does what the words of the command line say: makes a heap on `disk`, plays the script that `source` gives on a new heap or on the
-/// one that is there, or opens it; and writes the replies and the graph to `sink`.
+/// Does what the words of the command line say: makes a heap on `disk`, plays the script that `source` gives, or a load, on a new heap or on the
+/// one that is there, or opens it; and writes the replies and the graph, or a summary, to `sink`.
 pub fn run<D: Disk, S: Source, K: Sink>(
     alloc: Global,
     words: &[String],
@@ -81,11 +83,19 @@ pub fn run<D: Disk, S: Source, K: Sink>(
         → (s : Super) (batches : List (List Record)) (stored : Pages) → (shaped : IsShaped s batches stored (D.bytes disk)) → (born : Bool) (places : Places) (g : Graph) → IsFound s batches stored shaped.log born places g
         → PrintsGraph D.Disk s batches stored g disk result.1 result.0 K.tells (K.written sink.old) (K.written sink.new)) }
 
-    // On any disk, what was written are lines of one history, a number of commits and a graph; or the size of an image; or a graph.
+    // A load was played on a heap, a new one or the one that was there: the same is said of its events as of a play's, with every moment. Its summary
+    // was written: how many they are, how often they were answered so, and how many objects their graph has.
+    ensures loads { OfTold D.tells (D.bytes disk) (D.may_leave disk) ((seed count : ℕ) (fresh : Option ℕ) → command (map string_bytes words.now) ≡ Some (asked.Load seed count fresh)
+        → RunsLoad D.Disk fresh seed count disk result.1 result.0 K.tells (K.written sink.old) (K.written sink.new)) }
+
+    // On any disk, what was written are lines of one history, a number of commits and a graph; or the size of an image; or a graph; or a
+    // summary of one history.
     ensures prints { IsTrue K.tells → (fresh : Option ℕ) (stop : Option Stop) → command (map string_bytes words.now) ≡ Some (asked.Play fresh stop)
         → ((result.0 ≢ Status.Done) × (K.written sink.new ≡ K.written sink.old)) ⊎ ((lines : List Line) × IsReadFrom S.tells (S.left source.old) lines × PrintsRun (IsOfOwnImage fresh D.tells (D.bytes disk)) (stop_after stop) lines result.0 (K.written sink.old) (K.written sink.new)) }
     ensures prints_size { IsTrue K.tells → (s : Super) → command (map string_bytes words.now) ≡ Some (asked.Format (superblock_numbers s)) → WritesText result.0 (formatted_line s) (K.written sink.old) (K.written sink.new) }
     ensures prints_graph { IsTrue K.tells → command (map string_bytes words.now) ≡ Some asked.Graph → ((result.0 ≢ Status.Done) × (K.written sink.new ≡ K.written sink.old)) ⊎ ((g : Graph) × WritesText result.0 (graph_text g) (K.written sink.old) (K.written sink.new)) }
+
+    ensures prints_load { IsTrue K.tells → (seed count : ℕ) (fresh : Option ℕ) → command (map string_bytes words.now) ≡ Some (asked.Load seed count fresh) → SummarizesSome seed count result.0 (K.written sink.old) (K.written sink.new) }
 
     // On any disk, without a stop a status against the image comes before anything is written.
     ensures unwritten { (asked : Command) → command (map string_bytes words.now) ≡ Some asked → restarts_of asked ≡ 0 → ¬ BlamesNoImage result.0 → sink.new ≡ sink.old }
@@ -126,5 +136,6 @@ pub fn run<D: Disk, S: Source, K: Sink>(
         Command::Format(numbers) => run_format(alloc, numbers, disk, sink),
         Command::Play { fresh, stop } => run_play(alloc, fresh, stop, disk, source, sink),
         Command::Graph => run_graph(alloc, disk, sink),
+        Command::Load { seed, count, fresh } => run_load(alloc, seed, count, fresh, disk, sink),
     }
 }

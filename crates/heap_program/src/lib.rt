@@ -4,11 +4,14 @@
 
 mod again;
 mod dispatch;
+mod loading;
 mod output;
 mod play;
 mod playing;
 mod printing;
+mod rounds;
 mod status;
+mod summary;
 
 pub use dispatch::run;
 pub use output::WriteError;

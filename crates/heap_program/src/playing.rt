@@ -30,10 +30,10 @@ use script_text::{Line, MOST_BYTES, read_script};
 use std::alloc::Global;
 
 /// The bytes of the log of a heap that is made afresh.
-const LOG_BYTES: u32 = 1_048_576;
+pub(crate) const LOG_BYTES: u32 = 1_048_576;
 
 /// The number of its first transaction.
-const FIRST: u32 = 1;
+pub(crate) const FIRST: u32 = 1;
 
 /// Plays the script that `source` gives, on a heap that is made afresh with `fresh` pages in each space, or on the one that is there.
 pub fn run_play<D: Disk, S: Source, K: Sink>(

@@ -27,6 +27,10 @@ fn play(fresh: Option<u32>, stop: Option<Stop>) -> Command {
     Command::Play { fresh, stop }
 }
 
+fn load(seed: u32, count: u32, fresh: Option<u32>) -> Command {
+    Command::Load { seed, count, fresh }
+}
+
 fn stop(after: u64, again: Option<u64>) -> Option<Stop> {
     Some(Stop { after, again })
 }
@@ -64,6 +68,12 @@ fn commands_are_read(rt: HostRuntime) -> Result<(), Fail> {
             play(Some(2), stop(4, Some(never))),
         ),
         ("graph", Command::Graph),
+        ("load 1 2", load(1, 2, None)),
+        ("load 0 0 --fresh 1", load(0, 0, Some(1))),
+        (
+            "load --fresh=16384 2147483647 100000",
+            load(2_147_483_647, 100_000, Some(16384)),
+        ),
     ];
     for (line, wanted) in lines {
         assert_eq!(rt; read(rt.alloc(), line)?, Ok(wanted), "{line}");
@@ -109,7 +119,19 @@ fn other_words_are_refused(rt: HostRuntime) -> Result<(), Fail> {
         "graph --fresh 1",
         "graph graph",
         "threads",
-        "load 1 2",
+        "load",
+        "load 1",
+        "load 1 2 3",
+        "load 2147483648 1",
+        "load 1 100001",
+        "load -1 1",
+        "load 1 -1",
+        "load x 1",
+        "load 1 2 --fresh 0",
+        "load 1 2 --fresh 16385",
+        "load 1 2 --fresh 1 --fresh 1",
+        "load 1 2 --stop 1",
+        "load --seed 1 2",
         "help",
         "--help",
         "--version",

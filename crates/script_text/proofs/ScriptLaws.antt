@@ -84,7 +84,7 @@ text_sound text = then_holds IsSound line_of (words text) line_sound
 abbrev IsRead : ℕ → Result Reading ScriptError → Type 0
 IsRead n read = IfOk read (λ r. AllByRecursion IsSound r.found × (length r.found ≤ n))
 
-AllByRecursion-append : {X : Type 0} (P : X → Type 0) (xs ys : List X) → AllByRecursion P xs → AllByRecursion P ys → AllByRecursion P (xs ++ ys)
+pub AllByRecursion-append : {X : Type 0} (P : X → Type 0) (xs ys : List X) → AllByRecursion P xs → AllByRecursion P ys → AllByRecursion P (xs ++ ys)
 AllByRecursion-append P [] ys h k = k
 AllByRecursion-append P (x ∷ xs) ys h k = (h.0, AllByRecursion-append P xs ys h.1 k)
 

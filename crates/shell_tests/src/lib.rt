@@ -6,6 +6,8 @@ mod flush_tests;
 #[cfg(test)]
 mod kept_tests;
 #[cfg(test)]
+mod load_tests;
+#[cfg(test)]
 mod run_tests;
 #[cfg(test)]
 mod status_tests;

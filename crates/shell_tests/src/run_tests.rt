@@ -26,7 +26,7 @@ pub struct Played {
     pub output: Vec<u8>,
 }
 
-fn words_of(alloc: Global, line: &str) -> Result<Vec<String>, AllocError> {
+pub fn words_of(alloc: Global, line: &str) -> Result<Vec<String>, AllocError> {
     let mut words = Vec::new(alloc);
     for word in line.split_whitespace() {
         words.push(String::from_str(alloc, word)?)?;
@@ -691,7 +691,10 @@ fn other_words_are_no_command(rt: HostRuntime) -> Result<(), Fail> {
         "heap format 1 65536",
         "heap graph 1",
         "heap threads",
-        "heap load 1 2",
+        "heap load 1",
+        "heap load 1 x",
+        "heap load 1 2 3",
+        "heap load 1 2 --fresh 0",
     ]
     .iter()
     {

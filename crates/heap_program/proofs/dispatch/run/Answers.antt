@@ -1,4 +1,4 @@
-use Rattle.std.proofs.Common.{◌≡◌, ℕ, Option, Some, None, Err, sym, ap, ◌∙◌, subst}
+use Rattle.std.proofs.Common.{◌≡◌, inl, ℕ, Option, Some, None, Err, refl, sym, ap, ◌∙◌, subst}
 use Rattle.std.specs.Prelude.{IfSome}
 use Rattle.command_words.specs.declared.commands.Command.TheVariants as asked
 use Rattle.command_words.specs.declared.commands.CommandError.{CommandError}
@@ -9,7 +9,7 @@ use Rattle.heap_core.specs.Format.{heap_of}
 use Rattle.heap_model.proofs.Opening.Opened.{address_found}
 use Rattle.heap_program.specs.Commands.{makes, restarts_of, CanRun}
 use Rattle.heap_program.specs.Headline.{made_super}
-use Rattle.heap_program.proofs.CommandLaws.{same_play, graph_unread, play_ends, unread_ends, format_told_each, format_sound, no_stop, not_made}
+use Rattle.heap_program.proofs.CommandLaws.{same_play, same_load, command_not_done, graph_unread, load_unread, play_ends, unread_ends, format_told_each, format_sound, no_stop, not_made, load_made}
 use Rattle.heap_program.proofs.RefusalLaws.{alone_untouched}
 use Rattle.heap_program.proofs.RunLaws.{runs_safely, end_done}
 use Rattle.heap_program.proofs.WordFaults.{untouched_log}
@@ -106,3 +106,57 @@ returns-in-Err-clause-left_alone g c tells which is none expected fault alone = 
 pub returns-in-Err-clause-keeps_log : goal.returns-in-Err-clause-keeps_log
 returns-in-Err-clause-keeps_log g c tells only asked is none fault =
     untouched_log g.D.Disk c.args.disk only (λ image since. g.met.D.Disk.only_now tells c.args.disk image since) fault
+
+-- ---- a load
+
+pub returns-in-Err-clause-loads : goal.returns-in-Err-clause-loads
+returns-in-Err-clause-loads g c tells only seed count fresh is =
+    let d = g.D.Disk in
+    load_unread d c.args.disk only (λ image since. g.met.D.Disk.only_now tells c.args.disk image since) seed count fresh c.in-Err.e _ is (λ (same : c.in-Err.e ≡ asking.Usage). c.in-Err.ensures.usage (ap (λ (x : CommandError). Err x) same)) c.from.result c.from.ensures
+    g.K.Sink.tells (g.K.Sink.written c.args.sink.now)
+
+pub returns-in-Err-clause-prints_load : goal.returns-in-Err-clause-prints_load
+returns-in-Err-clause-prints_load g c tells seed count fresh is = inl ((λ done. command_not_done c.in-Err.e (sym c.from.ensures ∙ done)), refl)
+
+pub run_load-requires : goal.run_load-requires
+run_load-requires g c = let within = subst IsWithin c.in-Load.is c.in-Ok.ensures.limits in record { seeded = within.0; few = within.1; paged = within.2 }
+
+pub returns-in-Load-clause-too_small : goal.returns-in-Load-clause-too_small
+returns-in-Load-clause-too_small g c size need told which is =
+    let same : which ≡ asked.Load c.in-Load.seed c.in-Load.count c.in-Load.fresh = cc (is, c.in-Ok.ensures.read, c.in-Load.is) in
+    let small = c.run_load.ensures.too_small size need told in
+    (made_super small.0, ap makes same ∙ ap (λ (fresh : Option ℕ). makes (asked.Load c.in-Load.seed c.in-Load.count fresh)) small.1, small.2, small.3, small.4)
+
+pub returns-in-Load-clause-loads : goal.returns-in-Load-clause-loads
+returns-in-Load-clause-loads g c tells only seed count fresh is =
+    let k = g.K.Sink in
+    let same : asked.Load seed count fresh ≡ asked.Load c.in-Load.seed c.in-Load.count c.in-Load.fresh = cc (is, c.in-Ok.ensures.read, c.in-Load.is) in
+    let one = same_load seed count fresh c.in-Load.seed c.in-Load.count c.in-Load.fresh same in
+    rw (one.0, one.1, one.2) (c.run_load.ensures.loads tells only)
+
+pub returns-in-Load-clause-prints_load : goal.returns-in-Load-clause-prints_load
+returns-in-Load-clause-prints_load g c tells seed count fresh is =
+    let same : asked.Load seed count fresh ≡ asked.Load c.in-Load.seed c.in-Load.count c.in-Load.fresh = cc (is, c.in-Ok.ensures.read, c.in-Load.is) in
+    let one = same_load seed count fresh c.in-Load.seed c.in-Load.count c.in-Load.fresh same in
+    rw (one.0, one.1) (c.run_load.ensures.prints tells)
+
+pub returns-in-Load-clause-ends : goal.returns-in-Load-clause-ends
+returns-in-Load-clause-ends g c which is =
+    let same : which ≡ asked.Load c.in-Load.seed c.in-Load.count c.in-Load.fresh = cc (is, c.in-Ok.ensures.read, c.in-Load.is) in
+    rw same c.run_load.ensures.ends
+
+pub returns-in-Load-clause-refused : goal.returns-in-Load-clause-refused
+returns-in-Load-clause-refused g c tells which is none unstarted =
+    let same : which ≡ asked.Load c.in-Load.seed c.in-Load.count c.in-Load.fresh = cc (is, c.in-Ok.ensures.read, c.in-Load.is) in
+    c.run_load.ensures.refused tells (load_made c.in-Load.seed c.in-Load.count c.in-Load.fresh (subst (λ (x : Command). makes x ≡ None) same none))
+
+pub returns-in-Load-clause-left_alone : goal.returns-in-Load-clause-left_alone
+returns-in-Load-clause-left_alone g c tells which is none expected fault alone =
+    let same : which ≡ asked.Load c.in-Load.seed c.in-Load.count c.in-Load.fresh = cc (is, c.in-Ok.ensures.read, c.in-Load.is) in
+    c.run_load.ensures.left_alone tells (load_made c.in-Load.seed c.in-Load.count c.in-Load.fresh (subst (λ (x : Command). makes x ≡ None) same none)) expected fault alone
+
+pub returns-in-Load-clause-complete : goal.returns-in-Load-clause-complete
+returns-in-Load-clause-complete g c tells only which is can script no_source no_sink no_disk =
+    let same : which ≡ asked.Load c.in-Load.seed c.in-Load.count c.in-Load.fresh = cc (is, c.in-Ok.ensures.read, c.in-Load.is) in
+    let able = subst (λ (x : Command). CanRun x (g.D.Disk.extent c.args.disk) (g.D.Disk.bytes c.args.disk)) same can in
+    end_done _ _ c.run_load.result.0 (c.run_load.ensures.complete tells only able) c.run_load.ensures.disk_fault.cause c.run_load.ensures.write_fault.cause no_disk no_sink

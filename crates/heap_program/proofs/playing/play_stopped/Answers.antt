@@ -330,6 +330,13 @@ returns-in-None-clause-restarts g c tells =
     subst (λ (n : ℕ). RestartsDisk (starts_asked c.args.stop.again) c.start_again-in-None.result.0 n (r c.start_again-in-None.result.1))
     (ap (λ x. r (fuse_inner x)) c.close.ensures ∙ c.play_lines-played.ensures.disk.restarts tells ∙ c.in-Ok.ensures.disk.restarts tells ∙ ap r c.new.ensures.inner) (c.start_again-in-None.ensures.restarts tells)
 
+-- an opening that is refused starts no disk again
+pub returns-in-Err-clause-restarts : goal.returns-in-Err-clause-restarts
+returns-in-Err-clause-restarts g c tells =
+    let r = g.D.Disk.restarts in
+    restarts_none (starts_asked c.args.stop.again) _ _ _ (λ done. absurd (open_not_done c.in-Err.e (sym c.from.ensures ∙ done)))
+    (ap r c.into_inner.ensures ∙ c.in-Err.ensures.disk.restarts tells ∙ ap r c.new.ensures.inner)
+
 -- it ended before the disk was started again
 pub returns-in-Some-clause-restarts : goal.returns-in-Some-clause-restarts
 returns-in-Some-clause-restarts g c tells =

@@ -1,0 +1,52 @@
+use Rattle.std.proofs.Common.{◌≡◌, inl, inr, ℕ, Some, None, sym, ◌∙◌, subst}
+use Rattle.heap_program.specs.Headline.{made_super, made_core}
+use Rattle.heap_program.specs.Load.{PlaysLoad}
+use Rattle.heap_program.proofs.CommandLaws.{opened_load, format_load}
+use Rattle.heap_program.proofs.PlayOpen.{new_stored, no_calls}
+use Rattle.heap_program.proofs.RunLaws.{large_made, end_sound}
+use Rattle.heap_program.proofs.loading.run_load.Goals as goal
+
+pub returns-in-None-clause-ends : goal.returns-in-None-clause-ends
+returns-in-None-clause-ends g c = opened_load c.args.seed c.args.count c.args.fresh c.load_whole.result.0 c.load_whole.ensures.end
+
+pub returns-in-Ok-clause-ends : goal.returns-in-Ok-clause-ends
+returns-in-Ok-clause-ends g c = opened_load c.args.seed c.args.count c.args.fresh c.load_whole-in-Ok.result.0 c.load_whole-in-Ok.ensures.end
+
+pub returns-in-Err-clause-ends : goal.returns-in-Err-clause-ends
+returns-in-Err-clause-ends g c = rw c.from.ensures (format_load c.args.seed c.args.count c.args.fresh c.in-Err.e)
+
+pub returns-in-None-clause-loads : goal.returns-in-None-clause-loads
+returns-in-None-clause-loads g c tells only = rw c.in-None.is (inr (λ stored. c.load_whole.ensures.played tells stored only))
+
+pub returns-in-Ok-clause-loads : goal.returns-in-Ok-clause-loads
+returns-in-Ok-clause-loads g c tells only =
+    let d = g.D.Disk in
+    let k = g.K.Sink in
+    let pages = c.in-Some.pages in
+    let final = c.load_whole-in-Ok.result in
+    let e = c.in-Ok.ensures in
+    let made = e.made tells in
+    let stored = new_stored pages (d.bytes c.in-Ok.disk) made.0 in
+    let played = c.load_whole-in-Ok.ensures.played tells stored made.1 in
+    let first = made_core pages (d.bytes c.in-Ok.disk) in
+    rw c.in-Some.is (inr (record {
+      made = c.in-Ok.disk;
+      format = record { moments = e.moments tells only; empty = made.0; zeros = e.empty tells; kept = e.outside tells; outside = e.moments_outside tells only; only = made.1; passed = (e.passes tells (large_made _ _ e.small)).ok; restarts = e.disk.restarts tells };
+      plays = subst (λ (n : ℕ). PlaysLoad d c.args.seed c.args.count n first c.in-Ok.disk final.1 final.0 k.tells (k.written c.args.sink.now) (k.written c.load_whole-in-Ok.new.sink)) (no_calls (made_super pages)) played;
+    }))
+
+pub returns-in-Ok-clause-complete : goal.returns-in-Ok-clause-complete
+returns-in-Ok-clause-complete g c tells only can =
+    let made = c.in-Ok.ensures.made tells in
+    let stored = new_stored c.in-Some.pages (g.D.Disk.bytes c.in-Ok.disk) made.0 in
+    (c.load_whole-in-Ok.ensures.played tells stored made.1).played.end
+
+pub returns-in-Ok-clause-sound : goal.returns-in-Ok-clause-sound
+returns-in-Ok-clause-sound g c tells only pages is =
+    let made = c.in-Ok.ensures.made tells in
+    let stored = new_stored c.in-Some.pages (g.D.Disk.bytes c.in-Ok.disk) made.0 in
+    end_sound _ (c.load_whole-in-Ok.ensures.played tells stored made.1).played.end
+
+-- the heap that was made is durable
+pub returns-in-Ok-clause-refused_at_end : goal.returns-in-Ok-clause-refused_at_end
+returns-in-Ok-clause-refused_at_end g c tells only = c.load_whole-in-Ok.ensures.refused_at_end tells (c.in-Ok.ensures.made tells).1
