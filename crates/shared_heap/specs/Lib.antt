@@ -1,2 +1,4 @@
 pub mod Follows
 pub mod Shared
+pub mod Callers
+pub mod Workers

@@ -33,7 +33,7 @@ impl<D: Disk> SharedHeap<D> {
     ghost use Rattle.graph_model.specs.declared.reply.Entry.{Entry};
     ghost use Rattle.shared_heap.specs.Follows.{Follows};
     ghost use Rattle.shared_heap.specs.Shared.{handed_in, IsOpen, IsPass, MaySend, Told};
-    ghost use Rattle.turn_lock.specs.Passes.{pass_numbers, label_of, mine_of, seen_of, front_of, IsNew, IsSamePass, HasSameTurns};
+    ghost use Rattle.turn_lock.specs.Passes.{pass_numbers, label_of, mine_of, seen_of, parts_of, front_of, IsNew, IsSamePass, HasSameTurns};
     ghost use Rattle.turn_lock.specs.Turning.{EachOnce, IsBeginning, StandIn, places, times, total};
 
     /// Shares a heap, with one pass for each label, in their order: the number of a session, or 0. Where memory is refused the heap comes back.
@@ -111,6 +111,8 @@ impl<D: Disk> SharedHeap<D> {
         // One history: each entry of a pass stands at its place, and each place since the heap was shared is one pass's, once.
         ensures stand { AllByRecursion (λ p. StandIn (history_of result) (mine_of p)) passes.items }
         ensures once { EachOnce (λ k. total (λ p. times k (places (mine_of p))) passes.items) (length (history_of (handed_in self))) (length (history_of result)) }
+        // And all that any pass saw is how it begins.
+        ensures seen { AllByRecursion (λ p. IsBeginning (seen_of p) (history_of result)) passes.items }
         // It is a run of the core that was handed in, on any disk and on one that tells; the disk's counts say why it failed.
         ensures follows { Follows (handed_in self) result }
         ensures front { AllByRecursion (λ p. front_of p ≤ acknowledged (history_of result)) passes.items }
@@ -135,6 +137,7 @@ impl<D: Disk> SharedHeap<D> {
         ensures numbers { (n : ℕ) → times n (pass_numbers result) ≡ times n (pass_numbers pass) + total (λ p. times n (pass_numbers p)) passes.items }
         ensures places { (k : ℕ) → times k (places (mine_of result)) ≡ times k (places (mine_of pass)) + total (λ p. times k (places (mine_of p))) passes.items }
         ensures stand { (log : List Entry) → StandIn log (mine_of result) → StandIn log (mine_of pass) × AllByRecursion (λ p. StandIn log (mine_of p)) passes.items }
+        ensures seen { (log : List Entry) → AllByRecursion (λ seen. IsBeginning seen log) (seen_of result ∷ parts_of result) → AllByRecursion (λ seen. IsBeginning seen log) (seen_of pass ∷ parts_of pass) × AllByRecursion (λ p. IsBeginning (seen_of p) log) passes.items }
         ensures front { (front_of pass ≤ front_of result) × AllByRecursion (λ p. front_of p ≤ front_of result) passes.items }
     {
         match passes.pop() {

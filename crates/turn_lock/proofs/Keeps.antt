@@ -16,7 +16,8 @@ use Rattle.turn_lock.specs.declared.view.Stage.TheVariants.{Resting, Waiting, Tu
 use Rattle.turn_lock.specs.Turning.{one, times, total, EachOnce, IsBeginning, greatest, places, StandIn, added, numbers_from, IsOneTurn}
 use Rattle.turn_lock.specs.Rule.{is_queued, is_held, ahead, tickets, tickets_of, times_at, Kept, Shared, Fits, AtHome, IsOut, HasTurns, newcomer}
 use Rattle.turn_lock.specs.Steps.{waiting, in_turn, raising, resting, left_to_deal, dealt, joined, spent, queued, raised, passed, read, GoesBack, looked}
-use Rattle.turn_lock.proofs.Lists.{value_or, begins_longer, get_last, greatest_since}
+use Rattle.std.specs.List.{AllByRecursion}
+use Rattle.turn_lock.proofs.Lists.{value_or, begins_longer, begin_more, begin_append, get_last, greatest_since}
 use Rattle.turn_lock.proofs.TurnLaws.{begins_itself, begins_more, begins_length, stand_more, stand_append, added_one, added_none, times_append, places_append}
 use Rattle.turn_lock.proofs.Counts.{one_same, at_within, total_append, total_set, total_same, term_le, terms_le, total_le, total_alone, once_same, once_grown, once_passed, once_bound, once_inside, length_numbers, once_numbers, next_number}
 
@@ -144,7 +145,7 @@ module _ {T E : Type 0} (entries : T → List E) (stood : T → ℕ) (front : E 
             places_once = once_same (λ n. total (times_at n) s.views) (λ n. total (times_at n) (set s.views id w)) (stood first) (length r.log) k.places_once (λ n. total_same (times_at n) s.views id v w at refl);
             turns_made = total_same (λ (u : V). u.turns) s.views id v w at refl ∙ k.turns_made;
             each = each_set r.served r.served r.log r.log s.views id w k.each (λ _ _ _ _ f. f)
-                record { first_is = fit.first_is; seen_in = fit.seen_in; mine_in = fit.mine_in; front_in = fit.front_in; turn_is = λ h. absurd (no_bool false h refl); idle = λ none. absurd (some_number none) };
+                record { first_is = fit.first_is; seen_in = fit.seen_in; parts_in = fit.parts_in; mine_in = fit.mine_in; front_in = fit.front_in; turn_is = λ h. absurd (no_bool false h refl); idle = λ none. absurd (some_number none) };
           };
           slot = slot_set r.served r.log r.home s.views id v w at hv refl r.slot;
         },
@@ -210,6 +211,7 @@ module _ {T E : Type 0} (entries : T → List E) (stood : T → ℕ) (front : E 
                 record {
                   first_is = fit.first_is;
                   seen_in = subst (λ l. IsBeginning l r.log) (sym h.entries_are) (begins_itself r.log);
+                  parts_in = fit.parts_in;
                   mine_in = fit.mine_in;
                   front_in = omega (arith, fw);
                   turn_is = λ _. mine;
@@ -261,6 +263,7 @@ module _ {T E : Type 0} (entries : T → List E) (stood : T → ℕ) (front : E 
   grown log log' more e up served u f = record {
     first_is = f.first_is;
     seen_in = subst (IsBeginning u.seen) (sym e) (begins_more u.seen log more f.seen_in);
+    parts_in = begin_more log more log' e u.parts f.parts_in;
     mine_in = subst (λ l. StandIn l u.mine) (sym e) (stand_more log more u.mine f.mine_in);
     front_in = omega (arith, f.front_in);
     turn_is = f.turn_is;
@@ -305,6 +308,7 @@ module _ {T E : Type 0} (entries : T → List E) (stood : T → ℕ) (front : E 
                 record {
                   first_is = fit.first_is;
                   seen_in = begins_itself log';
+                  parts_in = begin_more r.log more log' is v.parts fit.parts_in;
                   mine_in = subst (StandIn log') (sym mine) (stand_append log' v.mine new (subst (λ l. StandIn l v.mine) (sym is) (stand_more r.log more v.mine fit.mine_in)) stand);
                   front_in = omega arith;
                   turn_is = λ _. fit.turn_is held;
@@ -391,8 +395,8 @@ module _ {T E : Type 0} (entries : T → List E) (stood : T → ℕ) (front : E 
             places_once = once_same (λ n. total (times_at n) s.views) (λ n. total (times_at n) (set s.views id w)) (stood first) (length r.log) sh.places_once (λ n. total_same (times_at n) s.views id v w at refl);
             turns_made = omega (arith, total_set (λ (u : V). u.turns) s.views id v w at, sh.turns_made);
             each = each_set r.served (r.served + 1) r.log r.log s.views id w sh.each
-                (λ j u n is f. record { first_is = f.first_is; seen_in = f.seen_in; mine_in = f.mine_in; front_in = f.front_in; turn_is = λ h. absurd (no_bool (is_held u.stage) h (nobody j u n is)); idle = f.idle })
-                record { first_is = fit.first_is; seen_in = fit.seen_in; mine_in = fit.mine_in; front_in = fit.front_in; turn_is = λ h. absurd (no_bool false h refl); idle = λ no. absurd (no_bool (is_queued v.stage) qv (ap is_queued (fit.idle no).0)) };
+                (λ j u n is f. record { first_is = f.first_is; seen_in = f.seen_in; parts_in = f.parts_in; mine_in = f.mine_in; front_in = f.front_in; turn_is = λ h. absurd (no_bool (is_held u.stage) h (nobody j u n is)); idle = f.idle })
+                record { first_is = fit.first_is; seen_in = fit.seen_in; parts_in = fit.parts_in; mine_in = fit.mine_in; front_in = fit.front_in; turn_is = λ h. absurd (no_bool false h refl); idle = λ no. absurd (no_bool (is_queued v.stage) qv (ap is_queued (fit.idle no).0)) };
           };
           slot = inl record {
             value = value;
@@ -432,7 +436,7 @@ module _ {T E : Type 0} (entries : T → List E) (stood : T → ℕ) (front : E 
             places_once = once_same (λ n. total (times_at n) s.views) (λ n. total (times_at n) (set s.views id w)) (stood first) (length r.log) sh.places_once (λ n. total_same (times_at n) s.views id v w at refl);
             turns_made = total_same (λ (u : V). u.turns) s.views id v w at refl ∙ sh.turns_made;
             each = each_set r.served r.served r.log r.log s.views id w sh.each (λ _ _ _ _ f. f)
-                record { first_is = fit.first_is; seen_in = fit.seen_in; mine_in = fit.mine_in; front_in = omega (arith, is); turn_is = fit.turn_is; idle = fit.idle };
+                record { first_is = fit.first_is; seen_in = fit.seen_in; parts_in = fit.parts_in; mine_in = fit.mine_in; front_in = omega (arith, is); turn_is = fit.turn_is; idle = fit.idle };
           };
           slot = ⊎_elim
               (λ h. inl record {
@@ -510,9 +514,9 @@ module _ {T E : Type 0} (entries : T → List E) (stood : T → ℕ) (front : E 
           turns_made = more (λ u. u.turns) (omega (arith, no_turns)) ∙ sh.turns_made;
           each = λ j u is. ⊎_elim
               (λ t. each_set r.served r.served r.log r.log s.views id l sh.each (λ _ _ _ _ f. f)
-              record { first_is = fit.first_is; seen_in = fit.seen_in; mine_in = fit.mine_in; front_in = fit.front_in; turn_is = fit.turn_is; idle = λ _. (st, no_mine, no_turns) } j u t)
+              record { first_is = fit.first_is; seen_in = fit.seen_in; parts_in = fit.parts_in; mine_in = fit.mine_in; front_in = fit.front_in; turn_is = fit.turn_is; idle = λ _. (st, no_mine, no_turns) } j u t)
               (λ t. subst (Fit r.served r.log) t
-              record { first_is = fit.first_is; seen_in = fit.seen_in; mine_in = fit.mine_in; front_in = fit.front_in; turn_is = fit.turn_is; idle = λ _. (st, no_mine, no_turns) })
+              record { first_is = fit.first_is; seen_in = fit.seen_in; parts_in = fit.parts_in; mine_in = fit.mine_in; front_in = fit.front_in; turn_is = fit.turn_is; idle = λ _. (st, no_mine, no_turns) })
               (at_snoc vs d u j is);
         };
         slot = slot_more r.served r.log r.home vs d hv (slot_set r.served r.log r.home s.views id v l at hv hv r.slot);
@@ -534,6 +538,7 @@ module _ {T E : Type 0} (entries : T → List E) (stood : T → ℕ) (front : E 
       let fit_w : Fit r.served r.log w = record {
         first_is = fv.first_is;
         seen_in = begins_longer v.seen u.seen r.log fv.seen_in fu.seen_in;
+        parts_in = (fv.seen_in, (fu.seen_in, begin_append r.log v.parts u.parts fv.parts_in fu.parts_in));
         mine_in = stand_append r.log v.mine u.mine fv.mine_in fu.mine_in;
         front_in = omega (arith, fv.front_in, fu.front_in);
         turn_is = fv.turn_is;
@@ -559,6 +564,7 @@ module _ {T E : Type 0} (entries : T → List E) (stood : T → ℕ) (front : E 
               (λ t. subst (Fit r.served r.log) t.1 record {
                 first_is = λ value no. absurd (none-some value no);
                 seen_in = (r.log, refl);
+                parts_in = tt;
                 mine_in = tt;
                 front_in = omega arith;
                 turn_is = λ h. absurd (no_bool false h refl);
@@ -587,6 +593,7 @@ module _ {T E : Type 0} (entries : T → List E) (stood : T → ℕ) (front : E 
       let fit : Fit 0 (entries first) v = record {
         first_is = λ value e. sym (ap (λ o. value_or o first) e);
         seen_in = begins_itself (entries first);
+        parts_in = tt;
         mine_in = tt;
         front_in = omega arith;
         turn_is = λ h. absurd (no_bool false h refl);
@@ -626,6 +633,7 @@ module _ {T E : Type 0} (entries : T → List E) (stood : T → ℕ) (front : E 
     pub stood_is : stood value ≡ stood first
     pub follows_is : follows first value
     pub seen_in : IsBeginning v.seen (entries value)
+    pub parts_in : AllByRecursion (λ seen. IsBeginning seen (entries value)) v.parts
     pub mine_in : StandIn (entries value) v.mine
     pub once : EachOnce (λ k. times k (places v.mine)) (stood first) (length (entries value))
     pub turns_are : (length (entries value) - stood first + empty_turns value) % W ≡ v.turns % W
@@ -651,6 +659,7 @@ module _ {T E : Type 0} (entries : T → List E) (stood : T → ℕ) (front : E 
           stood_is = h.stood_is;
           follows_is = h.follows_is;
           seen_in = subst (IsBeginning v.seen) (sym es) fit.seen_in;
+          parts_in = subst (λ l. AllByRecursion (λ seen. IsBeginning seen l) v.parts) (sym es) fit.parts_in;
           mine_in = subst (λ l. StandIn l v.mine) (sym es) fit.mine_in;
           once = once_same (λ k. total (times_at k) s.views) (λ k. times k (places v.mine)) (stood first) (length (entries h.value)) (subst (λ l. EachOnce (λ k. total (times_at k) s.views) (stood first) (length l)) (sym es) sh.places_once) (λ k. sym (alone_at k));
           turns_are = subst (λ l. (length l - stood first + empty_turns h.value) % W ≡ r.served % W) (sym es) h.turns_are ∙ ap (λ (z : ℕ). z % W) (sym sh.turns_made ∙ turns_alone);

@@ -2,11 +2,22 @@
 use Rattle.std.proofs.Common.{◌≡◌, ℕ, zero, suc, ◌≤◌, ◌⊎◌, true, false, List, [], ◌∷◌, ◌++◌, length, drop, max, cond, sym, refl, ap, ◌∙◌, subst, inl, inr, ⊎_elim, arith, Option, Some, None, slice_get}
 use lib.Seq.{drop-append-le}
 use Rattle.std.proofs.lemmas.Option.{none-some}
+use Rattle.std.specs.List.{AllByRecursion}
 use Rattle.turn_lock.specs.Turning.{IsBeginning, greatest, longer}
+use Rattle.turn_lock.proofs.TurnLaws.{begins_more}
 
 module _ {E : Type 0} where
   pub begins_longer : (xs ys zs : List E) → IsBeginning xs zs → IsBeginning ys zs → IsBeginning (longer xs ys) zs
   begins_longer xs ys zs a b = elim (Rattle.std.specs.Prelude.nat_lt (length xs) (length ys)) as (λ c. IsBeginning (cond c ys xs) zs) [ true ↦ b | false ↦ a ]
+
+  -- histories that are beginnings of one history are beginnings of one that goes on from it
+  pub begin_more : (log more log' : List E) → log' ≡ log ++ more → (parts : List (List E)) → AllByRecursion (λ seen. IsBeginning seen log) parts → AllByRecursion (λ seen. IsBeginning seen log') parts
+  begin_more log more log' is [] all = tt
+  begin_more log more log' is (x ∷ xs) all = (subst (IsBeginning x) (sym is) (begins_more x log more all.0), begin_more log more log' is xs all.1)
+
+  pub begin_append : (log : List E) (xs ys : List (List E)) → AllByRecursion (λ seen. IsBeginning seen log) xs → AllByRecursion (λ seen. IsBeginning seen log) ys → AllByRecursion (λ seen. IsBeginning seen log) (xs ++ ys)
+  begin_append log [] ys a b = b
+  begin_append log (x ∷ xs) ys a b = (a.0, begin_append log xs ys a.1 b)
 
   pub length_longer : (n : ℕ) (xs ys : List E) → n ≤ length xs → n ≤ length ys → n ≤ length (longer xs ys)
   length_longer n xs ys a b = elim (Rattle.std.specs.Prelude.nat_lt (length xs) (length ys)) as (λ c. n ≤ length (cond c ys xs)) [ true ↦ b | false ↦ a ]

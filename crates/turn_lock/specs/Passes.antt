@@ -27,6 +27,10 @@ module _ {T E : Type 0} where
   abbrev pub seen_of : Pass T E → List E
   seen_of pass = pass.seat.me.0.seen
 
+  -- the same of each pass that was joined into it, and of itself before
+  abbrev pub parts_of : Pass T E → List (List E)
+  parts_of pass = pass.seat.me.0.parts
+
   -- the entries of its own turns, each with its place in the history
   abbrev pub mine_of : Pass T E → List (ℕ × E)
   mine_of pass = pass.seat.me.0.mine
@@ -53,12 +57,13 @@ module _ {T E : Type 0} where
     pub stage : pass.seat.me.0.stage ≡ Turn
     pub slots : pass.seat.me.1 ≡ (0, None) ∷ []
 
-  -- It is still that pass: of the same lock, with the same label and numbers.
+  -- It is still that pass: of the same lock, with the same label and numbers, and the same passes were joined into it.
   pub record IsSamePass (old new : Pass T E) : Type 0 where
     pub lock : new.seat.table_id ≡ old.seat.table_id
     pub first : new.seat.me.0.first ≡ old.seat.me.0.first
     pub label : label_of new ≡ label_of old
     pub numbers : pass_numbers new ≡ pass_numbers old
+    pub parts : parts_of new ≡ parts_of old
 
   -- Its history and its own turns are as they were.
   pub record HasSameTurns (old new : Pass T E) : Type 0 where
@@ -73,6 +78,7 @@ module _ {T E : Type 0} where
     pub label : label_of new ≡ label_of one
     pub numbers : pass_numbers new ≡ pass_numbers one ++ pass_numbers other
     pub seen : seen_of new ≡ longer (seen_of one) (seen_of other)
+    pub parts : parts_of new ≡ seen_of one ∷ seen_of other ∷ (parts_of one ++ parts_of other)
     pub mine : mine_of new ≡ mine_of one ++ mine_of other
     pub turns : turns_of new ≡ turns_of one + turns_of other
     pub front : front_of new ≡ max (front_of one) (front_of other)
@@ -91,6 +97,7 @@ module _ {T E : Type 0} where
     pub label_is : label_of pass ≡ label
     pub number_is : pass_numbers pass ≡ number ∷ []
     pub seen : seen_of pass ≡ log
+    pub parts : parts_of pass ≡ []
     pub mine : mine_of pass ≡ []
     pub turns : turns_of pass ≡ 0
     pub front : front_of pass ≡ 0

@@ -1,6 +1,7 @@
 -- The rule of the lock, over the words, the slot and what each pass knows.
 -- Word 0 is the number of tickets that were taken, word 1 the number of turns that were passed, both by remainder of 2^64, and word 2 is the front.
 use Rattle.std.specs.Prelude.{◌≡◌, ℕ, ◌+◌, ◌-◌, ◌%◌, ◌^◌, ◌<◌, ◌≤◌, ◌⊎◌, Bool, true, false, List, [], ◌∷◌, length, drop, cond, Option, Some}
+use Rattle.std.specs.List.{AllByRecursion}
 use mathlib.Core.Option.{some, none}
 use mathlib.Core.Option as maybe
 use lib.ListN.{get_elem?}
@@ -57,6 +58,7 @@ module _ {T E : Type 0} (entries : T → List E) (stood : T → ℕ) (front : E 
   pub record Fits (served : ℕ) (log : List E) (v : View T E) : Type 0 where
     pub first_is : (value : T) → v.first ≡ Some value → value ≡ first
     pub seen_in : IsBeginning v.seen log
+    pub parts_in : AllByRecursion (λ seen. IsBeginning seen log) v.parts
     pub mine_in : StandIn log v.mine
     pub front_in : v.front ≤ front_of log
     pub turn_is : is_held v.stage ≡ true → v.ticket ≡ served
@@ -108,4 +110,4 @@ module _ {T E : Type 0} (entries : T → List E) (stood : T → ℕ) (front : E 
 
 -- the view of the first seat, which has the numbers of all passes
 abbrev pub newcomer : {T E : Type 0} → (T → List E) → T → ℕ → View T E
-newcomer entries first passes = record { first = Some first; numbers = numbers_from 0 passes; stage = Resting; ticket = 0; seen = entries first; empty = 0; mine = []; turns = 0; front = 0 }
+newcomer entries first passes = record { first = Some first; numbers = numbers_from 0 passes; stage = Resting; ticket = 0; seen = entries first; parts = []; empty = 0; mine = []; turns = 0; front = 0 }

@@ -35,11 +35,11 @@ module _ {T E : Type 0} where
 
   -- what two passes know together
   abbrev pub joined : View T E → View T E → View T E
-  joined v w = record v { numbers = v.numbers ++ w.numbers; seen = longer v.seen w.seen; mine = v.mine ++ w.mine; turns = v.turns + w.turns; front = max v.front w.front }
+  joined v w = record v { numbers = v.numbers ++ w.numbers; seen = longer v.seen w.seen; parts = v.seen ∷ w.seen ∷ (v.parts ++ w.parts); mine = v.mine ++ w.mine; turns = v.turns + w.turns; front = max v.front w.front }
 
   -- the view of a pass that was joined into another one
   abbrev pub spent : View T E
-  spent = record { first = None; numbers = []; stage = Resting; ticket = 0; seen = []; empty = 0; mine = []; turns = 0; front = 0 }
+  spent = record { first = None; numbers = []; stage = Resting; ticket = 0; seen = []; parts = []; empty = 0; mine = []; turns = 0; front = 0 }
 
   -- a ticket was taken, of which the word tells the remainder
   abbrev pub queued : Knows T E → ℕ → Knows T E → Type 0

@@ -43,10 +43,11 @@ pub struct Held<T> {
 }
 
 impl<T: Turns> TurnLock<T> {
+    ghost use Rattle.std.specs.List.{AllByRecursion};
     ghost use Rattle.std.specs.Prelude.{◌≡◌, ◌≢◌, ℕ, ◌+◌, ◌-◌, ◌%◌, ◌^◌, ◌<◌, ◌≤◌, ◌++◌, [], ◌∷◌, length, drop, max, IfOk, IfErr, slice_get, slice_index, Some, None, vec_len, vec_capacity};
     ghost use Rattle.turn_lock.specs.declared.view.Stage.TheVariants.{Waiting, Raised};
     ghost use Rattle.turn_lock.specs.Turning.{EachOnce, IsBeginning, IsOneTurn, StandIn, added, greatest, numbers_from, places, times};
-    ghost use Rattle.turn_lock.specs.Passes.{first_of, passes_of, pass_numbers, seen_of, mine_of, turns_of, front_of, empty_of, IsResting, HasTurn, IsSamePass, HasSameTurns, IsJoined, IsPassOf, IsNew};
+    ghost use Rattle.turn_lock.specs.Passes.{first_of, passes_of, pass_numbers, seen_of, parts_of, mine_of, turns_of, front_of, empty_of, IsResting, HasTurn, IsSamePass, HasSameTurns, IsJoined, IsPassOf, IsNew};
     ghost use Rattle.turn_lock.specs.Rule.{newcomer};
     ghost use Rattle.turn_lock.specs.Steps.{Gets, GoesBack, passed, queued, raised};
 
@@ -261,6 +262,7 @@ impl<T: Turns> TurnLock<T> {
         requires all { (number : ℕ) → number < passes_of self → 0 < times number (pass_numbers pass) }
         ensures same_value { (T.stood result ≡ T.stood (first_of self)) × T.follows (first_of self) result }
         ensures history { IsBeginning (seen_of pass) (T.entries result) }
+        ensures parts { AllByRecursion (λ seen. IsBeginning seen (T.entries result)) (parts_of pass) }
         ensures stand { StandIn (T.entries result) (mine_of pass) }
         ensures once { EachOnce (λ place. times place (places (mine_of pass))) (T.stood (first_of self)) (length (T.entries result)) }
         ensures turns { (length (T.entries result) - T.stood (first_of self) + T.empty_turns result) % 2 ^ 64 ≡ turns_of pass % 2 ^ 64 }

@@ -24,6 +24,8 @@ pub struct View<T, E> {
     pub ticket: u64,
     /// The history as far as it was seen.
     pub seen: LinkedList<E>,
+    /// The same of each pass that was joined into it, and of itself before.
+    pub parts: LinkedList<LinkedList<E>>,
     /// The empty turns of the value that is out with it.
     pub empty: u64,
     /// The entries of its own turns, each with its place in the history.

@@ -35,7 +35,7 @@ returns-clause-pass g c =
         resting = gave.1;
         rises = (left g c).rises;
       },
-      record { lock = gave.0.lock ∙ held.lock; first = gave.0.first ∙ held.first; label = gave.0.label ∙ held.label; numbers = gave.0.numbers ∙ held.numbers },
+      record { lock = gave.0.lock ∙ held.lock; first = gave.0.first ∙ held.first; label = gave.0.label ∙ held.label; numbers = gave.0.numbers ∙ held.numbers; parts = gave.0.parts ∙ held.parts },
     )
 
 pub returns-clause-seen : goal.returns-clause-seen

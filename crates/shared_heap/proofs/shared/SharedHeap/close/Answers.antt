@@ -3,8 +3,8 @@ use Rattle.std.specs.List.{AllByRecursion}
 use Rattle.std.specs.Option.{option_to_list}
 use Rattle.graph_model.specs.History.{acknowledged}
 use Rattle.heap_core.specs.HeapState.{history_of}
-use Rattle.turn_lock.specs.Passes.{pass_numbers, mine_of, front_of, first_of}
-use Rattle.turn_lock.specs.Turning.{EachOnce, StandIn, times, places, total}
+use Rattle.turn_lock.specs.Passes.{pass_numbers, seen_of, mine_of, front_of, first_of}
+use Rattle.turn_lock.specs.Turning.{EachOnce, IsBeginning, StandIn, times, places, total}
 use Rattle.turn_lock.proofs.Counts.{once_same}
 use Rattle.shared_heap.proofs.CloseLaws.{total_last}
 use Rattle.shared_heap.proofs.FollowsLaws.{follows_keeps}
@@ -24,6 +24,13 @@ returns-clause-stand g c =
     let log = history_of c.close-heap.result.heap in
     let h = c.join_all-pass.ensures.stand log c.close-heap.ensures.stand in
     subst (AllByRecursion (λ p. StandIn log (mine_of p))) (sym is) (all_last (λ p. StandIn log (mine_of p)) c.pop.new.self.items c.unwrap-last.result h.1 h.0)
+
+pub returns-clause-seen : goal.returns-clause-seen
+returns-clause-seen g c =
+    let is : c.args.passes.items ≡ c.pop.new.self.items ++ c.unwrap-last.result ∷ [] = c.pop.ensures.items ∙ ap (λ o. c.pop.new.self.items ++ option_to_list o) c.unwrap-last.ensures in
+    let log = history_of c.close-heap.result.heap in
+    let h = c.join_all-pass.ensures.seen log (c.close-heap.ensures.history, c.close-heap.ensures.parts) in
+    subst (AllByRecursion (λ p. IsBeginning (seen_of p) log)) (sym is) (all_last (λ p. IsBeginning (seen_of p) log) c.pop.new.self.items c.unwrap-last.result h.1 h.0.0)
 
 pub returns-clause-once : goal.returns-clause-once
 returns-clause-once g c =

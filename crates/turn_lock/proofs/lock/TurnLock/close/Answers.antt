@@ -14,4 +14,4 @@ returns g c =
     let e = ends _ _ _ _ _ _ _ _ _ _ _ c.requires.pass.1.stage c.requires.all c.close_with-closed.ensures.values.2 in
     let is : Some e.0 ≡ Some c.unwrap-value.result = sym (some-injective _ _ (sym c.take.ensures.value ∙ e.1)) ∙ c.unwrap-value.ensures in
     let end = subst (Ends _ _ _ _ _ _ _ _) (ap (λ o. value_or o e.0) is) e.2 in
-    record { same_value = (end.stood_is, end.follows_is); history = end.seen_in; stand = end.mine_in; once = end.once; turns = end.turns_are; front = end.front_in }
+    record { same_value = (end.stood_is, end.follows_is); history = end.seen_in; parts = end.parts_in; stand = end.mine_in; once = end.once; turns = end.turns_are; front = end.front_in }

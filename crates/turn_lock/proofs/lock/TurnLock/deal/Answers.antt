@@ -21,6 +21,6 @@ loop-label-preserved g c =
       room = c.push_reserved.ensures.capacity ∙ inv.room;
       each = λ i pass at. each_push (λ n p. IsNew c.args.self.now n (slice_index c.args.labels.now n) (t.entries first) p) _ _ inv.each
           (rw (let e : length c.loop-label.passes.items ≡ k = sym c.loop-label.passes.ok.0 ∙ inv.count in e) (new_pass c.args.self.now _ k _ (t.entries first) (dealing t.entries t.stood t.front t.empty_turns t.follows first (length c.args.labels.now) k)
-          (cut.3 ∙ (inv.seat ∙ c.requires.seat.0)) (cut.4 ∙ ap (λ m. (dealt m.0, [])) inv.view) refl refl (deals_number t.entries t.stood t.front t.empty_turns t.follows first (length c.args.labels.now) k near) refl refl refl refl (search rules)))
+          (cut.3 ∙ (inv.seat ∙ c.requires.seat.0)) (cut.4 ∙ ap (λ m. (dealt m.0, [])) inv.view) refl refl (deals_number t.entries t.stood t.front t.empty_turns t.follows first (length c.args.labels.now) k near) refl refl refl refl refl (search rules)))
           i pass (ap (λ l. slice_get l i) (sym c.push_reserved.ensures.items) ∙ at);
     }

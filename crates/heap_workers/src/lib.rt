@@ -1,0 +1,17 @@
+//! Workers, each of which sends its own events to a heap that may be shared, in their order, and makes an event that is answered busy again.
+#![tactic(auto)]
+
+mod calls;
+mod gate;
+mod station;
+mod together;
+mod worker;
+
+pub use calls::HeapCalls;
+pub use gate::{Gate, OpenGate};
+pub use station::Station;
+pub use together::{MOST_WORKERS, work_all};
+pub use worker::{COLLECTOR, FLUSHER, Worker};
+
+#[cfg(test)]
+mod tests;

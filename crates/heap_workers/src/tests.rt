@@ -1,0 +1,198 @@
+//! Workers with a caller that answers from a table, alone and in threads.
+use crate::{Gate, HeapCalls, OpenGate, Station, Worker, work_all};
+use crossbeam_utils::Backoff;
+use graph_model::{Entry, Event, Refusal, Reply};
+use std::alloc::{AllocError, Global};
+use std::sync::Wait;
+use std::sync::atomic::{AtomicU64, Ordering};
+use std::test::Fail;
+
+// How often a worker looks for the other one before it goes on alone.
+const LOOKS: u32 = 1_000_000;
+
+// Answers from a table, and `done` behind its end.
+#[derive(Drop)]
+struct Answers {
+    replies: Vec<Reply>,
+    sent: Vec<Entry>,
+}
+
+impl HeapCalls for Answers {
+    ghost takes = { λ _ _. Unit {0} };
+
+    ghost sent = { λ calls. calls.sent.items };
+
+    ghost Origin = { Unit {0} };
+
+    ghost origin = { λ _. tt };
+
+    fn call<R: Wait>(&mut self, _rt: &R, event: Event) -> Result<Reply, AllocError> {
+        let reply = match self.replies.get(self.sent.len()) {
+            Some(reply) => *reply,
+            None => Reply::Done,
+        };
+        self.sent.push(Entry { event, reply })?;
+        Ok(reply)
+    }
+}
+
+// A worker with events of its own session, that makes each twice at most.
+fn station(
+    alloc: Global,
+    number: u32,
+    events: Vec<Event>,
+    replies: Vec<Reply>,
+) -> Station<Answers> {
+    Station {
+        calls: Answers {
+            replies,
+            sent: Vec::new(alloc),
+        },
+        worker: Worker {
+            number,
+            tries: 2,
+            events,
+        },
+        end: Ok(()),
+    }
+}
+
+// Counts the turns of one worker, and those that come in another order than from 1 on.
+#[derive(Drop)]
+struct Counts {
+    last: AtomicU64,
+    wrong: AtomicU64,
+}
+
+impl Gate for Counts {
+    fn pass<R: Wait>(&self, _rt: &R, worker: u32, turn: u64) {
+        let before = self.last.fetch_add(1, Ordering::SeqCst);
+        if worker != 3 || Some(turn) != before.checked_add(1) {
+            self.wrong.fetch_add(1, Ordering::SeqCst);
+        }
+    }
+}
+
+fn refused(why: Refusal) -> Reply {
+    Reply::Refused { why }
+}
+
+#[test]
+fn busy_events_are_made_again_and_a_failure_ends_all(rt: HostRuntime) -> Result<(), Fail> {
+    let alloc = rt.alloc();
+    let (begin, root) = (Event::Begin { s: 3 }, Event::Root { s: 3, h: 0 });
+    let (seal, abort) = (Event::Seal { s: 3 }, Event::Abort { s: 3 });
+    let busy = refused(Refusal::Busy { holder: 8 });
+    let failed = refused(Refusal::Failed { entry: 9 });
+    let events = vec![in alloc; begin, root, seal, Event::Force]?;
+    let replies = vec![in alloc;
+        busy,
+        Reply::Begun { n: 9 },
+        busy,
+        busy,
+        Reply::Aborted,
+        failed,
+    ]?;
+    let sent = [
+        (begin, busy),
+        (begin, Reply::Begun { n: 9 }),
+        (root, busy),
+        (root, busy),
+        (abort, Reply::Aborted),
+        (seal, failed),
+    ];
+    let gate = Counts {
+        last: AtomicU64::new(0),
+        wrong: AtomicU64::new(0),
+    };
+    let mut station = station(alloc, 3, events, replies);
+    station.work(&rt, &gate);
+    assert!(rt; station.end.is_ok() && has(&station, &sent));
+    // The gate was passed once for each event, and not for each try.
+    assert!(rt; gate.last.into_inner() == 3 && gate.wrong.into_inner() == 0);
+    Ok(())
+}
+
+// Whether these are the events that were sent, with these answers.
+fn has(station: &Station<Answers>, sent: &[(Event, Reply)]) -> bool {
+    station.calls.sent.len() == sent.len()
+        && station.calls.sent.iter().zip(sent).all(|(entry, (event, reply))| entry.event == *event
+            && entry.reply == *reply)
+}
+
+// Where the workers 1 and 2 meet: at turn 2 each waits until the other one has come there.
+#[derive(Drop)]
+struct Meeting {
+    first: AtomicU64,
+    second: AtomicU64,
+    ran_out: AtomicU64,
+}
+
+impl Gate for Meeting {
+    fn pass<R: Wait>(&self, _rt: &R, worker: u32, turn: u64) {
+        if turn == 2 && worker == 1 {
+            self.meet(&self.first, &self.second);
+        }
+        if turn == 2 && worker == 2 {
+            self.meet(&self.second, &self.first);
+        }
+    }
+}
+
+impl Meeting {
+    // Comes, and looks for the other one.
+    fn meet(&self, own: &AtomicU64, other: &AtomicU64) {
+        own.store(1, Ordering::SeqCst);
+        let backoff = Backoff::new();
+        for _ in 0..LOOKS {
+            if other.load(Ordering::SeqCst) == 1 {
+                return;
+            }
+            backoff.snooze();
+        }
+        self.ran_out.fetch_add(1, Ordering::SeqCst);
+    }
+
+    fn new() -> Meeting {
+        Meeting {
+            first: AtomicU64::new(0),
+            second: AtomicU64::new(0),
+            ran_out: AtomicU64::new(0),
+        }
+    }
+}
+
+// Two workers with two events each.
+fn two_stations(alloc: Global) -> Result<Vec<Station<Answers>>, AllocError> {
+    let mut stations = Vec::new(alloc);
+    for s in 1..3 {
+        let events = vec![in alloc; Event::Begin { s }, Event::Seal { s }]?;
+        stations.push(station(alloc, s, events, Vec::new(alloc)))?;
+    }
+    Ok(stations)
+}
+
+#[test]
+fn two_workers_meet_in_threads(rt: HostRuntime) -> Result<(), Fail> {
+    let mut stations = two_stations(rt.alloc())?;
+    let gate = Meeting::new();
+    work_all(&rt, stations.as_mut_slice(), &gate);
+    assert!(rt; gate.ran_out.into_inner() == 0);
+    assert!(rt; gate.first.into_inner() == 1 && gate.second.into_inner() == 1);
+    assert!(rt;
+        stations.iter().all(|station| station.end.is_ok() && station.calls.sent.len() == 2)
+    );
+    Ok(())
+}
+
+// One behind the other they do not meet: the first waits in vain.
+#[test]
+fn two_workers_in_turn_do_not_meet(rt: HostRuntime) -> Result<(), Fail> {
+    let mut stations = two_stations(rt.alloc())?;
+    let gate = Meeting::new();
+    for station in stations.iter_mut() {
+        station.work(&rt, &gate);
+    }
+    assert!(rt; gate.ran_out.into_inner() == 1);
+    Ok(())
+}
