@@ -1,6 +1,6 @@
 -- How answers go on.
 use Rattle.std.proofs.Common.{◌≡◌, ℕ, ◌+◌, Bool, List, [], ◌∷◌, ◌++◌, length, map, Option, Some, None, Ok, refl, sym, ap, ◌∙◌, subst, arith, append_assoc}
-use Rattle.std.specs.Prelude.{IsTrue}
+use Rattle.std.specs.Prelude.{IsTrue, ◌≢◌}
 use Rattle.std.specs.List.{AllByRecursion}
 use Rattle.std.proofs.lemmas.Grind.{flat_map-append}
 use Rattle.std.proofs.lemmas.List.{append-nil, append_cancel_left}
@@ -12,14 +12,15 @@ use Rattle.log_machine.proofs.ListLaws.{AllByRecursion-append}
 use Rattle.heap_core.specs.declared.heap.Heap.{Heap}
 use Rattle.heap_model.specs.Core.{Core, IsRun}
 use Rattle.heap_model.specs.CoreRuns.{after_events}
+use Rattle.heap_model.specs.Ending.{ending}
 use Rattle.heap_model.proofs.Run.Calls.{step_history}
 use Rattle.heap_model.proofs.Step.Calls.{after_events-append, whole_run}
 use Rattle.heap_program.specs.Play.{MadeAll, PlaysCore, lines_text}
 use Rattle.script_text.specs.declared.line.Line.{Line}
 use Rattle.script_text.specs.Line.{read_text}
 use Rattle.script_text.proofs.ScriptLaws.{text_sessions}
-use Rattle.session_program.specs.Lines.{Answered, IsOfItsEvents, asked, heard_of, answers_text, named, found_events, fault_of}
-use Rattle.session_program.specs.Session.{HasAnswered, Answers}
+use Rattle.session_program.specs.Lines.{reopen_line, Answered, IsOfItsEvents, asked, heard_of, answers_text, named, found_events, fault_of}
+use Rattle.session_program.specs.Session.{HasAnswered, Answers, MayRefuse, RefusesReopens}
 
 found_sessions : (text : List ℕ) (found : Option Line) → read_text text ≡ found → AllByRecursion IsOfSession (found_events found)
 found_sessions text None is = tt
@@ -71,9 +72,17 @@ whole_made c events new told before after plays =
     let same : events ≡ plays.made = plays.parts ∙ ap (λ (l : List Event). plays.made ++ l) plays.ends.0 ∙ append-nil plays.made in
     subst (λ (l : List Event). MadeAll c l plays.core) (sym same) plays.ends.1
 
+-- a line that was not let part the session
+pub may_refuse : (c : Core) (now text : List ℕ) → now ≡ text → (now ≡ reopen_line → ending c ≢ []) → MayRefuse c (Some text)
+may_refuse c now text same busy is = let e : text ≡ reopen_line = cc is in busy (same ∙ e)
+
+refused_more : (c : Core) (answered : List Answered) (a : Answered) → RefusesReopens c answered → MayRefuse (after_events c (asked answered)) a.text → RefusesReopens c (answered ++ a ∷ [])
+refused_more c [] a before may = (may, tt)
+refused_more c (x ∷ answered) a before may = (before.0, refused_more (after_events c (named x.text)) answered a before.1 (subst (λ (d : Core). MayRefuse d a.text) (after_events-append c (named x.text) (asked answered)) may))
+
 -- nothing was answered
 pub answered_none : (c : Core) (told : Bool) (before : List ℕ) → HasAnswered c [] c told before before
-answered_none c told before = record { made = refl; heard = sym (append-nil c.history); own = tt; written = λ t. sym (append-nil before) }
+answered_none c told before = record { made = refl; heard = sym (append-nil c.history); own = tt; refused = tt; written = λ t. sym (append-nil before) }
 
 -- One line more was answered.
 module _ {D : Type 0} {g : Ghosts D} (c d : Core) (answered : List Answered) (told : Bool) (before between after : List ℕ) (so_far : HasAnswered c answered d told before between)
@@ -99,11 +108,12 @@ module _ {D : Type 0} {g : Ghosts D} (c d : Core) (answered : List Answered) (to
       let same : lines.0 ≡ run.0 = append_cancel_left d.history lines.0 run.0 (sym lines.1 ∙ run.1) in
       lines.2 ∙ ap (λ (l : List Entry). answers.between ++ lines_text l) same ∙ ap (λ (l : List ℕ). l ++ lines_text run.0) (answers.fault t) ∙ append_assoc between (fault_of number text) (lines_text run.0)
 
-  pub answered_next : HasAnswered c (answered ++ its ∷ []) plays.core told before after
-  answered_next = record {
+  pub answered_next : MayRefuse d text → HasAnswered c (answered ++ its ∷ []) plays.core told before after
+  answered_next may = record {
     made = whole ∙ ap (λ (x : Core). after_events x (named text)) so_far.made ∙ sym (after_events-append c (asked answered) (named text)) ∙ ap (after_events c) (sym (asked_more answered its));
     heard = run.1 ∙ ap (λ (l : List Entry). l ++ run.0) so_far.heard ∙ append_assoc c.history (heard_of answered) run.0 ∙ ap (λ (l : List Entry). c.history ++ l) (sym (heard_more answered its));
     own = AllByRecursion-append IsOfItsEvents answered (its ∷ []) so_far.own (run.2, tt);
+    refused = refused_more c answered its so_far.refused (subst (λ (x : Core). MayRefuse x text) so_far.made may);
     written = λ t.
         wrote t ∙ ap (λ (l : List ℕ). l ++ own_text) (so_far.written t) ∙ append_assoc before (answers_text 1 answered) own_text
         ∙ ap (λ (l : List ℕ). before ++ l) (sym (answers_more 1 number answered its (omega arith)));

@@ -1,7 +1,9 @@
 mod Answering
+mod Idle
 mod NextSession
 mod OnDisk
 mod OneLine
+mod PartLaws
 mod PlayedLines
 mod ServedWhole
 mod SoFar

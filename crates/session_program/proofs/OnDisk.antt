@@ -23,7 +23,7 @@ use Rattle.heap_program.proofs.PlayLaws.{plays_none}
 use Rattle.heap_program.proofs.Written.{none_written}
 use Rattle.script_text.specs.declared.line.Line.{Line}
 use Rattle.script_text.specs.Line.{line_events}
-use Rattle.session_program.specs.Lines.{named, fault_of, fault_line}
+use Rattle.session_program.specs.Lines.{named, fault_of}
 use Rattle.session_program.specs.Session.{Answers, AnswersOn}
 use Rattle.session_program.proofs.OneLine.{wrote_none, stops_since}
 
@@ -120,9 +120,9 @@ module _ {D : Type 0} {g : Ghosts D} where
             plays = subst (λ (l : List Event). Plays s c l heap heap told before before (Ok tt)) (sym none) (plays_none s c heap told before is);
           }
 
-          module _ (fault : fault_of number text ≡ fault_line number) where
+          module _ (said : List ℕ) (fault : fault_of number text ≡ said) where
             -- one that is not in the grammar, or too long
-            pub refused_on : (IsTrue told → after ≡ before ++ fault_line number) → AnswersOn s c number text heap heap told before after (Ok tt)
+            pub refused_on : (IsTrue told → after ≡ before ++ said) → AnswersOn s c number text heap heap told before after (Ok tt)
             refused_on wrote = record {
               between = after;
               fault = λ t. wrote t ∙ ap (λ (l : List ℕ). before ++ l) (sym fault);
@@ -130,7 +130,7 @@ module _ {D : Type 0} {g : Ghosts D} where
             }
 
             -- and that was not wholly written
-            pub part_on : (e : WriteError) → (IsTrue told → WroteFront before (fault_line number) after) → AnswersOn s c number text heap heap told before after (Err (write_halt e))
+            pub part_on : (e : WriteError) → (IsTrue told → WroteFront before said after) → AnswersOn s c number text heap heap told before after (Err (write_halt e))
             part_on e wrote = record {
               between = after;
               fault = λ t. subst (λ (l : List ℕ). WroteFront before l after) (sym fault) (wrote t);

@@ -1,6 +1,6 @@
 -- One line is answered.
 use Rattle.std.proofs.Common.{◌≡◌, inl, ℕ, ◌<◌, Bool, false, List, [], ◌∷◌, ◌++◌, length, Option, Some, Result, Ok, Err, refl, sym, ap, ◌∙◌, subst, arith}
-use Rattle.std.specs.Prelude.{IsTrue, ◌==◌}
+use Rattle.std.specs.Prelude.{IsTrue, ◌==◌, IsErr, IsErrAnd, IsFalse, bytes_eq}
 use Rattle.std.proofs.lemmas.List.{append-nil}
 use Rattle.disk_model.specs.declared.disk.Disk.{Ghosts}
 use Rattle.graph_model.specs.declared.event.Event.{Event}
@@ -19,8 +19,20 @@ use Rattle.heap_program.proofs.PlayCore.{core_none, core_nothing}
 use Rattle.heap_program.proofs.Written.{none_written}
 use Rattle.script_text.specs.declared.line.Line.{Line}
 use Rattle.script_text.specs.Line.{read_text, line_events}
-use Rattle.session_program.specs.Lines.{named, fault_of, fault_line, found_events, found_fault}
+use Rattle.session_program.specs.Lines.{named, fault_of, fault_line, found_events, found_fault, said_against, reopen_line, unfinished_line}
 use Rattle.session_program.specs.Session.{Answers, Wrote}
+
+-- what is made of an error
+pub error_is : {T E : Type 0} (r : Result T E) (e : E) → IsErr r → IsErrAnd r (λ x. x ≡ e) → r ≡ Err e
+error_is (Ok t) e failed is = absurd is
+error_is (Err x) e failed is = ap (λ y. Err y) is
+
+-- what is said against a `reopen`, and against another line
+pub said_reopen : (number : ℕ) (text : List ℕ) (asked : Bool) → asked ≡ bytes_eq text reopen_line → IsTrue asked → said_against number text ≡ unfinished_line
+said_reopen number text asked is so = rw (sym is ∙ so) refl
+
+pub said_other : (number : ℕ) (text : List ℕ) (asked : Bool) → asked ≡ bytes_eq text reopen_line → IsFalse asked → said_against number text ≡ fault_line number
+said_other number text asked is not_so = rw (sym is ∙ not_so) refl
 
 -- a text of some bytes
 pub some_text : (text : List ℕ) → (length text == 0) ≡ false → 0 < length text
@@ -36,9 +48,9 @@ pub names : (text : List ℕ) (found : Option Line) → 0 < length text → read
 names [] found some is = absurd (omega arith)
 names (b ∷ text) found some is = ap found_events is
 
-pub faults : (number : ℕ) (text : List ℕ) (found : Option Line) → 0 < length text → read_text text ≡ found → fault_of number (Some text) ≡ found_fault number found
+pub faults : (number : ℕ) (text : List ℕ) (found : Option Line) → 0 < length text → read_text text ≡ found → fault_of number (Some text) ≡ found_fault number text found
 faults number [] found some is = absurd (omega arith)
-faults number (b ∷ text) found some is = ap (found_fault number) is
+faults number (b ∷ text) found some is = ap (found_fault number (b ∷ text)) is
 
 pub wrote_none : (result : Result (Unit {0}) Halt) (before text : List ℕ) → text ≡ [] → Wrote result before text before
 wrote_none (Ok done) before text none = sym (ap (λ (l : List ℕ). before ++ l) none ∙ append-nil before)
@@ -90,9 +102,9 @@ module _ {D : Type 0} {g : Ghosts D} (c : Core) where
           plays = subst (λ (l : List Event). PlaysCore c l heap told before before (Ok tt)) (sym none) (core_none c heap told before is);
         }
 
-        module _ (fault : fault_of number text ≡ fault_line number) where
+        module _ (said : List ℕ) (fault : fault_of number text ≡ said) where
           -- one that is not in the grammar, or too long
-          pub line_refused : (IsTrue told → after ≡ before ++ fault_line number) → Answers c number text heap told before after (Ok tt)
+          pub line_refused : (IsTrue told → after ≡ before ++ said) → Answers c number text heap told before after (Ok tt)
           line_refused wrote = record {
             between = after;
             fault = λ t. wrote t ∙ ap (λ (l : List ℕ). before ++ l) (sym fault);
@@ -100,7 +112,7 @@ module _ {D : Type 0} {g : Ghosts D} (c : Core) where
           }
 
           -- and that was not wholly written
-          pub line_part : (e : WriteError) → (IsTrue told → WroteFront before (fault_line number) after) → Answers c number text heap told before after (Err (write_halt e))
+          pub line_part : (e : WriteError) → (IsTrue told → WroteFront before said after) → Answers c number text heap told before after (Err (write_halt e))
           line_part e wrote = record {
             between = after;
             fault = λ t. subst (λ (l : List ℕ). WroteFront before l after) (sym fault) (wrote t);

@@ -11,6 +11,7 @@ use Rattle.log_machine.proofs.ListLaws.{AllByRecursion-append}
 use Rattle.heap_core.specs.declared.heap.Heap.{Heap}
 use Rattle.heap_core.specs.Refinement.{IsHeap}
 use Rattle.heap_model.specs.Core.{Core}
+use Rattle.heap_model.specs.Ending.{ending}
 use Rattle.heap_program.specs.declared.play.Halt.{Halt}
 use Rattle.heap_program.specs.declared.play.Halt.TheVariants as halt
 use Rattle.heap_program.specs.Play.{IsRunning, MakesAll, Makes, Plays}
@@ -24,11 +25,13 @@ use Rattle.line_reader.specs.declared.reader.LineError.TheVariants as reading
 use Rattle.session_program.specs.Ending.{line_break}
 use Rattle.session_program.specs.declared.ending.Break.{Break}
 use Rattle.session_program.specs.declared.ending.Break.TheVariants.{Halted, ReadFault}
-use Rattle.session_program.specs.Lines.{Answered, asked, named}
-use Rattle.session_program.specs.Session.{Answers, AnswersOn, MakesSession, ServesLinesOn}
+use Rattle.session_program.specs.declared.parts.Next.{Next}
+use Rattle.session_program.specs.declared.parts.Next.TheVariants as next
+use Rattle.session_program.specs.Lines.{Answered, asked, named, reopen_line}
+use Rattle.session_program.specs.Session.{Answers, AnswersOn, MakesSession, ServesLinesOn, MayRefuse, OfInput}
 use Rattle.session_program.proofs.Answering.{named_sessions, asked_sessions, asked_more, its}
 use Rattle.session_program.proofs.OnDisk.{answers_core}
-use Rattle.session_program.proofs.SoFar.{SoFar, texts_of, so_far_none, so_far_next, so_far_part, part_next, behind_line, behind_long, lines_done, lines_unread, lines_nothing, lines_halted}
+use Rattle.session_program.proofs.SoFar.{SoFar, texts_of, so_far_none, so_far_next, so_far_part, part_next, behind_line, behind_long, never, part, is_part, lines_done, lines_parted, lines_unread, lines_nothing, lines_halted}
 use Rattle.session_program.proofs.Unread.{Unread}
 
 module _ {D : Type 0} {g : Ghosts D} (s : Super) where
@@ -51,14 +54,14 @@ module _ {D : Type 0} {g : Ghosts D} (s : Super) where
     -- where the others were played
     module _ (own : AllByRecursion IsOfSession events) (sessions : AllByRecursion IsOfSession named_events) (faults_kept : g.faults old.disk ≤ g.faults heap.disk) (stops_kept : g.stops old.disk ≤ g.stops heap.disk)
         (answered : List Answered) (are : events ≡ asked answered) (made behind : List Event) (d : Core) (parts : named_events ≡ made ++ behind) where
-      pub makes_behind : (result : Result (Unit {0}) Break) → AreSteps (HeapStep g) core heap.disk made d new.disk → Makes core made d heap new → (result ≡ Ok tt → MakesAll core made d heap new) → IsHeap s d new → MakesSession s c old new answered (made, d) result
+      pub makes_behind : (result : Result Next Break) → AreSteps (HeapStep g) core heap.disk made d new.disk → Makes core made d heap new → ((n : Next) → result ≡ Ok n → MakesAll core made d heap new) → IsHeap s d new → MakesSession s c old new answered (made, d) result
       makes_behind result its_steps its_makes all is =
           let front = of_session_front made behind (subst (AllByRecursion IsOfSession) parts sessions) in
           record {
             own = subst (λ (l : List Event). AllByRecursion IsOfSession (l ++ made)) are (AllByRecursion-append IsOfSession events made own front);
             steps = subst (λ (l : List Event). AreSteps (HeapStep g) c old.disk (l ++ made) d new.disk) are (steps_append (HeapStep g) c core d old.disk heap.disk new.disk events made steps its_steps);
             makes = subst (λ (l : List Event). Makes c (l ++ made) d old new) are (makes_then c core events old heap new makes faults_kept stops_kept made d its_makes);
-            whole = λ done. subst (λ (l : List Event). MakesAll c (l ++ made) d old new) are (all_then c core events old heap new makes made d (all done));
+            whole = λ n done. subst (λ (l : List Event). MakesAll c (l ++ made) d old new) are (all_then c core events old heap new makes made d (all n done));
             heap = is;
           }
 
@@ -69,9 +72,9 @@ module _ {D : Type 0} {g : Ghosts D} (s : Super) where
     pub makes : MakesAll c (asked so_far.answered) so_far.core old heap
     pub is : IsHeap s so_far.core heap
 
-  pub on_none : (tells : Bool) (left : List ℕ) (c : Core) (heap : Heap D g) (told : Bool) (before : List ℕ) → IsHeap s c heap → IsRunning c → SoFarOn tells left c heap heap false left 1 told before before
-  on_none tells left c heap told before is running = record {
-    so_far = so_far_none tells left c heap told before is.core running;
+  pub on_none : (tells : Bool) (left : List ℕ) (c : Core) (heap : Heap D g) (passing : Bool) (fresh : IsTrue tells → IsFalse passing) (told : Bool) (before : List ℕ) → IsHeap s c heap → IsRunning c → SoFarOn tells left c heap heap passing left 1 told before before
+  on_none tells left c heap passing fresh told before is running = record {
+    so_far = so_far_none tells left c heap passing fresh told before is.core running;
     steps = (refl, refl);
     makes = record { reached = refl; passes = refl };
     is = is;
@@ -86,24 +89,24 @@ module _ {D : Type 0} {g : Ghosts D} (s : Super) where
     core = so_far.core
 
     -- one line more
-    on_next : (text : Option (List ℕ)) → AnswersOn s core number text heap new told now after (Ok tt) → (IsTrue tells → Unread left (texts_of so_far.answered ++ text ∷ []) passing' rest)
+    on_next : (text : Option (List ℕ)) → MayRefuse core text → AnswersOn s core number text heap new told now after (Ok tt) → (IsTrue tells → Unread left (texts_of so_far.answered ++ text ∷ []) passing' rest)
         → SoFarOn tells left c old new passing' rest (number + 1) told before after
-    on_next text answers unread =
+    on_next text may answers unread =
         let plain = answers_core s core number text heap new told now after (Ok tt) answers in
         let a = its c core so_far.answered told before now after so_far.answers number so_far.count text new plain in
         let more : asked so_far.answered ++ named text ≡ asked (so_far.answered ++ a ∷ []) = sym (asked_more so_far.answered a) in
         record {
-          so_far = so_far_next tells left c heap new passing passing' stream rest number told before now after so_far text plain unread;
+          so_far = so_far_next tells left c heap new passing passing' stream rest number told before now after so_far text may plain unread;
           steps = subst (λ (l : List Event). AreSteps (HeapStep g) c old.disk l answers.plays.core new.disk) more (steps_more c core (asked so_far.answered) (named text) old heap new told answers.between after on.steps on.makes answers.plays);
           makes = subst (λ (l : List Event). MakesAll c l answers.plays.core old new) more (makes_more c core (asked so_far.answered) (named text) old heap new told answers.between after on.steps on.makes answers.plays);
           is = answers.plays.heap;
         }
 
-    pub line_on : (text : List ℕ) → (IsTrue tells → IsFalse passing × IsFalse passing' × IsFirstLine text stream rest) → AnswersOn s core number (Some text) heap new told now after (Ok tt) → SoFarOn tells left c old new passing' rest (number + 1) told before after
-    line_on text taken answers = on_next (Some text) answers (behind_line tells left c heap new passing passing' stream rest number told before now after so_far text taken)
+    pub line_on : (text : List ℕ) → MayRefuse core (Some text) → (IsTrue tells → IsFalse passing × IsFalse passing' × IsFirstLine text stream rest) → AnswersOn s core number (Some text) heap new told now after (Ok tt) → SoFarOn tells left c old new passing' rest (number + 1) told before after
+    line_on text may taken answers = on_next (Some text) may answers (behind_line tells left c heap new passing passing' stream rest number told before now after so_far text taken)
 
     pub long_on : (IsTrue tells → IsFalse passing' × EndsTooLong passing stream rest) → AnswersOn s core number None heap new told now after (Ok tt) → SoFarOn tells left c old new passing' rest (number + 1) told before after
-    long_on taken answers = on_next None answers (behind_long tells left c heap new passing passing' stream rest number told before now after so_far taken)
+    long_on taken answers = on_next None (never tells left c heap new passing passing' stream rest number told before now after so_far) answers (behind_long tells left c heap new passing passing' stream rest number told before now after so_far taken)
 
     -- a part of a line went
     pub part_on : (IsTrue tells → IsTrue passing' × PassesPart stream rest) → SoFarOn tells left c old heap passing' rest number told before now
@@ -115,22 +118,32 @@ module _ {D : Type 0} {g : Ghosts D} (s : Super) where
     }
 
     -- nothing more was played
-    still_makes : (result : Result (Unit {0}) Break) → MakesSession s c old heap so_far.answered ([], core) result
+    still_makes : (result : Result Next Break) → MakesSession s c old heap so_far.answered ([], core) result
     still_makes result =
         let all = sym (append-nil (asked so_far.answered)) in
         record {
           own = subst (AllByRecursion IsOfSession) all (asked_sessions so_far.answered);
           steps = subst (λ (l : List Event). AreSteps (HeapStep g) c old.disk l core heap.disk) all on.steps;
           makes = subst (λ (l : List Event). Makes c l core old heap) all (inl on.makes);
-          whole = λ done. subst (λ (l : List Event). MakesAll c l core old heap) all on.makes;
+          whole = λ n done. subst (λ (l : List Event). MakesAll c l core old heap) all on.makes;
           heap = on.is;
         }
+
+    -- the next line parts the session
+    pub parted_on : ending core ≡ [] → (IsTrue tells → IsFalse passing × IsFalse passing' × IsFirstLine reopen_line stream rest) → (left' : List ℕ)
+        → OfInput tells next.Reopen left rest left' (λ part rest'. ServesLinesOn s tells part rest' c old heap told before now (Ok next.Reopen))
+    parted_on idle taken left' = record {
+      part = part tells left c heap new passing passing' stream rest number told before now after so_far;
+      rest = [];
+      input = (is_part tells left c heap new passing passing' stream rest number told before now after so_far taken, refl);
+      is = record { lines = lines_parted tells left c heap new passing passing' stream rest number told before now after so_far idle; makes = still_makes (Ok next.Reopen) };
+    }
 
     -- so many bytes are left in the source now
     module _ (left' : List ℕ) where
       -- no line is left
-      pub done_on : (IsTrue tells → IsFalse passing × (stream ≡ [])) → ServesLinesOn s tells left left' c old heap told before now (Ok tt)
-      done_on end = record { lines = lines_done tells left c heap new passing passing' stream rest number told before now after so_far left' end; makes = still_makes (Ok tt) }
+      pub done_on : (IsTrue tells → IsFalse passing × (stream ≡ [])) → ServesLinesOn s tells left left' c old heap told before now (Ok next.End)
+      done_on end = record { lines = lines_done tells left c heap new passing passing' stream rest number told before now after so_far left' end; makes = still_makes (Ok next.End) }
 
       -- there was no memory
       pub memory_on : ServesLinesOn s tells left left' c old heap told before now (Err (Halted halt.NoMemory))
@@ -143,18 +156,18 @@ module _ {D : Type 0} {g : Ghosts D} (s : Super) where
 
       -- the answer of the next line halted
       module _ (faults_kept : g.faults old.disk ≤ g.faults heap.disk) (stops_kept : g.stops old.disk ≤ g.stops heap.disk) where
-        halted_on : (text : Option (List ℕ)) (h : Halt) → AnswersOn s core number text heap new told now after (Err h) → (IsTrue tells → Unread left (texts_of so_far.answered ++ text ∷ []) passing' rest)
+        halted_on : (text : Option (List ℕ)) (h : Halt) → MayRefuse core text → AnswersOn s core number text heap new told now after (Err h) → (IsTrue tells → Unread left (texts_of so_far.answered ++ text ∷ []) passing' rest)
             → ServesLinesOn s tells left left' c old new told before after (Err (Halted h))
-        halted_on text h answers unread =
+        halted_on text h may answers unread =
             let plays = answers.plays in
             record {
-              lines = lines_halted tells left c heap new passing passing' stream rest number told before now after so_far left' text h (answers_core s core number text heap new told now after (Err h) answers) unread;
+              lines = lines_halted tells left c heap new passing passing' stream rest number told before now after so_far left' text h may (answers_core s core number text heap new told now after (Err h) answers) unread;
               makes = makes_behind c core (asked so_far.answered) (named text) old heap new told answers.between after on.steps on.makes (asked_sessions so_far.answered) (named_sessions text) faults_kept stops_kept
-                  so_far.answered refl plays.made plays.behind plays.core plays.parts (Err (Halted h)) plays.steps (ends_makes core plays.made plays.behind plays.core heap new (Err h) plays.ends) (λ done. cc) plays.heap;
+                  so_far.answered refl plays.made plays.behind plays.core plays.parts (Err (Halted h)) plays.steps (ends_makes core plays.made plays.behind plays.core heap new (Err h) plays.ends) (λ n done. cc) plays.heap;
             }
 
-        pub line_halted_on : (text : List ℕ) (h : Halt) → (IsTrue tells → IsFalse passing × IsFalse passing' × IsFirstLine text stream rest) → AnswersOn s core number (Some text) heap new told now after (Err h) → ServesLinesOn s tells left left' c old new told before after (Err (Halted h))
-        line_halted_on text h taken answers = halted_on (Some text) h answers (behind_line tells left c heap new passing passing' stream rest number told before now after so_far text taken)
+        pub line_halted_on : (text : List ℕ) (h : Halt) → MayRefuse core (Some text) → (IsTrue tells → IsFalse passing × IsFalse passing' × IsFirstLine text stream rest) → AnswersOn s core number (Some text) heap new told now after (Err h) → ServesLinesOn s tells left left' c old new told before after (Err (Halted h))
+        line_halted_on text h may taken answers = halted_on (Some text) h may answers (behind_line tells left c heap new passing passing' stream rest number told before now after so_far text taken)
 
         pub long_halted_on : (h : Halt) → (IsTrue tells → IsFalse passing' × EndsTooLong passing stream rest) → AnswersOn s core number None heap new told now after (Err h) → ServesLinesOn s tells left left' c old new told before after (Err (Halted h))
-        long_halted_on h taken answers = halted_on None h answers (behind_long tells left c heap new passing passing' stream rest number told before now after so_far taken)
+        long_halted_on h taken answers = halted_on None h (never tells left c heap new passing passing' stream rest number told before now after so_far) answers (behind_long tells left c heap new passing passing' stream rest number told before now after so_far taken)

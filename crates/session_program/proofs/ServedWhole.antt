@@ -48,13 +48,15 @@ use Rattle.heap_program.proofs.Counts.{counted_mono}
 use Rattle.heap_core.proofs.StepsLaws.{heap_leaves}
 use Rattle.heap_program.proofs.PlayFuse.{own_steps}
 use Rattle.heap_program.proofs.PlayOpen.{unopened_calls}
-use Rattle.heap_program.proofs.PlayLaws.{ends_makes}
+use Rattle.heap_program.proofs.PlayLaws.{ends_makes, plays_none}
 use Rattle.heap_program.proofs.Ready.{AreReady}
 use Rattle.heap_program.proofs.Reopened.{outside_memory}
 use Rattle.heap_program.proofs.Statuses.{halt_not_done, open_not_done}
 use Rattle.session_program.specs.declared.ending.Break.{Break}
 use Rattle.session_program.specs.declared.ending.Break.TheVariants.{Halted, ReadFault}
-use Rattle.session_program.specs.Ending.{break_status, session_device, session_status}
+use Rattle.session_program.specs.declared.parts.Next.{Next}
+use Rattle.session_program.specs.declared.parts.Next.TheVariants as next
+use Rattle.session_program.specs.Ending.{break_status, session_device, session_status, next_of}
 use Rattle.session_program.specs.Lines.{asked}
 use Rattle.session_program.specs.Served.{NotServed, ServesEvents, IsServed}
 use Rattle.session_program.specs.Session.{EndsLines, MakesSession, ServesLines, ServesLinesOn, Serves, ServesOn, lines_last, session_last, last_of}
@@ -81,9 +83,9 @@ module _ {D : Type 0} {g : Ghosts D} (s : Super) (tells : Bool) (left rest : Lis
         }
 
   -- it answered all lines
-  module _ (running : IsRunning c) (old mid new : Heap D g) (now after : List ℕ) (on : ServesLinesOn s tells left rest c old mid told before now (Ok tt))
+  module _ (running : IsRunning c) (old mid new : Heap D g) (now after : List ℕ) (n : Next) (on : ServesLinesOn s tells left rest c old mid told before now (Ok n))
       (faults_kept : g.faults old.disk ≤ g.faults mid.disk) (stops_kept : g.stops old.disk ≤ g.stops mid.disk) where
-    abbrev lines : ServesLines tells left rest c mid told before now (Ok tt)
+    abbrev lines : ServesLines tells left rest c mid told before now (Ok n)
     lines = on.lines
 
     abbrev core : Core
@@ -92,26 +94,33 @@ module _ {D : Type 0} {g : Ghosts D} (s : Super) (tells : Bool) (left rest : Lis
     nil : asked lines.answered ++ [] ≡ asked lines.answered
     nil = append-nil (asked lines.answered)
 
-    last_makes : (result : Result (Unit {0}) Halt) (plays : Plays s core (ending core) mid new told now after result) → (ended_as result ≡ Ok tt → MakesAll core plays.made plays.core mid new)
-        → MakesSession s c old new lines.answered (plays.made, plays.core) (ended_as result)
+    last_makes : (result : Result (Unit {0}) Halt) (plays : Plays s core (ending core) mid new told now after result) → ((n' : Next) → ended_as n result ≡ Ok n' → MakesAll core plays.made plays.core mid new)
+        → MakesSession s c old new lines.answered (plays.made, plays.core) (ended_as n result)
     last_makes result plays all =
         makes_behind s c core (asked lines.answered) (ending core) old mid new told now after
-        (subst (λ (l : List Event). AreSteps (HeapStep g) c old.disk l core mid.disk) nil on.makes.steps) (subst (λ (l : List Event). MakesAll c l core old mid) nil (on.makes.whole refl))
+        (subst (λ (l : List Event). AreSteps (HeapStep g) c old.disk l core mid.disk) nil on.makes.steps) (subst (λ (l : List Event). MakesAll c l core old mid) nil (on.makes.whole n refl))
         (asked_sessions lines.answered) (ending_of_session core) faults_kept stops_kept lines.answered refl plays.made plays.behind plays.core plays.parts
-        (ended_as result) plays.steps (ends_makes core plays.made plays.behind plays.core mid new result plays.ends) all plays.heap
+        (ended_as n result) plays.steps (ends_makes core plays.made plays.behind plays.core mid new result plays.ends) all plays.heap
 
-    pub whole_on : (result : Result (Unit {0}) Halt) → Plays s core (ending core) mid new told now after result → ServesOn s tells left rest c old new told before after (ended_as result)
+    pub whole_on : (result : Result (Unit {0}) Halt) → Plays s core (ending core) mid new told now after result → ServesOn s tells left rest c old new told before after (ended_as n result)
     whole_on (Ok done) plays = record {
-      serves = session_ended tells left rest c told before running mid new now after lines (Ok tt) (plays_core s core (ending core) mid new told now after (Ok tt) plays);
-      makes = last_makes (Ok tt) plays (λ is. plays.ends.1);
+      serves = session_ended tells left rest c told before running mid new now after n lines (Ok tt) (plays_core s core (ending core) mid new told now after (Ok tt) plays);
+      makes = last_makes (Ok tt) plays (λ n' is. plays.ends.1);
     }
     whole_on (Err h) plays = record {
-      serves = session_ended tells left rest c told before running mid new now after lines (Err h) (plays_core s core (ending core) mid new told now after (Err h) plays);
-      makes = last_makes (Err h) plays (λ is. cc);
+      serves = session_ended tells left rest c told before running mid new now after n lines (Err h) (plays_core s core (ending core) mid new told now after (Err h) plays);
+      makes = last_makes (Err h) plays (λ n' is. cc);
     }
 
+  -- a line parted it, where nothing was to be done
+  pub cut_on : (running : IsRunning c) (old mid : Heap D g) (now : List ℕ) → ServesLinesOn s tells left rest c old mid told before now (Ok next.Reopen) → g.faults old.disk ≤ g.faults mid.disk → g.stops old.disk ≤ g.stops mid.disk
+      → ServesOn s tells left rest c old mid told before now (Ok next.Reopen)
+  cut_on running old mid now on faults_kept stops_kept =
+      let core = on.lines.core in
+      whole_on running old mid mid now now next.Reopen on faults_kept stops_kept (Ok tt) (subst (λ (l : List Event). Plays s core l mid mid told now now (Ok tt)) (sym on.lines.ended.2) (plays_none s core mid told now on.makes.heap))
+
 -- A session that ended so, on the heap that was opened from a stored image.
-module _ {D : Type 0} {g : Ghosts D} {bytes : List ℕ} (stored : IsStored bytes) (running : IsRunning (stored_core stored)) (tells : Bool) (left rest : List ℕ) (start : D) (old new : Heap D g) (told : Bool) (before after : List ℕ) (result : Result (Unit {0}) Break)
+module _ {D : Type 0} {g : Ghosts D} {bytes : List ℕ} (stored : IsStored bytes) (running : IsRunning (stored_core stored)) (tells : Bool) (left rest : List ℕ) (start : D) (old new : Heap D g) (told : Bool) (before after : List ℕ) (result : Result Next Break)
     (on : ServesOn stored.super tells left rest (stored_core stored) old new told before after result) where
   abbrev c : Core
   c = stored_core stored
@@ -142,10 +151,10 @@ module _ {D : Type 0} {g : Ghosts D} {bytes : List ℕ} (stored : IsStored bytes
   settled whole = (on.makes.heap.disk.unfailed (ap (λ (x : Core). (account x.history).failed) whole ∙ (running_after c made ready).unfailed)).only
 
   done_made : session_status result ≡ status.Done → MadeAll c made at_end
-  done_made is = (on.makes.whole (is_done result is)).reached
+  done_made is = let some = is_done result is in (on.makes.whole some.0 some.1).reached
     where
-      is_done : (r : Result (Unit {0}) Break) → session_status r ≡ status.Done → r ≡ Ok tt
-      is_done (Ok done) is = refl
+      is_done : (r : Result Next Break) → session_status r ≡ status.Done → (n' : Next) × (r ≡ Ok n')
+      is_done (Ok n') is = (n', refl)
       is_done (Err ReadFault) is = cc
       is_done (Err (Halted h)) is = absurd (halt_not_done h is)
 
@@ -179,13 +188,13 @@ module _ {D : Type 0} {g : Ghosts D} {bytes : List ℕ} (stored : IsStored bytes
 
   pub served_opened : IsTrue g.tells → HasImages g → LeavesOnly g.moment g.left_since start old.disk (IsCommitPrefix c) → LeavesOnly g.moment g.left_since start old.disk (SameBehind c (g.bytes start))
       → ((image : List ℕ) → g.may_leave old.disk image → IsCommitPrefix c image) → g.passed old.disk ≡ counted n (g.passed start) → g.restarts old.disk ≡ g.restarts start
-      → (Unharmed g start new.disk → Unharmed g old.disk new.disk) → IsServed g n tells left rest c start new.disk (session_status result) told before after
+      → (Unharmed g start new.disk → Unharmed g old.disk new.disk) → IsServed g n tells left rest c start new.disk (session_status result) (next_of result) told before after
   served_opened told_disk has opening behind here passed restarts unharmed =
       let sum = ap (counted (total_calls c made)) passed ∙ counted-add (total_calls c made) n (g.passed start) in
       record {
         made = made;
         core = at_end;
-        run = inr (record { heap = new; disk = refl; result = result; status = refl; serves = on.serves; events = refl; reached = refl });
+        run = inr (record { heap = new; disk = refl; result = result; status = refl; next = refl; serves = on.serves; events = refl; reached = refl });
         last = makes_last c made at_end old new on.makes.makes;
         disk = record {
           opened = old.disk;
@@ -218,7 +227,7 @@ module _ {D : Type 0} (g : Ghosts D) {bytes : List ℕ} (stored : IsStored bytes
       → ((image : List ℕ) → g.left_since final (g.moment final) image → g.may_leave final image) → g.restarts final ≡ g.restarts start
       → (e ≡ opening.NoMemory → g.passed final ≡ g.passed start) → (e ≢ opening.NoMemory → Unharmed g start final → ⊥)
       → g.passed final ≤ counted (stored_calls stored) (g.passed start) → g.passed final ≤ counted (stored_calls stored + 0) (g.passed start) → (open_status e ≡ status.NoMemory → Only (g.bytes final) (g.may_leave final))
-      → IsServed g (stored_calls stored) tells left rest (stored_core stored) start final (open_status e) told before before
+      → IsServed g (stored_calls stored) tells left rest (stored_core stored) start final (open_status e) next.End told before before
   served_none tells left rest start final e told before outside moments behind here now restarts same harm few most only =
       let c = stored_core stored in
       let calls = unopened_calls None (stored_calls stored) (g.passed start) (g.passed final) (Unharmed g start final) e (open_status e) refl outside same harm in

@@ -1,11 +1,12 @@
 -- The lines that are left behind those that were taken.
-use Rattle.std.proofs.Common.{◌≡◌, ◌⊎◌, inl, inr, ℕ, ◌<◌, Bool, false, List, [], ◌∷◌, ◌++◌, length, map, Option, Some, None, refl, sym, ap, ◌∙◌, subst, arith, append_assoc, length-append}
+use Rattle.std.proofs.Common.{◌≡◌, ◌⊎◌, inl, inr, ℕ, ◌<◌, Bool, false, true, List, [], ◌∷◌, ◌++◌, length, map, Option, Some, None, refl, sym, ap, ◌∙◌, subst, arith, append_assoc, length-append}
 use Rattle.std.specs.Prelude.{IsTrue, IsFalse}
 use Rattle.std.proofs.lemmas.List.{append-nil, map-append}
 use Rattle.std.proofs.lemmas.Bool.{lt-ltb, le-ltb, ne_eqb}
 use Rattle.script_text.specs.Script.{lines}
 use Rattle.line_reader.specs.Taking.{IsWithinLine, IsCutAt, IsFirstLine, EndsTooLong, PassesPart}
-use Rattle.session_program.specs.Lines.{as_taken}
+use Rattle.session_program.specs.Lines.{as_taken, reopen_line}
+use Rattle.session_program.specs.Session.{IsPart}
 
 -- bytes without a newline, before a newline, are the first line
 cut_line : (text rest : List ℕ) → IsWithinLine text → lines (text ++ 10 ∷ rest) ≡ text ∷ lines rest
@@ -87,8 +88,9 @@ pub record Unread (left : List ℕ) (texts : List (Option (List ℕ))) (passing 
   pub left_lines : map as_taken (lines left) ≡ texts ++ map as_taken (lines (front ++ stream))
 
 -- nothing was taken
-pub unread_all : (left : List ℕ) → Unread left [] false left
-unread_all left = record { taken = []; front = []; parts = refl; answered = refl; ended = λ _ more. refl; within = tt; none = λ t. refl; long = λ never. cc; left_lines = refl }
+pub unread_all : (left : List ℕ) (passing : Bool) → IsFalse passing → Unread left [] passing left
+unread_all left true fresh = absurd (cc fresh)
+unread_all left false fresh = record { taken = []; front = []; parts = refl; answered = refl; ended = λ _ more. refl; within = tt; none = λ t. refl; long = λ never. cc; left_lines = refl }
 
 one_more : (texts : List (Option (List ℕ))) (text : Option (List ℕ)) (more whole : List (Option (List ℕ))) → whole ≡ texts ++ text ∷ more → whole ≡ (texts ++ text ∷ []) ++ more
 one_more texts text more whole is = is ∙ sym (append_assoc texts (text ∷ []) more)
@@ -160,6 +162,19 @@ module _ (left : List ℕ) (texts : List (Option (List ℕ))) (passing passing' 
     long = λ t. omega (arith, part.long, length-append unread.front part.text);
     left_lines = unread.left_lines ∙ ap (λ (l : List ℕ). texts ++ map as_taken (lines l)) same;
   }
+
+  -- a line `reopen` is the next one
+  pub unread_cut : IsFalse passing → IsFirstLine reopen_line stream rest → IsPart unread.taken left rest
+  unread_cut fresh first =
+      let whole : unread.front ++ stream ≡ stream = ap (λ (l : List ℕ). l ++ stream) (unread.none fresh) in
+      let parts : left ≡ unread.taken ++ stream = unread.parts ∙ ap (λ (l : List ℕ). unread.taken ++ l) whole in
+      let ended : IsEnded unread.taken stream = subst (IsEnded unread.taken) whole unread.ended in
+      record {
+        behind = stream;
+        parts = parts;
+        cut = first.cut;
+        are = ap lines parts ∙ ended first.some stream ∙ ap (λ (l : List (List ℕ)). lines unread.taken ++ l) (first_line reopen_line stream rest first.cut first.some);
+      }
 
   -- no line is left
   pub unread_none : IsFalse passing → stream ≡ [] → map as_taken (lines left) ≡ texts

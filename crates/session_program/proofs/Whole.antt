@@ -1,6 +1,7 @@
 -- A session from its first line to its end.
 use Rattle.std.proofs.Common.{inl, inr, ℕ, Bool, List, map, Option, Result, Ok, Err, sym, ◌∙◌, subst}
 use Rattle.disk_model.specs.declared.disk.Disk.{Ghosts}
+use Rattle.graph_model.specs.declared.event.Event.{Event}
 use Rattle.heap_core.specs.declared.heap.Heap.{Heap}
 use Rattle.heap_core.specs.Refinement.{IsCore}
 use Rattle.heap_model.specs.Core.{Core}
@@ -8,16 +9,19 @@ use Rattle.heap_model.specs.Ending.{ending}
 use Rattle.heap_program.specs.declared.play.Halt.{Halt}
 use Rattle.heap_program.specs.Play.{IsRunning, PlaysCore}
 use Rattle.heap_program.proofs.CoreSteps.{running_after}
+use Rattle.heap_program.proofs.PlayCore.{core_none}
 use Rattle.session_program.specs.declared.ending.Break.{Break}
 use Rattle.session_program.specs.declared.ending.Break.TheVariants.{Halted, ReadFault}
+use Rattle.session_program.specs.declared.parts.Next.{Next}
+use Rattle.session_program.specs.declared.parts.Next.TheVariants as next
 use Rattle.session_program.specs.Lines.{asked}
 use Rattle.session_program.specs.Session.{Serves, ServesLines, EndsLines, Ends, HasAnswered}
 use Rattle.session_program.proofs.Answering.{asked_sessions}
 
 -- how a session ends whose last events ended so
-abbrev pub ended_as : Result (Unit {0}) Halt → Result (Unit {0}) Break
-ended_as (Ok done) = Ok tt
-ended_as (Err h) = Err (Halted h)
+abbrev pub ended_as : Next → Result (Unit {0}) Halt → Result Next Break
+ended_as n (Ok done) = Ok n
+ended_as n (Err h) = Err (Halted h)
 
 module _ {D : Type 0} {g : Ghosts D} (tells : Bool) (left rest : List ℕ) (c : Core) (told : Bool) (before : List ℕ) where
   -- how it ended at a line
@@ -38,7 +42,7 @@ module _ {D : Type 0} {g : Ghosts D} (tells : Bool) (left rest : List ℕ) (c : 
   }
 
   -- it answered all lines
-  module _ (running : IsRunning c) (mid new : Heap D g) (now after : List ℕ) (lines : ServesLines tells left rest c mid told before now (Ok tt)) where
+  module _ (running : IsRunning c) (mid new : Heap D g) (now after : List ℕ) (n : Next) (lines : ServesLines tells left rest c mid told before now (Ok n)) where
     abbrev core : Core
     core = lines.core
 
@@ -50,18 +54,19 @@ module _ {D : Type 0} {g : Ghosts D} (tells : Bool) (left rest : List ℕ) (c : 
       made = lines.answers.made;
       heard = lines.answers.heard;
       own = lines.answers.own;
+      refused = lines.answers.refused;
       written = λ t. lines.ended.1.nothing t ∙ lines.answers.written t;
     }
 
     -- and then played the events that end it
-    abbrev pub session_ended : (result : Result (Unit {0}) Halt) → PlaysCore core (ending core) new told now after result → Serves tells left rest c new told before after (ended_as result)
+    abbrev pub session_ended : (result : Result (Unit {0}) Halt) → PlaysCore core (ending core) new told now after result → Serves tells left rest c new told before after (ended_as n result)
     session_ended (Ok done) plays = record {
       answered = lines.answered;
       core = core;
       between = now;
       answers = answers;
       first = lines.first;
-      ended = record { all = lines.ended.0; plays = plays };
+      ended = (record { all = lines.ended.0; plays = plays }, lines.ended.2);
     }
     session_ended (Err h) plays = record {
       answered = lines.answered;
@@ -72,5 +77,11 @@ module _ {D : Type 0} {g : Ghosts D} (tells : Bool) (left rest : List ℕ) (c : 
       ended = inr (inl (record { all = lines.ended.0; plays = plays }));
     }
 
-    pub session_whole : (result : Result (Unit {0}) Halt) → ((d : Core) → IsCore d mid → IsRunning d → PlaysCore d (ending d) new told now after result) → Serves tells left rest c new told before after (ended_as result)
+    pub session_whole : (result : Result (Unit {0}) Halt) → ((d : Core) → IsCore d mid → IsRunning d → PlaysCore d (ending d) new told now after result) → Serves tells left rest c new told before after (ended_as n result)
     session_whole result ending_plays = session_ended result (ending_plays core lines.ended.1.is still)
+
+  -- a line parted it, where nothing was to be done
+  pub session_parted : (running : IsRunning c) (mid : Heap D g) (now : List ℕ) → ServesLines tells left rest c mid told before now (Ok next.Reopen) → Serves tells left rest c mid told before now (Ok next.Reopen)
+  session_parted running mid now lines =
+      let plays = core_none lines.core mid told now lines.ended.1.is in
+      session_ended running mid mid now now next.Reopen lines (Ok tt) (subst (λ (l : List Event). PlaysCore lines.core l mid told now now (Ok tt)) (sym lines.ended.2) plays)

@@ -10,6 +10,8 @@ use Rattle.line_reader.specs.declared.reader.LineError.{LineError}
 use Rattle.line_reader.specs.declared.reader.LineError.TheVariants as reading
 use Rattle.session_program.specs.declared.ending.Break.{Break}
 use Rattle.session_program.specs.declared.ending.Break.TheVariants.{Halted, ReadFault}
+use Rattle.session_program.specs.declared.parts.Next.{Next}
+use Rattle.session_program.specs.declared.parts.Next.TheVariants as next
 
 -- why no line was read
 abbrev pub line_break : LineError → Break
@@ -22,14 +24,19 @@ break_status (Halted h) = halt_status h
 break_status ReadFault = status.ReadFault
 
 -- also where it came to the end of its input
-abbrev pub session_status : Result (Unit {0}) Break → Status
-session_status (Ok done) = status.Done
+abbrev pub session_status : Result Next Break → Status
+session_status (Ok next) = status.Done
 session_status (Err b) = break_status b
 
 -- what the disk answered in it
-abbrev pub session_device : Result (Unit {0}) Break → Result (Unit {0}) DiskError
+abbrev pub session_device : Result Next Break → Result (Unit {0}) DiskError
 session_device (Err (Halted h)) = played_device (Err h)
 session_device result = Ok tt
+
+-- what comes behind it
+abbrev pub next_of : Result Next Break → Next
+next_of (Ok n) = n
+next_of (Err b) = next.End
 
 -- The statuses of a session.
 abbrev pub IsSessionEnd : Status → Type 0

@@ -1,4 +1,5 @@
 pub mod Ending
 pub mod Lines
+pub mod Parts
 pub mod Served
 pub mod Session

@@ -1,5 +1,5 @@
 -- What the lines of a session ask for, and how each of them is answered.
-use Rattle.std.specs.Prelude.{◌≡◌, ℕ, ◌+◌, nat_lt, List, [], ◌∷◌, ◌++◌, length, map, codes, Option, None, Some, if◌then◌else◌}
+use Rattle.std.specs.Prelude.{◌≡◌, ℕ, ◌+◌, nat_lt, List, [], ◌∷◌, ◌++◌, length, map, codes, bytes_eq, Option, None, Some, if◌then◌else◌}
 use Rattle.std.specs.Fmt.{decimal}
 use Rattle.std.specs.List.{flat_map}
 use Rattle.graph_model.specs.declared.event.Event.{Event}
@@ -12,15 +12,31 @@ use Rattle.heap_program.specs.Play.{lines_text}
 abbrev pub fault_line : ℕ → List ℕ
 fault_line number = codes "script fault at line " ++ decimal number ++ 10 ∷ []
 
+-- the line that asks that the heap be opened again
+abbrev pub reopen_line : List ℕ
+reopen_line = codes "reopen"
+
+-- the line that says that it was not the time for that
+abbrev pub unfinished_line : List ℕ
+unfinished_line = codes "reopen -> unfinished" ++ 10 ∷ []
+
+-- the line that says that the heap was closed, to be opened again
+abbrev pub closed_line : List ℕ
+closed_line = codes "reopen -> closed" ++ 10 ∷ []
+
+-- what is said against a line that is not in the grammar
+abbrev pub said_against : ℕ → List ℕ → List ℕ
+said_against number text = if bytes_eq text reopen_line then unfinished_line else fault_line number
+
 -- the events of what was found in a line
 abbrev pub found_events : Option Line → List Event
 found_events None = []
 found_events (Some line) = line_events line
 
 -- what is said against it
-abbrev pub found_fault : ℕ → Option Line → List ℕ
-found_fault number None = fault_line number
-found_fault number (Some line) = []
+abbrev pub found_fault : ℕ → List ℕ → Option Line → List ℕ
+found_fault number text None = said_against number text
+found_fault number text (Some line) = []
 
 -- The events that a line names, which is None where it was too long. An empty line and one that is not in the grammar name none.
 abbrev pub named : Option (List ℕ) → List Event
@@ -32,7 +48,7 @@ named (Some (b ∷ text)) = found_events (read_text (b ∷ text))
 abbrev pub fault_of : ℕ → Option (List ℕ) → List ℕ
 fault_of number None = fault_line number
 fault_of number (Some []) = []
-fault_of number (Some (b ∷ text)) = found_fault number (read_text (b ∷ text))
+fault_of number (Some (b ∷ text)) = found_fault number (b ∷ text) (read_text (b ∷ text))
 
 -- A line that was answered, with the entries that it gave the history.
 pub record Answered : Type 0 where

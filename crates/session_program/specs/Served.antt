@@ -18,7 +18,8 @@ use Rattle.heap_program.specs.Causes.{Unharmed}
 use Rattle.heap_program.specs.Headline.{KeepsThroughout, CountsOpening}
 use Rattle.heap_program.specs.Play.{MadeAll, IsCutBy}
 use Rattle.session_program.specs.declared.ending.Break.{Break}
-use Rattle.session_program.specs.Ending.{session_status}
+use Rattle.session_program.specs.declared.parts.Next.{Next}
+use Rattle.session_program.specs.Ending.{session_status, next_of}
 use Rattle.session_program.specs.Lines.{asked}
 use Rattle.session_program.specs.Session.{Serves, last_of}
 
@@ -31,21 +32,22 @@ module _ {D : Type 0} (g : Ghosts D) where
     pub nothing : IsTrue told → after ≡ before
 
   -- Lines were answered, and the events that were made are theirs, with those that were played last.
-  pub record ServesEvents (tells : Bool) (left rest : List ℕ) (c : Core) (made : List Event) (core : Core) (final : D) (by : Status) (told : Bool) (before after : List ℕ) : Type 0 where
+  pub record ServesEvents (tells : Bool) (left rest : List ℕ) (c : Core) (made : List Event) (core : Core) (final : D) (by : Status) (n : Next) (told : Bool) (before after : List ℕ) : Type 0 where
     pub heap : Heap D g
     pub disk : final ≡ heap_disk heap
-    pub result : Result (Unit {0}) Break
+    pub result : Result Next Break
     pub status : by ≡ session_status result
+    pub next : n ≡ next_of result
     pub serves : Serves tells left rest c heap told before after result
     pub events : made ≡ asked serves.answered ++ (last_of tells left rest c heap told before after result serves).0
     pub reached : core ≡ (last_of tells left rest c heap told before after result serves).1
 
   -- A session with the heap that was there, which was opened as the core c with so many calls. At each moment a crash left first commits, and
   -- among them all that had been acknowledged or forced; nothing was done to the disk but in an event.
-  pub record IsServed (at_opening : ℕ) (tells : Bool) (left rest : List ℕ) (c : Core) (start final : D) (by : Status) (told : Bool) (before after : List ℕ) : Type 0 where
+  pub record IsServed (at_opening : ℕ) (tells : Bool) (left rest : List ℕ) (c : Core) (start final : D) (by : Status) (n : Next) (told : Bool) (before after : List ℕ) : Type 0 where
     pub made : List Event
     pub core : Core
-    pub run : NotServed c made core by told before after ⊎ ServesEvents tells left rest c made core final by told before after
+    pub run : NotServed c made core by told before after ⊎ ServesEvents tells left rest c made core final by n told before after
     pub last : MadeAll c made core ⊎ ((reply : Reply) × IsCutBy reply c made core)
     pub disk : KeepsThroughout g None at_opening c made core start final
     -- it is given back as the last event left it

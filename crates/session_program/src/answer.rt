@@ -9,9 +9,10 @@ ghost use Rattle.heap_program.specs.Causes.{StreamCause, played_device};
 ghost use Rattle.heap_program.specs.Output.{WroteText};
 ghost use Rattle.heap_program.specs.Play.{IsRunning};
 ghost use Rattle.heap_program.specs.declared.output.WriteError.TheVariants.{SinkFailed};
-ghost use Rattle.session_program.specs.Lines.{fault_line};
+ghost use Rattle.session_program.specs.Lines.{fault_line, said_against};
 ghost use Rattle.session_program.specs.Session.{Answers, AnswersOn};
 
+use crate::parts::asks_reopen;
 use disk_model::Disk;
 use heap_core::Heap;
 use heap_io::{Sink, put_all};
@@ -19,8 +20,8 @@ use heap_program::{Halt, WriteError, play_line};
 use script_text::read_text;
 use std::alloc::Global;
 
-/// Answers a line: its events are made, and their lines written. An empty line has no answer, and one that is not in the grammar is
-/// answered so.
+/// Answers a line: its events are made, and their lines written. An empty line has no answer. One that is not in the grammar is answered
+/// so, and a `reopen` that it was not the time for.
 pub fn answer<D: Disk, K: Sink>(
     alloc: Global,
     heap: &mut Heap<D>,
@@ -38,8 +39,19 @@ pub fn answer<D: Disk, K: Sink>(
     }
     match read_text(alloc, text)? {
         Some(line) => play_line(alloc, heap, line, sink),
-        None => Ok(refuse(alloc, number, sink)?),
+        None => Ok(object(alloc, number, text, sink)?),
     }
+}
+
+/// Writes what is said against a line that is not in the grammar.
+fn object<K: Sink>(alloc: Global, number: u64, text: &[u8], sink: &mut K) -> Result<(), WriteError>
+    ensures sink { StreamCause (K.faults sink.old) (K.faults sink.new) (result ≡ Err SinkFailed) }
+    ensures wrote { IsTrue K.tells → WroteText result (K.written sink.old) (said_against number text.now) (K.written sink.new) }
+{
+    if asks_reopen(text) {
+        return Ok(put_all(sink, b"reopen -> unfinished\n")?);
+    }
+    refuse(alloc, number, sink)
 }
 
 /// Writes that a line is not in the grammar.

@@ -4,6 +4,7 @@
 
 mod answer;
 mod ending;
+mod parts;
 mod serving;
 
 pub use serving::serve;

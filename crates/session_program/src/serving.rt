@@ -1,5 +1,5 @@
 //! A session from its opening to its end.
-ghost use Rattle.std.specs.Prelude.{◌≡◌, ◌≢◌, ◌⊎◌, ℕ, ◌<◌, ◌≤◌, List, Ok, Err, IsTrue};
+ghost use Rattle.std.specs.Prelude.{◌≡◌, ◌≢◌, ◌⊎◌, ℕ, ◌<◌, ◌≤◌, List, [], ◌++◌, Ok, Err, IsTrue, IsFalse};
 ghost use Rattle.counts.specs.Count.{Rose};
 ghost use Rattle.disk_model.specs.Disk.{Only};
 ghost use Rattle.disk_model.specs.Keeps.{KeepsDisk};
@@ -15,15 +15,17 @@ ghost use Rattle.heap_program.specs.Play.{IsRunning};
 ghost use Rattle.heap_program.specs.Stored.{IsStored, stored_core, stored_calls};
 ghost use Rattle.heap_recovery.specs.Faults.{IsLeftOf};
 ghost use Rattle.heap_program.specs.Refusals.{IsFault, IsWordFault, IsToldOf, IsToldOfEach, EndsRefused, IsLeftAlone, LeavesAlone};
-ghost use Rattle.session_program.specs.Ending.{IsSessionEnd, session_device};
-ghost use Rattle.session_program.specs.Session.{ServesLines, ServesLinesOn, Serves, ServesOn, ServesHeap};
+ghost use Rattle.session_program.specs.Ending.{IsSessionEnd, session_device, next_of};
+ghost use Rattle.session_program.specs.Session.{OfInput, ServesLines, ServesLinesOn, Serves, ServesOn, ServesHeap};
+ghost use Rattle.session_program.specs.Parts.{ServesParts};
 ghost use Rattle.session_program.specs.Served.{IsServed};
 
 use crate::answer::{answer, refuse};
 use crate::ending::{Break, break_status};
+use crate::parts::{Next, parts_session};
 use disk_model::Disk;
 use heap_core::Heap;
-use heap_io::{Sink, Source};
+use heap_io::{Sink, Source, put_all};
 use heap_program::{Halt, Status, play_ending};
 use line_reader::{LineReader, Taken};
 use std::alloc::Global;
@@ -31,8 +33,9 @@ use std::alloc::Global;
 /// More than come: so the number of a line can be counted.
 const MOST_TURNS: u64 = u64::MAX - 1;
 
-/// Opens the heap that is there, and answers the lines that `source` gives, each before the next one is read. Behind the last one the
-/// sessions that have a transaction abort, ascending, and pending records are forced.
+/// Serves a session on the heap that is there: answers the lines that `source` gives, each before the next one is read. A line `reopen`
+/// parts it: the heap is closed, which is told, and opened again for the lines that follow. Behind the last line the sessions that have a
+/// transaction abort, ascending, and pending records are forced.
 pub fn serve<D: Disk, S: Source, K: Sink>(
     alloc: Global,
     disk: D,
@@ -44,12 +47,54 @@ pub fn serve<D: Disk, S: Source, K: Sink>(
     ensures read_fault { StreamCause (S.faults source.old) (S.faults source.new) (result.0 ≡ Status.ReadFault) }
     ensures write_fault { StreamCause (K.faults sink.old) (K.faults sink.new) (result.0 ≡ Status.WriteFault) }
     ensures disk_fault { RunsDisk D.Disk disk result.1 (result.0 ≡ Status.DiskFault) }
+    ensures restarts { IsTrue D.tells → D.restarts result.1 ≡ D.restarts disk }
+
+    // Parts were served, each on the disk that the one before it left: what is promised of a session in which no line parts it is promised of each.
+    ensures parts { (held : List ℕ) × ServesParts D.Disk S.Source K.Sink (record { disk = disk; held = []; source = source.old; sink = sink.old }) result.0 (record { disk = result.1; held = held; source = source.new; sink = sink.new }) }
+{
+    let mut reader = match LineReader::new(alloc) {
+        Ok(reader) => reader,
+        Err(_) => return (Status::NoMemory, disk),
+    };
+    let mut disk = disk;
+    for part in 0..MOST_TURNS {
+        let (status, left, next) = serve_part(alloc, disk, &mut reader, source, sink);
+        disk = left;
+        match next {
+            Next::End => return (status, disk),
+            Next::Reopen => {
+                if put_all(sink, b"reopen -> closed\n").is_err() {
+                    return (Status::WriteFault, disk);
+                }
+            }
+        }
+    }
+    // So many parts don't come either.
+    (Status::NoMemory, disk)
+}
+
+/// Serves a part of it: opens the heap, and answers lines up to a `reopen` for which it is the time, or to the end of the input.
+fn serve_part<D: Disk, S: Source, K: Sink>(
+    alloc: Global,
+    disk: D,
+    reader: &mut LineReader,
+    source: &mut S,
+    sink: &mut K,
+) -> (Status, D, Next)
+    requires fresh { IsTrue S.tells → IsFalse reader.old.passing }
+    ensures fresh { result.2 ≡ Next.Reopen → IsTrue S.tells → IsFalse reader.new.passing }
+    ensures done { result.2 ≡ Next.Reopen → result.0 ≡ Status.Done }
+    ensures end { IsSessionEnd result.0 }
+    // Each fault comes from outside.
+    ensures read_fault { StreamCause (S.faults source.old) (S.faults source.new) (result.0 ≡ Status.ReadFault) }
+    ensures write_fault { StreamCause (K.faults sink.old) (K.faults sink.new) (result.0 ≡ Status.WriteFault) }
+    ensures disk_fault { RunsDisk D.Disk disk result.1 (result.0 ≡ Status.DiskFault) }
 
     // On any disk: the heap was not opened, and nothing was read or written; or the lines that were taken were answered in their order.
-    ensures serves { ((result.0 ≢ Status.Done) × (source.new ≡ source.old) × (sink.new ≡ sink.old)) ⊎ ServesHeap D.Disk (IsOfImage D.tells (D.bytes disk)) S.tells (S.left source.old) (S.left source.new) result.1 result.0 K.tells (K.written sink.old) (K.written sink.new) }
+    ensures serves { ((result.0 ≢ Status.Done) × (source.new ≡ source.old) × (sink.new ≡ sink.old)) ⊎ OfInput S.tells result.2 (reader.old.held ++ S.left source.old) (reader.new.held ++ S.left source.new) (S.left source.new) (λ part rest. ServesHeap D.Disk (IsOfImage D.tells (D.bytes disk)) S.tells part rest result.1 result.0 result.2 K.tells (K.written sink.old) (K.written sink.new)) }
 
     // On a modelled disk, with the heap that is there: nothing was done to the disk but in the opening and in events, and each moment of it is told.
-    ensures served { OfTold D.tells (D.bytes disk) (D.may_leave disk) ((stored : IsStored (D.bytes disk)) → IsServed D.Disk (stored_calls stored) S.tells (S.left source.old) (S.left source.new) (stored_core stored) disk result.1 result.0 K.tells (K.written sink.old) (K.written sink.new)) }
+    ensures served { OfTold D.tells (D.bytes disk) (D.may_leave disk) ((stored : IsStored (D.bytes disk)) → OfInput S.tells result.2 (reader.old.held ++ S.left source.old) (reader.new.held ++ S.left source.new) (S.left source.new) (λ part rest. IsServed D.Disk (stored_calls stored) S.tells part rest (stored_core stored) disk result.1 result.0 result.2 K.tells (K.written sink.old) (K.written sink.new))) }
     ensures restarts { IsTrue D.tells → D.restarts result.1 ≡ D.restarts disk }
     // Without a fault it is done, if memory is there.
     ensures complete { OfTold D.tells (D.bytes disk) (D.may_leave disk) (IsStored (D.bytes disk) → ¬ Rose (S.faults source.old) (S.faults source.new) → ¬ Rose (K.faults sink.old) (K.faults sink.new)
@@ -68,52 +113,63 @@ pub fn serve<D: Disk, S: Source, K: Sink>(
 {
     let mut heap = match Heap::open(alloc, disk) {
         Ok(heap) => heap,
-        Err((e, disk)) => return (Status::from(e), disk),
+        Err((e, disk)) => return (Status::from(e), disk, Next::End),
     };
-    match serve_all(alloc, &mut heap, source, sink) {
-        Ok(()) => (Status::Done, heap.close()),
-        Err(ended) => (break_status(ended), heap.close()),
+    match serve_all(alloc, &mut heap, reader, source, sink) {
+        Ok(next) => (Status::Done, heap.close(), next),
+        Err(ended) => (break_status(ended), heap.close(), Next::End),
     }
 }
 
-/// Answers all lines, and makes the events that end a session.
+/// Answers lines, and at the end of the input makes the events that end a session.
 fn serve_all<D: Disk, S: Source, K: Sink>(
     alloc: Global,
     heap: &mut Heap<D>,
+    reader: &mut LineReader,
     source: &mut S,
     sink: &mut K,
-) -> Result<(), Break>
+) -> Result<Next, Break>
+    requires fresh { IsTrue S.tells → IsFalse reader.old.passing }
+    ensures fresh { result ≡ Ok Next.Reopen → IsTrue S.tells → IsFalse reader.new.passing }
     ensures disk { KeepsDisk D.Disk (heap_disk heap.old) (heap_disk heap.new) (session_device result) }
     ensures source { StreamCause (S.faults source.old) (S.faults source.new) (result ≡ Err Break.ReadFault) }
     ensures sink { StreamCause (K.faults sink.old) (K.faults sink.new) (result ≡ Err (Break.Halted halt.WriteFault)) }
-    ensures core { (c : Core) → IsCore c heap.old → IsRunning c → Serves S.tells (S.left source.old) (S.left source.new) c heap.new K.tells (K.written sink.old) (K.written sink.new) result }
-    ensures plays { IsTrue D.tells → (of : Super) (c : Core) → IsHeap of c heap.old → IsRunning c → ServesOn of S.tells (S.left source.old) (S.left source.new) c heap.old heap.new K.tells (K.written sink.old) (K.written sink.new) result }
+    ensures core { (c : Core) → IsCore c heap.old → IsRunning c → OfInput S.tells (next_of result) (reader.old.held ++ S.left source.old) (reader.new.held ++ S.left source.new) (S.left source.new) (λ part rest. Serves S.tells part rest c heap.new K.tells (K.written sink.old) (K.written sink.new) result) }
+    ensures plays { IsTrue D.tells → (of : Super) (c : Core) → IsHeap of c heap.old → IsRunning c → OfInput S.tells (next_of result) (reader.old.held ++ S.left source.old) (reader.new.held ++ S.left source.new) (S.left source.new) (λ part rest. ServesOn of S.tells part rest c heap.old heap.new K.tells (K.written sink.old) (K.written sink.new) result) }
 {
-    serve_lines(alloc, heap, source, sink)?;
-    Ok(play_ending(alloc, heap, sink)?)
+    match serve_lines(alloc, heap, reader, source, sink)? {
+        Next::Reopen => Ok(Next::Reopen),
+        Next::End => {
+            play_ending(alloc, heap, sink)?;
+            Ok(Next::End)
+        }
+    }
 }
 
-/// Answers one line after another.
+/// Answers one line after another, up to one that parts the session.
 fn serve_lines<D: Disk, S: Source, K: Sink>(
     alloc: Global,
     heap: &mut Heap<D>,
+    reader: &mut LineReader,
     source: &mut S,
     sink: &mut K,
-) -> Result<(), Break>
+) -> Result<Next, Break>
+    requires fresh { IsTrue S.tells → IsFalse reader.old.passing }
+    ensures fresh { result ≡ Ok Next.Reopen → IsTrue S.tells → IsFalse reader.new.passing }
     ensures disk { KeepsDisk D.Disk (heap_disk heap.old) (heap_disk heap.new) (session_device result) }
     ensures source { StreamCause (S.faults source.old) (S.faults source.new) (result ≡ Err Break.ReadFault) }
     ensures sink { StreamCause (K.faults sink.old) (K.faults sink.new) (result ≡ Err (Break.Halted halt.WriteFault)) }
-    ensures core { (c : Core) → IsCore c heap.old → IsRunning c → ServesLines S.tells (S.left source.old) (S.left source.new) c heap.new K.tells (K.written sink.old) (K.written sink.new) result }
-    ensures plays { IsTrue D.tells → (of : Super) (c : Core) → IsHeap of c heap.old → IsRunning c → ServesLinesOn of S.tells (S.left source.old) (S.left source.new) c heap.old heap.new K.tells (K.written sink.old) (K.written sink.new) result }
+    ensures core { (c : Core) → IsCore c heap.old → IsRunning c → OfInput S.tells (next_of result) (reader.old.held ++ S.left source.old) (reader.new.held ++ S.left source.new) (S.left source.new) (λ part rest. ServesLines S.tells part rest c heap.new K.tells (K.written sink.old) (K.written sink.new) result) }
+    ensures plays { IsTrue D.tells → (of : Super) (c : Core) → IsHeap of c heap.old → IsRunning c → OfInput S.tells (next_of result) (reader.old.held ++ S.left source.old) (reader.new.held ++ S.left source.new) (S.left source.new) (λ part rest. ServesLinesOn of S.tells part rest c heap.old heap.new K.tells (K.written sink.old) (K.written sink.new) result) }
 {
-    let mut reader = LineReader::new(alloc)?;
     let mut number = 1;
     for turn in 0..MOST_TURNS {
         match reader.next(alloc, source)? {
+            Taken::Line(text) if parts_session(heap, &text) => return Ok(Next::Reopen),
             Taken::Line(text) => answer(alloc, heap, number, &text, sink)?,
             Taken::TooLong => refuse(alloc, number, sink)?,
             Taken::Part => continue,
-            Taken::End => return Ok(()),
+            Taken::End => return Ok(Next::End),
         }
         number += 1;
     }

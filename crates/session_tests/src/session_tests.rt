@@ -63,6 +63,14 @@ fn served(alloc: Global, input: &str, most: usize) -> Result<Outcome, AllocError
     Ok(serve_on(alloc, heap_disk(alloc)?, input.as_bytes(), most, none)?.0)
 }
 
+/// The bytes that a source has left, of 128 at most.
+fn left_of(alloc: Global, source: &mut Pieces) -> Result<Vec<u8>, AllocError> {
+    let mut left = vec![in alloc; 0u8; 128]?;
+    let count = source.inner.take(&mut left).unwrap_or(0);
+    left.truncate(count);
+    Ok(left)
+}
+
 /// Compares what was found. The tests call it, since the proof of an assertion of their own would take each of them longer.
 fn same<T: PartialEq + Debug + Copy>(rt: &impl Abort, found: T, want: T) {
     assert_eq!(rt; found, want);
@@ -115,10 +123,9 @@ fn a_line_is_answered_before_more_is_taken(rt: HostRuntime) -> Result<(), Fail> 
     let mut source = Pieces { inner, most: 8 };
     let mut sink = MemorySink::of(alloc, SINK_BYTES, vec![in alloc; 1u64; 1]?)?;
     let (status, _disk) = serve(alloc, heap_disk(alloc)?, &mut source, &mut sink);
-    let mut left = vec![in alloc; 0u8; 128]?;
-    let count = source.inner.take(&mut left).unwrap_or(0);
+    let left = left_of(alloc, &mut source)?;
     same(&rt, status, Status::WriteFault);
-    same(&rt, &left[..count], &INPUT.as_bytes()[8..]);
+    same(&rt, left.as_slice(), &INPUT.as_bytes()[8..]);
     Ok(())
 }
 
@@ -180,6 +187,36 @@ fn sessions_follow_one_another(rt: HostRuntime) -> Result<(), Fail> {
         Status::Done,
         "3 begin -> begun 3\n3 root 0 -> done\n3 get 0 0 1 -> int 7\n3 abort -> aborted\nforce -> durable 0\n",
     );
+    Ok(())
+}
+
+/// The heap is closed and opened again where nothing is to be done before, and not else. Commits and lines are counted anew.
+#[test]
+fn a_line_parts_the_session(rt: HostRuntime) -> Result<(), Fail> {
+    for most in [1, 5, 64] {
+        expect(
+            &rt,
+            &served(rt.alloc(), PARTED, most)?,
+            Status::Done,
+            PARTED_OUTPUT,
+        );
+    }
+    Ok(())
+}
+
+const PARTED: &str =
+    "reopen\n1 begin\nreopen\n1 root 0\n1 put 0 0 7\n1 seal\nreopen\nforce\nreopen\n1 get 0 0 1\n2 begin\n2 root 0\n2 get 0 0 1\n2 seal\n1 jump\nforce\nreopen";
+
+const PARTED_OUTPUT: &str =
+    "reopen -> closed\n1 begin -> begun 1\nreopen -> unfinished\n1 root 0 -> done\n1 put 0 0 7 -> done\n1 seal -> sealed 1\nreopen -> unfinished\nforce -> durable 1\nreopen -> closed\n1 get 0 0 1 -> notactive\n2 begin -> begun 2\n2 root 0 -> done\n2 get 0 0 1 -> int 7\n2 seal -> sealed 1\nscript fault at line 6\nforce -> durable 1\nreopen -> closed\n";
+
+/// The sink fails at what is said of the closing: the session ends, and the heap is not opened again.
+#[test]
+fn a_closing_that_is_not_told_ends_the_session(rt: HostRuntime) -> Result<(), Fail> {
+    let alloc = rt.alloc();
+    let fails = (Vec::new(alloc), vec![in alloc; 1u64; 1]?);
+    let (served, _disk) = serve_on(alloc, heap_disk(alloc)?, b"reopen\n1 begin\n", 64, fails)?;
+    expect(&rt, &served, Status::WriteFault, "");
     Ok(())
 }
 

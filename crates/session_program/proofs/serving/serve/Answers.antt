@@ -1,153 +1,123 @@
-use Rattle.std.proofs.Common.{◌≡◌, ◌+◌, inl, inr, None, Ok, Err, refl, sym, ap, ◌∙◌, subst, arith}
-use Rattle.heap_core.specs.HeapState.{heap_disk}
-use Rattle.heap_model.proofs.Shaped.{shaped_image}
-use Rattle.heap_program.specs.declared.play.Halt.TheVariants as halt
-use Rattle.heap_program.specs.declared.status.Status.TheVariants as status
-use Rattle.heap_program.specs.Causes.{DiskRose, Unharmed}
-use Rattle.heap_program.specs.StatusOf.{open_status}
-use Rattle.heap_program.specs.Stored.{stored_core, stored_calls}
-use Rattle.heap_program.proofs.Causes.{rose_sum, rose_sum_stops, disk_rose_since}
-use Rattle.heap_program.proofs.Counts.{counted_mono}
-use Rattle.heap_recovery.proofs.FaultLaws.{shaped_readable}
-use Rattle.heap_program.proofs.Behind.{opening_behind}
-use Rattle.heap_program.proofs.PlayOpen.{stored_running, stored_keeps, stored_moments, stored_super, opened_core}
-use Rattle.heap_program.proofs.PrintRecovered.{fails_most, fails_none}
-use Rattle.heap_program.proofs.RefusalLaws.{fault_moments, left_moments}
-use Rattle.heap_program.proofs.Reopened.{outside_memory, reads_only, refused_memory}
-use Rattle.heap_program.proofs.Statuses.{open_harm}
-use Rattle.heap_recovery.specs.declared.at.At.TheVariants.{Address}
-use Rattle.session_program.specs.declared.ending.Break.{Break}
-use Rattle.session_program.specs.declared.ending.Break.TheVariants.{Halted, ReadFault}
-use Rattle.session_program.proofs.ServedWhole.{served_opened, served_none, broken_memory}
+use Rattle.std.proofs.Common.{◌≡◌, ◌∙◌, ℕ, ◌≤◌, suc, zero, [], refl, arith, sym}
+use Rattle.std.specs.Prelude.{IsTrue}
+use Rattle.heap_program.proofs.Written.{front_written}
+use Rattle.session_program.specs.Parts.{Place, ServesPart, Parts}
+use Rattle.session_program.proofs.PartLaws.{on_done, on_error, error_of, last_part, no_part, told_part, untold_part}
 use Rattle.session_program.proofs.serving.serve.Goals as goal
 
-pub returns-in-Ok-serve_all-clause-serves : goal.returns-in-Ok-serve_all-clause-serves
-returns-in-Ok-serve_all-clause-serves g c =
-    let some = opened_core g.D.Disk.tells (g.D.Disk.bytes c.args.disk) c.in-Ok.heap c.in-Ok.ensures.opens c.in-Ok.ensures.sound in
-    inr (record {
-      first = some.0;
-      opened = some.1.opened;
-      image = some.1.image;
-      heap = c.serve_all.new.heap;
-      disk = c.close.ensures;
-      result = Ok tt;
-      status = refl;
-      serves = c.in-Ok-serve_all.ensures.core some.0 some.2 some.1.running;
-    })
+pub returns-in-Err-clause-parts : goal.returns-in-Err-clause-parts
+returns-in-Err-clause-parts g c =
+    let here : Place _ _ _ = record { disk = c.args.disk; held = []; source = c.args.source.now; sink = c.args.sink.now } in
+    ([], no_part g.D.Disk g.S.Source g.K.Sink here here 0 refl)
 
-pub returns-in-Err-serve_all-clause-serves : goal.returns-in-Err-serve_all-clause-serves
-returns-in-Err-serve_all-clause-serves g c =
-    let some = opened_core g.D.Disk.tells (g.D.Disk.bytes c.args.disk) c.in-Ok.heap c.in-Ok.ensures.opens c.in-Ok.ensures.sound in
-    inr (record {
-      first = some.0;
-      opened = some.1.opened;
-      image = some.1.image;
-      heap = c.serve_all.new.heap;
-      disk = c.close-in-Err-serve_all.ensures;
-      result = Err c.in-Err-serve_all.ended;
-      status = c.break_status.ensures;
-      serves = c.in-Err-serve_all.ensures.core some.0 some.2 some.1.running;
-    })
-
-pub returns-in-Err-clause-keeps_fault : goal.returns-in-Err-clause-keeps_fault
-returns-in-Err-clause-keeps_fault g c tells only expected fault =
-    fault_moments g.D.Disk expected (g.D.Disk.bytes c.args.disk) c.args.disk c.in-Err.disk fault (c.in-Err.ensures.moments_not_heap tells only) (c.in-Err.ensures.moments_damaged tells only)
-
--- On a modelled disk with a heap.
-pub returns-in-Err-clause-served : goal.returns-in-Err-clause-served
-returns-in-Err-clause-served g c tells only stored =
-    let d = g.D.Disk in
+pub returns-in-End-clause-parts : goal.returns-in-End-clause-parts
+returns-in-End-clause-parts g c =
     let s = g.S.Source in
     let k = g.K.Sink in
-    let e = c.in-Err.ensures in
-    let shaped = shaped_image stored.legal in
-    let passes = e.passes tells stored.super stored.batches stored.pages shaped in
-    let outside = e.shaped tells stored.super stored.batches stored.pages shaped in
-    let few = fails_most (stored_calls stored) (d.passed c.args.disk) (d.passed c.in-Err.disk) c.in-Err.e passes in
-    let most = counted_mono few.0 (stored_calls stored) (d.passed c.args.disk) few.1 in
-    let total = counted_mono few.0 (stored_calls stored + 0) (d.passed c.args.disk) (omega (arith, few.1)) in
-    rw c.from.ensures (served_none d stored s.tells (s.left c.args.source.now) (s.left c.args.source.now) c.args.disk c.in-Err.disk c.in-Err.e k.tells (k.written c.args.sink.now) outside
-    (stored_moments d stored c.args.disk c.in-Err.disk (e.moments tells only stored.super stored.batches stored.pages shaped))
-    (opening_behind d (stored_core stored) stored.super stored.batches (d.bytes c.args.disk) c.args.disk c.in-Err.disk (stored_super d stored) (e.moments_readable tells only stored.super stored.batches shaped.log.state (shaped_readable stored.super stored.batches stored.pages (d.bytes c.args.disk) shaped)))
-    (λ image left. stored_keeps d stored image (e.crash tells only stored.super stored.batches stored.pages shaped image left))
-    (λ image since. g.met.D.Disk.only_now tells c.in-Err.disk image since) (e.disk.restarts tells)
-    (λ none. fails_none (stored_calls stored) (d.passed c.args.disk) (d.passed c.in-Err.disk) c.in-Err.e (ap open_status none) passes)
-    (λ other u. u (open_harm _ _ _ _ c.in-Err.e outside other e.disk.cause))
-    (omega (arith, few.2, most)) (omega (arith, few.2, total))
-    (λ refused. reads_only d c.args.disk c.in-Err.disk ((e.left_alone (refused_memory c.in-Err.e refused)).contents tells) only))
-
-pub returns-in-Ok-serve_all-clause-served : goal.returns-in-Ok-serve_all-clause-served
-returns-in-Ok-serve_all-clause-served g c tells only stored =
     let d = g.D.Disk in
+    let l = c.loop-part in
+    let p = c.serve_part-status in
+    let old : Place _ _ _ = record { disk = c.args.disk; held = []; source = c.args.source.now; sink = c.args.sink.now } in
+    let here : Place _ _ _ = record { disk = l.disk; held = l.reader.held; source = l.source; sink = l.sink } in
+    let closed : Place _ _ _ = record { disk = p.result.1; held = p.new.reader.held; source = p.new.source; sink = p.new.sink } in
+    let e = p.ensures in
+    let part : ServesPart d s k here p.result.0 p.result.2 closed = record {
+      done = e.done;
+      end = e.end;
+      read_fault = e.read_fault;
+      write_fault = e.write_fault;
+      disk_fault = e.disk_fault;
+      serves = e.serves;
+      served = e.served;
+      restarts = e.restarts;
+      complete = e.complete;
+      unwritten = e.unwritten;
+      refused = e.refused;
+      refused_at_end = e.refused_at_end;
+      refuses = e.refuses;
+      left_alone = e.left_alone;
+      keeps_fault = e.keeps_fault;
+      keeps_log = e.keeps_log;
+    } in
+    (p.new.reader.held, last_part d s k old here l.invariant.parts.0 l.invariant.parts.1 p.result.0 p.result.2 closed part c.in-End.is)
+
+pub returns-then-is_err-clause-parts : goal.returns-then-is_err-clause-parts
+returns-then-is_err-clause-parts g c =
     let s = g.S.Source in
     let k = g.K.Sink in
-    let first = stored_core stored in
-    let shaped = shaped_image stored.legal in
-    let running = stored_running d stored in
-    let old = c.in-Ok.heap in
-    let new = c.serve_all.new.heap in
-    let e = c.in-Ok.ensures in
-    let on = c.in-Ok-serve_all.ensures.plays tells stored.super first (e.holds tells stored.super stored.batches stored.pages stored.legal only stored.places stored.graph stored.found) running in
-    let unharmed = λ (u : Unharmed d c.args.disk new.disk) (rose : DiskRose (d.faults old.disk) (d.stops old.disk) (d.faults new.disk) (d.stops new.disk)).
-    u (disk_rose_since _ _ _ _ _ _ e.disk.cause.faults_kept e.disk.cause.stops_kept c.serve_all.ensures.disk.cause.faults_kept c.serve_all.ensures.disk.cause.stops_kept rose) in
-    rw (c.close.ensures) (served_opened stored running s.tells (s.left c.args.source.now) (s.left c.serve_all.new.source) c.args.disk old new k.tells (k.written c.args.sink.now) (k.written c.serve_all.new.sink) (Ok tt) on
-    tells (record { counts = λ disk t image le may. g.met.D.Disk.counts_now tells disk t image le may; now = λ disk image since. g.met.D.Disk.only_now tells disk image since; reads = λ disk. g.met.D.Disk.reads_an_image tells disk })
-    (stored_moments d stored c.args.disk old.disk (e.moments tells only stored.super stored.batches stored.pages shaped))
-    (opening_behind d first stored.super stored.batches (d.bytes c.args.disk) c.args.disk old.disk (stored_super d stored) (e.moments_readable tells only stored.super stored.batches shaped.log.state (shaped_readable stored.super stored.batches stored.pages (d.bytes c.args.disk) shaped)))
-    (λ image left. stored_keeps d stored image (e.crash tells only stored.super stored.batches stored.pages shaped image left))
-    (e.passes tells stored.super stored.batches stored.pages shaped).ok (e.disk.restarts tells) unharmed)
-
-pub returns-in-Err-serve_all-clause-served : goal.returns-in-Err-serve_all-clause-served
-returns-in-Err-serve_all-clause-served g c tells only stored =
     let d = g.D.Disk in
+    let l = c.loop-part in
+    let p = c.serve_part-status in
+    let old : Place _ _ _ = record { disk = c.args.disk; held = []; source = c.args.source.now; sink = c.args.sink.now } in
+    let here : Place _ _ _ = record { disk = l.disk; held = l.reader.held; source = l.source; sink = l.sink } in
+    let closed : Place _ _ _ = record { disk = p.result.1; held = p.new.reader.held; source = p.new.source; sink = p.new.sink } in
+    let e = p.ensures in
+    let part : ServesPart d s k here p.result.0 p.result.2 closed = record {
+      done = e.done;
+      end = e.end;
+      read_fault = e.read_fault;
+      write_fault = e.write_fault;
+      disk_fault = e.disk_fault;
+      serves = e.serves;
+      served = e.served;
+      restarts = e.restarts;
+      complete = e.complete;
+      unwritten = e.unwritten;
+      refused = e.refused;
+      refused_at_end = e.refused_at_end;
+      refuses = e.refuses;
+      left_alone = e.left_alone;
+      keeps_fault = e.keeps_fault;
+      keeps_log = e.keeps_log;
+    } in
+    let failed = sym c.is_err.ensures.value ∙ c.if-is_err.true in
+    (p.new.reader.held, untold_part d s k old here l.invariant.parts.0 l.invariant.parts.1 p.result.0 p.result.2 closed part c.in-Reopen.is c.put_all.new.sink (c.put_all.ensures.cause.failed (error_of c.put_all.result failed)) (λ t. front_written _ _ _ _ refl (on_error c.put_all.result failed (c.put_all.ensures.front t))))
+
+pub loop-part-preserved : goal.loop-part-preserved
+loop-part-preserved g c =
     let s = g.S.Source in
     let k = g.K.Sink in
-    let first = stored_core stored in
-    let shaped = shaped_image stored.legal in
-    let running = stored_running d stored in
-    let old = c.in-Ok.heap in
-    let new = c.serve_all.new.heap in
-    let e = c.in-Ok.ensures in
-    let on = c.in-Err-serve_all.ensures.plays tells stored.super first (e.holds tells stored.super stored.batches stored.pages stored.legal only stored.places stored.graph stored.found) running in
-    let unharmed = λ (u : Unharmed d c.args.disk new.disk) (rose : DiskRose (d.faults old.disk) (d.stops old.disk) (d.faults new.disk) (d.stops new.disk)).
-    u (disk_rose_since _ _ _ _ _ _ e.disk.cause.faults_kept e.disk.cause.stops_kept c.serve_all.ensures.disk.cause.faults_kept c.serve_all.ensures.disk.cause.stops_kept rose) in
-    rw (c.close-in-Err-serve_all.ensures, c.break_status.ensures) (served_opened stored running s.tells (s.left c.args.source.now) (s.left c.serve_all.new.source) c.args.disk old new k.tells (k.written c.args.sink.now) (k.written c.serve_all.new.sink) (Err c.in-Err-serve_all.ended) on
-    tells (record { counts = λ disk t image le may. g.met.D.Disk.counts_now tells disk t image le may; now = λ disk image since. g.met.D.Disk.only_now tells disk image since; reads = λ disk. g.met.D.Disk.reads_an_image tells disk })
-    (stored_moments d stored c.args.disk old.disk (e.moments tells only stored.super stored.batches stored.pages shaped))
-    (opening_behind d first stored.super stored.batches (d.bytes c.args.disk) c.args.disk old.disk (stored_super d stored) (e.moments_readable tells only stored.super stored.batches shaped.log.state (shaped_readable stored.super stored.batches stored.pages (d.bytes c.args.disk) shaped)))
-    (λ image left. stored_keeps d stored image (e.crash tells only stored.super stored.batches stored.pages shaped image left))
-    (e.passes tells stored.super stored.batches stored.pages shaped).ok (e.disk.restarts tells) unharmed)
-
--- Without a fault it is done, or memory was refused.
-pub returns-in-Err-clause-complete : goal.returns-in-Err-clause-complete
-returns-in-Err-clause-complete g c tells only stored no_source no_sink no_disk =
-    let e = c.in-Err.ensures in
-    let outside = e.shaped tells stored.super stored.batches stored.pages (shaped_image stored.legal) in
-    inr (c.from.ensures ∙ outside_memory c.in-Err.e outside (λ is. no_disk (open_harm _ _ _ _ c.in-Err.e outside (λ none. let same : status.NoMemory ≡ status.DiskFault = sym (ap open_status none) ∙ is in cc) e.disk.cause)))
-
-pub returns-in-Err-serve_all-clause-complete : goal.returns-in-Err-serve_all-clause-complete
-returns-in-Err-serve_all-clause-complete g c tells only stored no_source no_sink no_disk =
     let d = g.D.Disk in
-    let old = c.in-Ok.heap in
-    let new = c.serve_all.new.heap in
-    let e = c.in-Ok.ensures in
-    let all = c.in-Err-serve_all.ensures in
-    let b = c.in-Err-serve_all.ended in
-    let unharmed : Unharmed d c.args.disk new.disk = subst (λ x. Unharmed d c.args.disk x) c.close-in-Err-serve_all.ensures no_disk in
-    let since = λ (rose : DiskRose (d.faults old.disk) (d.stops old.disk) (d.faults new.disk) (d.stops new.disk)).
-    unharmed (disk_rose_since _ _ _ _ _ _ e.disk.cause.faults_kept e.disk.cause.stops_kept all.disk.cause.faults_kept all.disk.cause.stops_kept rose) in
-    rw c.break_status.ensures (broken_memory b
-    (λ is. no_source (all.source.cause (ap (λ (x : Break). Err x) is)))
-    (λ is. no_sink (all.sink.cause (ap (λ (x : Break). Err x) is)))
-    (λ is. since (rose_sum _ _ _ _ all.disk.cause.faults_kept all.disk.cause.stops_kept (all.disk.cause.failed is)))
-    (λ is. since (rose_sum_stops _ _ _ _ all.disk.cause.faults_kept all.disk.cause.stops_kept (all.disk.cause.stopped is))))
+    let l = c.loop-part in
+    let p = c.serve_part-status in
+    let old : Place _ _ _ = record { disk = c.args.disk; held = []; source = c.args.source.now; sink = c.args.sink.now } in
+    let here : Place _ _ _ = record { disk = l.disk; held = l.reader.held; source = l.source; sink = l.sink } in
+    let closed : Place _ _ _ = record { disk = p.result.1; held = p.new.reader.held; source = p.new.source; sink = p.new.sink } in
+    let e = p.ensures in
+    let part : ServesPart d s k here p.result.0 p.result.2 closed = record {
+      done = e.done;
+      end = e.end;
+      read_fault = e.read_fault;
+      write_fault = e.write_fault;
+      disk_fault = e.disk_fault;
+      serves = e.serves;
+      served = e.served;
+      restarts = e.restarts;
+      complete = e.complete;
+      unwritten = e.unwritten;
+      refused = e.refused;
+      refused_at_end = e.refused_at_end;
+      refuses = e.refuses;
+      left_alone = e.left_alone;
+      keeps_fault = e.keeps_fault;
+      keeps_log = e.keeps_log;
+    } in
+    let i = l.invariant in
+    record {
+      fresh = e.fresh c.in-Reopen.is;
+      source = omega (arith, i.source, e.read_fault.kept);
+      sink = omega (arith, i.sink, e.write_fault.kept, c.put_all.ensures.cause.kept);
+      disk = record { extent = e.disk_fault.extent ∙ i.disk.extent; origin = e.disk_fault.origin ∙ i.disk.origin; kept = omega (arith, i.disk.kept, e.disk_fault.kept); cause = λ never. absurd never };
+      restarts = λ t. e.restarts t ∙ i.restarts t;
+      parts = (suc i.parts.0, told_part d s k old here i.parts.0 i.parts.1 p.result.0 p.result.2 closed part c.in-Reopen.is c.put_all.new.sink c.put_all.ensures.cause.kept (λ t. on_done c.put_all.result (sym c.is_err.ensures.value ∙ c.if-is_err.false) (c.put_all.ensures.all t)));
+    }
 
--- of an image that is damaged at an address a crash leaves the log, rolled back or not, and all else
-pub returns-in-Err-clause-keeps_log : goal.returns-in-Err-clause-keeps_log
-returns-in-Err-clause-keeps_log g c tells only fault = left_moments g.D.Disk (g.D.Disk.bytes c.args.disk) c.args.disk c.in-Err.disk fault (c.in-Err.ensures.moments_readable tells only)
-
-pub returns-in-Ok-serve_all-clause-keeps_log : goal.returns-in-Ok-serve_all-clause-keeps_log
-returns-in-Ok-serve_all-clause-keeps_log g c tells only fault = absurd (c.in-Ok.ensures.damaged tells (Address fault.0) fault.1)
-
-pub returns-in-Err-serve_all-clause-keeps_log : goal.returns-in-Err-serve_all-clause-keeps_log
-returns-in-Err-serve_all-clause-keeps_log g c tells only fault = absurd (c.in-Ok.ensures.damaged tells (Address fault.0) fault.1)
+pub returns-clause-parts : goal.returns-clause-parts
+returns-clause-parts g c =
+    let s = g.S.Source in
+    let k = g.K.Sink in
+    let d = g.D.Disk in
+    let l = c.loop-part in
+    let old : Place _ _ _ = record { disk = c.args.disk; held = []; source = c.args.source.now; sink = c.args.sink.now } in
+    let here : Place _ _ _ = record { disk = l.disk; held = l.reader.held; source = l.source; sink = l.sink } in
+    (l.reader.held, no_part d s k old here l.invariant.parts.0 l.invariant.parts.1)

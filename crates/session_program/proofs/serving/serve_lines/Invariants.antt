@@ -22,6 +22,6 @@ invariant-loop-turn g l =
       source : s.faults l.fn.source ≤ s.faults l.source;
       sink : k.faults l.fn.sink ≤ k.faults l.sink;
       few : l.number ≤ l.turn + 1;
-      core : (c : Core) → IsCore c l.fn.heap → IsRunning c → SoFar s.tells (s.left l.fn.source) c l.heap l.reader.passing (l.reader.held ++ s.left l.source) l.number k.tells (k.written l.fn.sink) (k.written l.sink);
-      plays : IsTrue g.D.Disk.tells → (of : Super) (c : Core) → IsHeap of c l.fn.heap → IsRunning c → SoFarOn of s.tells (s.left l.fn.source) c l.fn.heap l.heap l.reader.passing (l.reader.held ++ s.left l.source) l.number k.tells (k.written l.fn.sink) (k.written l.sink);
+      core : (c : Core) → IsCore c l.fn.heap → IsRunning c → SoFar s.tells (l.fn.reader.held ++ s.left l.fn.source) c l.heap l.reader.passing (l.reader.held ++ s.left l.source) l.number k.tells (k.written l.fn.sink) (k.written l.sink);
+      plays : IsTrue g.D.Disk.tells → (of : Super) (c : Core) → IsHeap of c l.fn.heap → IsRunning c → SoFarOn of s.tells (l.fn.reader.held ++ s.left l.fn.source) c l.fn.heap l.heap l.reader.passing (l.reader.held ++ s.left l.source) l.number k.tells (k.written l.fn.sink) (k.written l.sink);
     }
