@@ -116,6 +116,7 @@ example sessions/losers.out sessions/losers.script
 example sessions/losers_rolled_back.out sessions/losers.script --stop 8
 example sessions/losers_stopped_twice.out sessions/losers.script --stop 7 --again 2
 example collections/garbage.out collections/garbage.script
+made basics/load.out heap load 1 2000 --fresh 64 </dev/null
 printed basics/stored
 printed basics/in_use
 printed basics/full_heap
@@ -154,6 +155,7 @@ made basics/list.dot "$top/tools/graph_to_dot" <"$examples/basics/list.out"
 
 quotes README.md basics/first.out --notes
 quotes README.md crashes/every_stop.out
+quotes README.md ../clients/python/first.py --from "def put() -> None:"
 quotes examples/README.md basics/stored.out
 quotes examples/README.md basics/in_use.out
 quotes examples/README.md basics/full_heap.out

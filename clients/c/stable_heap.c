@@ -46,6 +46,7 @@ static const struct {
     {"badhandle", SH_BAD_HANDLE},
     {"nosuchpage", SH_NO_SUCH_PAGE},
     {"numbersspent", SH_NUMBERS_SPENT},
+    {"unfinished", SH_UNFINISHED},
     {"notactive", SH_PROTOCOL},
     {"alreadyactive", SH_PROTOCOL},
     {"diskfault", SH_DISK_FAULT},
@@ -277,6 +278,14 @@ sh_result sh_scan(sh_heap *heap, bool *more) {
     sh_result result = ask(heap, "scan", reply);
     if (result == SH_OK && more) *more = strncmp(reply, "scanned ", 8) == 0;
     return result;
+}
+
+sh_result sh_reopen(sh_heap *heap) {
+    char reply[LINE];
+    SH_TRY(sh_force(heap, NULL));
+    SH_TRY(ask(heap, "reopen", reply));
+    /* The first answer says that the heap is open. */
+    return sh_force(heap, NULL);
 }
 
 /* ---- transactions */

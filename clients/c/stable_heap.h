@@ -26,6 +26,7 @@ typedef enum {
     SH_BAD_HANDLE,    /* no object is held there */
     SH_NO_SUCH_PAGE,
     SH_NUMBERS_SPENT, /* all transaction numbers are used */
+    SH_UNFINISHED,    /* the heap can't be opened again now: a transaction is active, or was sealed and not forced */
     /* What this client can't do. The first is as good as a refusal. */
     SH_OUT_OF_HANDLES,  /* the transaction holds 64 objects: sh_drop frees one */
     SH_OUT_OF_SESSIONS, /* 32 transactions are active */
@@ -90,6 +91,10 @@ sh_result sh_flush(sh_heap *heap, unsigned page);
  * NULL, is whether there is more to do; where there is none, the words of objects that nothing reached at the flip are free. */
 sh_result sh_flip(sh_heap *heap);
 sh_result sh_scan(sh_heap *heap, bool *more);
+
+/* Closes the heap and opens it again, in the same process: the memory is free then that each call has taken for the heap's history, and the
+ * commits that sh_force tells are counted anew. It is refused while a transaction is active. */
+sh_result sh_reopen(sh_heap *heap);
 
 sh_result sh_begin(sh_heap *heap, sh_transaction **transaction);
 

@@ -49,6 +49,7 @@ __all__ = [
     "Protocol",
     "Refused",
     "Transaction",
+    "Unfinished",
     "VolatileFull",
 ]
 
@@ -155,6 +156,10 @@ class NumbersSpent(Refused):
     """All transaction numbers are used."""
 
 
+class Unfinished(Refused):
+    """The heap can't be opened again now: a transaction is active, or was sealed and not forced."""
+
+
 REFUSALS: Dict[str, Type[Refused]] = {
     "busy": Busy,
     "logfull": LogFull,
@@ -167,6 +172,7 @@ REFUSALS: Dict[str, Type[Refused]] = {
     "notactive": NotActive,
     "alreadyactive": AlreadyActive,
     "numbersspent": NumbersSpent,
+    "unfinished": Unfinished,
 }
 FAULTS = ("diskfault", "stopped", "failed")
 ENDS: Dict[int, Type[Ended]] = {6: DiskFault, 7: NotAHeap, 8: Damaged, 10: InUse}
@@ -435,6 +441,14 @@ class Heap:
         self.flip()
         while self.scan():
             pass
+
+    def reopen(self) -> None:
+        """Closes the heap and opens it again, in the same process: the memory is free then that each call has taken for the heap's history,
+        and `force` counts anew. While a transaction is active, of any thread, it raises Unfinished."""
+        self.force()
+        self._ask("reopen")
+        # The first answer says that the heap is open.
+        self.force()
 
     def _take_session(self) -> int:
         with self._has_session:

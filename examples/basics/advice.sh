@@ -44,3 +44,8 @@ echo 'an output that has no room'
 "$top/heap" $quick play --fresh 1 <"$here/first.script" >/dev/full 2>err
 echo "  status $?"
 grep '^heap: ' err | grep -v PROVED | sed 's/^heap: /  /'
+
+echo 'a file that may not grow so large'
+(ulimit -f 8 && "$top/heap" $quick format 4 262144 1) 2>err
+echo "  status $?"
+grep -v PROVED err | sed 's/^heap: /  /'

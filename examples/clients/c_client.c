@@ -159,6 +159,18 @@ static void collected_beside_a_transaction(sh_heap *heap) {
     CHECK(root_number(heap, 3) == 5);
 }
 
+static void opened_again(sh_heap *heap) {
+    sh_object root;
+    uint64_t commits = 1;
+    sh_transaction *t = begin(heap, &root);
+    CHECK(sh_put(t, root, 2, 9) == SH_OK);
+    CHECK(sh_reopen(heap) == SH_UNFINISHED);
+    CHECK(sh_commit(t, false) == SH_OK);
+    CHECK(sh_reopen(heap) == SH_OK);
+    CHECK(sh_force(heap, &commits) == SH_OK && commits == 0);
+    CHECK(root_number(heap, 2) == 9);
+}
+
 static void heap_is_in_use(void) {
     sh_error error;
     CHECK(sh_open(folder, command, 1, 65536, &error) == NULL);
@@ -193,6 +205,7 @@ int main(int count, char **words) {
     sessions_run_out(heap);
     forced_later(heap);
     collected_beside_a_transaction(heap);
+    opened_again(heap);
     heap_is_in_use();
     sh_close(heap);
     what_is_no_heap_is_left_alone();

@@ -1,5 +1,5 @@
 #!/bin/sh
-# Tries the client for Python and its two examples. Where crates.txt has no session yet, a plain model of the heap stands in for it; what the
+# Tries the client for Python and its examples. Where crates.txt has no session yet, a plain model of the heap stands in for it; what the
 # model answers is compared with what the program answers to the same lines.
 #
 #     examples/clients/python.sh [--quick]
@@ -9,6 +9,9 @@ export PYTHONDONTWRITEBYTECODE=1
 client=$top/clients/python
 
 if "$here/python_client.py" >log 2>&1; then echo "the tests pass"; else cat log; fi
+
+{ "$client/first.py" put; } 2>log
+echo "put, then status $?; read in another run: $("$client/first.py" read 2>/dev/null)"
 
 todo() {
     "$client/todo.py" list "$@" 2>/dev/null

@@ -204,6 +204,18 @@ class Client(unittest.TestCase):
         with self.heap.transaction() as t:
             self.assertEqual((t.root.get(0), t.root.get(1)), (None, 7))
 
+    def test_reopen(self):
+        self.put(7, durable=False)
+        self.heap.reopen()
+        self.assertEqual(self.heap.force(), 0)
+        with self.heap.transaction() as t:
+            self.assertEqual(t.root.get(0), 7)
+            with self.assertRaises(sh.Unfinished):
+                self.heap.reopen()
+            t.root.put(0, 8)
+        self.heap.reopen()
+        self.assertEqual(self.root_fields()[0], 8)
+
     def test_threads_share_sessions(self):
         def count():
             self.heap.run(lambda t: t.root.put(0, (t.root.get(0) or 0) + 1), attempts=1_000, pause=0.01)

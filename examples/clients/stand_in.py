@@ -218,10 +218,25 @@ def say(line):
     print(line, flush=True)
 
 
+def reopen(model):
+    """Whether the heap was closed and opened again: not while a transaction is active or something is not forced."""
+    if model.active or model.pending:
+        return False
+    model.sealed = 0
+    return True
+
+
 def serve(model, keep, answers):
     """Answers the lines, and keeps the objects at each force, where no transaction has changed them."""
-    for number, line in enumerate(sys.stdin, 1):
+    number = 0
+    for line in sys.stdin:
         line = line.rstrip("\n")
+        number += 1
+        if line == "reopen":
+            opened = reopen(model)
+            say(f"reopen -> {'closed' if opened else 'unfinished'}")
+            number = 0 if opened else number
+            continue
         if not LINE.fullmatch(line):
             say(f"script fault at line {number}")
             continue
