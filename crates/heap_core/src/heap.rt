@@ -28,16 +28,16 @@ ghost use Rattle.core_laws.specs.Valid.{IsReached};
 ghost use Rattle.heap_engine.specs.EngineState.{memory, LiesWithin, HasNotFailed};
 ghost use Rattle.heap_engine.specs.Refinement.{IsLeftByStep};
 ghost use Rattle.commit_order.specs.Heard.{replies_of_commits};
+ghost use Rattle.committed_words.specs.Committed.{words_of};
 ghost use Rattle.commit_order.specs.SerialOrder.{IsCommitOrdered};
 
 use crate::errors::{GraphError, OpenError};
 use commit_order::History;
+use committed_words::CommittedWords;
 use disk_model::{Disk, DiskError};
 use graph_model::{Event, Refusal, Reply};
 use heap_engine::{Engine, StepError};
 use heap_recovery::{Recovered, recover};
-use log_machine::PageWords;
-use object_layout::WordSlice;
 use std::alloc::{AllocError, Global};
 use txn_table::{SESSIONS, TxnTable};
 
@@ -119,22 +119,18 @@ fn make_room(history: &mut History, engine: &Engine, event: Event) -> Result<(),
 }
 
 /// The text of the graph that is seen from the root object on, which stands at this word address.
-fn print(alloc: Global, words: &PageWords, root: u32) -> Result<Vec<u8>, GraphError>
-    requires { length words.now < 2 ^ 32 }
-    ensures text { (name : ℕ → Id) (g : Graph) → IsSeenAs name words.now root g → IfOk result (λ text. text.items ≡ canon_text (canon g)) }
-    ensures error { (name : ℕ → Id) (g : Graph) → IsSeenAs name words.now root g → IfErr result (λ e. e ≡ GraphError.NoMemory) }
+fn print(alloc: Global, mut words: CommittedWords<'_>, root: u32) -> Result<Vec<u8>, GraphError>
+    ensures text { (name : ℕ → Id) (g : Graph) → IsSeenAs name (words_of words) root g → IfOk result (λ text. text.items ≡ canon_text (canon g)) }
+    ensures error { (name : ℕ → Id) (g : Graph) → IsSeenAs name (words_of words) root g → IfErr result (λ e. e ≡ GraphError.NoMemory) }
 {
-    let mut words = WordSlice::of(words.as_slice());
     Ok(graph_print::canon_text(alloc, &mut words, root)?)
 }
 
 /// How many objects that graph has.
-fn count(alloc: Global, words: &PageWords, root: u32) -> Result<u64, GraphError>
-    requires { length words.now < 2 ^ 32 }
-    ensures count { (name : ℕ → Id) (g : Graph) → IsSeenAs name words.now root g → IfOk result (λ count. count ≡ length (canon g)) }
-    ensures error { (name : ℕ → Id) (g : Graph) → IsSeenAs name words.now root g → IfErr result (λ e. e ≡ GraphError.NoMemory) }
+fn count(alloc: Global, mut words: CommittedWords<'_>, root: u32) -> Result<u64, GraphError>
+    ensures count { (name : ℕ → Id) (g : Graph) → IsSeenAs name (words_of words) root g → IfOk result (λ count. count ≡ length (canon g)) }
+    ensures error { (name : ℕ → Id) (g : Graph) → IsSeenAs name (words_of words) root g → IfErr result (λ e. e ≡ GraphError.NoMemory) }
 {
-    let mut words = WordSlice::of(words.as_slice());
     Ok(graph_print::canon_count(alloc, &mut words, root)?)
 }
 
@@ -326,7 +322,7 @@ impl<D: Disk> Heap<D> {
         ensures error { (c : Core) → IsCore c self.now → IsReached c → IfErr result (λ e. e ≡ GraphError.NoMemory) }
     {
         let words = self.engine.committed_words(alloc)?;
-        print(alloc, &words, self.engine.root_address())
+        print(alloc, words, self.engine.root_address())
     }
 
     /// How many objects that graph has; no text is made. It asks that the disk has neither failed nor stopped.
@@ -336,7 +332,7 @@ impl<D: Disk> Heap<D> {
         ensures error { (c : Core) → IsCore c self.now → IsReached c → IfErr result (λ e. e ≡ GraphError.NoMemory) }
     {
         let words = self.engine.committed_words(alloc)?;
-        count(alloc, &words, self.engine.root_address())
+        count(alloc, words, self.engine.root_address())
     }
 
     /// Gives the disk back.

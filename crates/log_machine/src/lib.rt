@@ -5,15 +5,13 @@ mod abort;
 mod copy_index;
 mod effects;
 mod log_state;
-mod page_words;
 mod replaying;
 mod runs;
 mod undo_lists;
 
 pub use abort::abort_records;
 pub use effects::{effect, forwarding_word};
-pub use log_state::{AfterError, FIRST_LSN, LAST_NUMBER, LogState};
-pub use page_words::{PageWords, ROOT_WORDS};
+pub use log_state::{AfterError, FIRST_LSN, LAST_NUMBER, LogState, ROOT_WORDS};
 pub use replaying::{ReplayError, replay};
 pub use runs::{Run, Runs};
 pub use undo_lists::end_bytes;

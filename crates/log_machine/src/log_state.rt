@@ -12,16 +12,18 @@ ghost use Rattle.log_machine.specs.UndoEntry.{LiesInside};
 mod collecting;
 
 use crate::UndoEntry;
-use crate::page_words::ROOT_WORDS;
 use crate::undo_lists::UndoLists;
 use heap_spaces::{Collection, Spaces};
-use heap_words::{FIELDS_AT, PAGE_WORDS, is_stable, is_volatile};
+use heap_words::{FIELDS_AT, PAGE_WORDS, ROOT_FIELDS, is_stable, is_volatile};
 use log_records::Record;
 use std::alloc::{AllocError, Global};
 use std::marker::Model;
 
 /// The LSN of a heap's first record.
 pub const FIRST_LSN: u64 = 1;
+
+/// The words of the root object: its header, its birth and its fields.
+pub const ROOT_WORDS: u32 = FIELDS_AT + ROOT_FIELDS;
 
 /// The greatest number of a transaction.
 pub const LAST_NUMBER: u32 = 4_294_967_294;

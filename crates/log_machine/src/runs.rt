@@ -3,7 +3,7 @@ ghost use Rattle.std.specs.Prelude.{[], ◌≡◌, ◌∷◌, ◌<◌, ◌*◌, 
 ghost use Rattle.log_machine.specs.Runs.{runs, copy_runs, copies_runs, write_runs};
 
 use crate::effects::forwarding_word;
-use crate::page_words::field_address;
+use heap_words::FIELDS_AT;
 use log_records::{ObjectCopy, Record};
 use std::marker::Model;
 
@@ -171,4 +171,11 @@ fn run_of_write(writes: &[(u32, u64)], i: usize) -> Option<Run<'_>>
 {
     let (address, word) = writes.get(i)?;
     Some(Run::of_word(*address as usize, *word))
+}
+
+// The address of a field of the object at a word address.
+fn field_address(object: u32, field: u16) -> usize
+    ensures { result ≡ field_at object field }
+{
+    object as usize + FIELDS_AT as usize + field as usize
 }

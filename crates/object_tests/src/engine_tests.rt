@@ -9,6 +9,7 @@ use graph_model::{Event, Refusal, Reply};
 use heap_engine::{Engine, StepError};
 use heap_spaces::Spaces;
 use image_plan::Plan;
+use object_layout::Words;
 use page_cache::PageCache;
 use std::alloc::{AllocError, Global};
 use std::fmt::Debug;
@@ -380,9 +381,12 @@ fn play(rt: &impl Abort, heap: &mut Opened, steps: &[Step]) -> Result<(), AllocE
 }
 
 /// A committed word.
-fn committed(alloc: Global, heap: &Opened, at: usize) -> Result<Option<u64>, AllocError> {
-    let words = heap.engine.committed_words(alloc)?;
-    Ok(words.as_slice().get(at).copied())
+fn committed(alloc: Global, heap: &Opened, at: u32) -> Result<Option<u64>, AllocError> {
+    let mut words = heap.engine.committed_words(alloc)?;
+    if words.size() <= at {
+        return Ok(None);
+    }
+    Ok(words.word(at).ok())
 }
 
 #[test]

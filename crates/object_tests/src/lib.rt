@@ -2,6 +2,8 @@
 #![tactic(auto)]
 
 #[cfg(test)]
+mod committed_words_tests;
+#[cfg(test)]
 mod engine_tests;
 #[cfg(test)]
 mod graph_print_tests;

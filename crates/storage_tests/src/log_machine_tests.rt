@@ -3,7 +3,7 @@ ghost use Rattle.std.specs.Prelude.{IfOk};
 ghost use Rattle.log_machine.specs.Effect.{WritesBelow};
 
 use heap_words::birth;
-use log_machine::{LogState, PageWords, ReplayError, UndoEntry, effect, end_bytes, replay};
+use log_machine::{LogState, ReplayError, effect, end_bytes, replay};
 use log_records::{ObjectWords, Record};
 use std::alloc::{AllocError, Global};
 use std::fmt::Debug;
@@ -256,33 +256,6 @@ fn followed(alloc: Global) -> Result<Vec<Record>, AllocError> {
         }
     }
     Ok(records)
-}
-
-/// Takes back two writes of one field, the newer one last.
-fn take_back_twice(rt: &impl Abort, words: &mut PageWords) {
-    assert!(rt; words.len() > 5);
-    words.take_back(&[
-        UndoEntry {
-            object: 0,
-            field: 1,
-            was: 53,
-        },
-        UndoEntry {
-            object: 0,
-            field: 1,
-            was: 57,
-        },
-    ]);
-}
-
-#[test]
-fn from_a_copy(rt: HostRuntime) -> Result<(), Fail> {
-    let words = [17, 0, 29, 61, 41, 49];
-    let mut copy = PageWords::copy_of(rt.alloc(), &words)?;
-    same(&rt, copy.as_slice(), words.as_slice());
-    take_back_twice(&rt, &mut copy);
-    same(&rt, copy.as_slice(), &[17, 0, 29, 53, 41, 49]);
-    Ok(())
 }
 
 /// An object of one field at address 60.
