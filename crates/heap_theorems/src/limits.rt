@@ -1,6 +1,6 @@
 //! What a core is limited to: the room of its log, and how long collections last, how many bytes they take, and what they copy.
 ghost use Rattle.limit_laws.specs.Bytes.{BytesTheorem};
-ghost use Rattle.limit_laws.specs.Copies.{NoGarbageTheorem, UndisturbedTheorem};
+ghost use Rattle.limit_laws.specs.Copies.{ExactTheorem, NoGarbageTheorem, UndisturbedTheorem};
 ghost use Rattle.limit_laws.specs.Progress.{EndTheorem, PagesTheorem};
 ghost use Rattle.limit_laws.specs.Room.{EndsTheorem, FitsTheorem, RollbackTheorem};
 
@@ -37,6 +37,11 @@ pub fn collections_take_few_bytes()
 /// A collection that begins where no transaction is active copies nothing but what is reached, whatever sessions do meanwhile.
 pub fn collections_copy_no_garbage()
     ensures { NoGarbageTheorem }
+{}
+
+/// It copies just what is reached at its flip.
+pub fn collections_copy_just_what_is_reached()
+    ensures { ExactTheorem }
 {}
 
 /// One that no session disturbs copies all that is reached.

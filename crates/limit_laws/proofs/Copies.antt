@@ -1,5 +1,8 @@
+pub mod Closed
+pub mod Counted
 pub mod Disturbed
 pub mod Edges
+pub mod Exact
 pub mod Flips
 pub mod Followed
 pub mod Idle
@@ -8,6 +11,7 @@ pub mod Moves
 pub mod Quiet
 pub mod Reached
 pub mod Refers
+pub mod Running
 pub mod Scans
 pub mod Seals
 pub mod Steps

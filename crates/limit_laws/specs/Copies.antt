@@ -1,6 +1,6 @@
 -- What a collection copies.
-use Rattle.std.specs.Prelude.{◌≡◌, ◌↔◌, ℕ, ◌+◌, true, List, length, sum_by, is_some, None}
-use Rattle.std.specs.List.{AllByRecursion}
+use Rattle.std.specs.Prelude.{◌≡◌, ◌↔◌, ℕ, ◌+◌, ◌==◌, Bool, true, List, length, drop, filter, sum_by, is_some, None}
+use Rattle.std.specs.List.{AllByRecursion, list_any}
 use Rattle.graph_model.specs.declared.event.Event.{Event}
 use Rattle.graph_model.specs.declared.event.Event.TheVariants.{Force, Flip, Scan, Flush}
 use Rattle.graph_model.specs.declared.id.Id.{Id}
@@ -8,7 +8,7 @@ use Rattle.graph_model.specs.declared.reply.Reply.TheVariants as reply
 use Rattle.graph_model.specs.Canon.{Reached}
 use Rattle.graph_model.specs.Graph.{Graph, fields}
 use Rattle.graph_model.specs.History.{account, IsOfSession}
-use Rattle.graph_model.specs.Transaction.{serial}
+use Rattle.graph_model.specs.Transaction.{Transaction, serial}
 use Rattle.graph_words.specs.Places.{Places, address_of}
 use Rattle.collection_words.specs.Placing.{moved_by_all}
 use Rattle.heap_model.specs.Core.{Core, IsRun, after, answer, placing}
@@ -61,3 +61,28 @@ NoGarbageTheorem =
     (c d : Core) (events : List Event) (objects words : ℕ) → IsReached c → IsIdle c → answer c Flip ≡ reply.Flipped objects words
     → AllByRecursion IsOfSession events → IsRun (after c Flip) events d → BeganNone (after c Flip) d
     → (id : Id) → is_some (address_of (copied_since c d) id) ≡ true → Reached (sealed_graph c) id
+
+-- the transactions that were sealed since
+abbrev pub sealed_since : Core → Core → List Transaction
+sealed_since c d = drop (length (account c.history).sealed) (account d.history).sealed
+
+-- one of these made an object
+abbrev pub is_made_by : List Transaction → Id → Bool
+is_made_by ts id = list_any (λ (t : Transaction). t.number == id.t) ts
+
+-- the current objects that these made, each where it stands: those that became stable since
+abbrev pub promoted_since : Core → Core → Places
+promoted_since c d = filter (λ p. is_made_by (sealed_since c d) p.0) d.places
+
+-- What was copied from c to d is just what is reached from the root in the graph of c. So many words are what these objects take, and those that
+-- became stable meanwhile.
+pub record CopiesJust (c d : Core) (used : ℕ) : Type 0 where
+  pub exactly : (id : Id) → (is_some (address_of (copied_since c d) id) ≡ true) ↔ Reached (sealed_graph c) id
+  pub words : used ≡ words_of (sealed_graph c) (copied_since c d) + words_of (sealed_graph d) (promoted_since c d)
+
+-- A collection copies just what is reached at its flip, whatever sessions do while it is under way: they may cut references to it, and take that
+-- back or seal it. It begins in c, where no transaction is active, and ends with a scan of d.
+abbrev pub ExactTheorem : Type 0
+ExactTheorem =
+    (c d : Core) (events : List Event) (objects words used : ℕ) → IsReached c → IsIdle c → answer c Flip ≡ reply.Flipped objects words
+    → AllByRecursion IsOfSession events → IsRun (after c Flip) events d → BeganNone (after c Flip) d → answer d Scan ≡ reply.Collected used → CopiesJust c d used

@@ -1,6 +1,6 @@
 //! How long a collection lasts, how many bytes of the log it takes, and what it copies.
 ghost use Rattle.limit_laws.specs.Bytes.{BytesTheorem};
-ghost use Rattle.limit_laws.specs.Copies.{NoGarbageTheorem, UndisturbedTheorem};
+ghost use Rattle.limit_laws.specs.Copies.{ExactTheorem, NoGarbageTheorem, UndisturbedTheorem};
 ghost use Rattle.limit_laws.specs.Progress.{EndTheorem, PagesTheorem};
 
 /// The pages that scans are answered with ascend while one collection is under way, whatever sessions do meanwhile, and there are no more of them
@@ -29,4 +29,10 @@ pub fn undisturbed_collections_copy_what_is_reached()
 /// while it is under way.
 pub fn collections_copy_no_garbage()
     ensures { NoGarbageTheorem }
+{}
+
+/// A collection that begins where no transaction is active copies just what is reached from the root at its flip, whatever sessions do while it is
+/// under way, and is answered as many used words as that takes and what became stable meanwhile.
+pub fn collections_copy_just_what_is_reached()
+    ensures { ExactTheorem }
 {}

@@ -127,7 +127,7 @@ own_apart (p ∷ ps) qs id at own there = elim (address_of-cases p ps id at ther
 pub some_none : {o : Option ℕ} → o ≡ None → is_some o ≡ true → ⊥
 some_none none some = cc (none, some)
 
-some_later : (b : Bool) (x : ℕ) (o : Option ℕ) → is_some o ≡ true → is_some (if b then Some x else o) ≡ true
+pub some_later : (b : Bool) (x : ℕ) (o : Option ℕ) → is_some o ≡ true → is_some (if b then Some x else o) ≡ true
 some_later true x o is = refl
 some_later false x o is = is
 

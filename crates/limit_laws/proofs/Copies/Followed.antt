@@ -33,11 +33,11 @@ moved_own p (Commit t ∷ rs) all = moved_own p rs all.1
 moved_own p (End t ∷ rs) all = moved_own p rs all.1
 
 -- Records other than flips add the same objects to whichever are current, by what remains.
-record IsApart (P R : Places) (rs : List Record) : Type 0 where
-  places : (moved_by_all (placing_of P R) rs).places ≡ P ++ (moved_by_all (placing_of [] R) rs).places
-  remaining : (moved_by_all (placing_of P R) rs).remaining ≡ (moved_by_all (placing_of [] R) rs).remaining
+pub record IsApart (P R : Places) (rs : List Record) : Type 0 where
+  pub places : (moved_by_all (placing_of P R) rs).places ≡ P ++ (moved_by_all (placing_of [] R) rs).places
+  pub remaining : (moved_by_all (placing_of P R) rs).remaining ≡ (moved_by_all (placing_of [] R) rs).remaining
 
-parted : (P R : Places) (rs : List Record) → AllByRecursion IsNoFlip rs → IsApart P R rs
+pub parted : (P R : Places) (rs : List Record) → AllByRecursion IsNoFlip rs → IsApart P R rs
 parted P R [] all = record { places = sym (append-nil P); remaining = refl }
 parted P R (Copy from to words ∷ rs) all =
     let new = put_at R from to in
@@ -59,7 +59,7 @@ parted P R (End t ∷ rs) all = let rest = parted P R rs all.1 in record { place
 parted P R (Scan page writes ∷ rs) all = let rest = parted P R rs all.1 in record { places = rest.places; remaining = rest.remaining }
 
 -- what they add remained
-new_left : (p : Placing) (rs : List Record) → AllByRecursion IsNoFlip rs → (id : Id) (at : ℕ) → address_of (moved_by_all p rs).places id ≡ Some at → (address_of p.places id ≡ Some at) ⊎ (is_some (address_of p.remaining id) ≡ true)
+pub new_left : (p : Placing) (rs : List Record) → AllByRecursion IsNoFlip rs → (id : Id) (at : ℕ) → address_of (moved_by_all p rs).places id ≡ Some at → (address_of p.places id ≡ Some at) ⊎ (is_some (address_of p.remaining id) ≡ true)
 new_left p [] all id at is = inl is
 new_left p (Copy from to words ∷ rs) all id at is = elim (new_left (moved_by p (Copy from to words)) rs all.1 id at is) [
   | inl before ↦ elim (address_cases p.places (put_at p.remaining from to) id at before) [

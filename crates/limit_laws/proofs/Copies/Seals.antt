@@ -1,11 +1,12 @@
--- A seal leaves a core tidy.
-use Rattle.std.proofs.Common.{◌≡◌, ◌≢◌, ◌⊎◌, inl, inr, ℕ, true, List, ◌++◌, Option, None, Some, is_some, refl, sym, ap, ◌∙◌, subst}
-use Rattle.std.specs.Prelude.{Contains, slice_get}
+-- A seal leaves a core tidy, and makes stable what its transaction made.
+use Rattle.std.proofs.Common.{◌≡◌, ◌≢◌, ◌⊎◌, inl, inr, ℕ, true, false, List, [], ◌∷◌, ◌++◌, Option, None, Some, is_some, refl, sym, ap, ◌∙◌, subst}
+use Rattle.std.specs.Prelude.{◌||◌, Contains}
+use Rattle.std.specs.List.{AllByRecursion}
 use Rattle.std.specs.FinSet.{contains}
 use Rattle.std.specs.Option.{option_to_list}
+use Rattle.std.proofs.lemmas.Bool.{eq-eqb, ne_eqb}
 use Rattle.std.proofs.lemmas.Option.{same_Some}
 use Rattle.graph_model.specs.declared.id.Id.{Id}
-use Rattle.graph_model.specs.declared.val.Val.{Val}
 use Rattle.graph_model.specs.Graph.{Graph, fields}
 use Rattle.graph_model.specs.History.{Account, account, account_after}
 use Rattle.graph_model.specs.declared.event.Event.TheVariants.{Seal}
@@ -23,22 +24,28 @@ use Rattle.log_machine.specs.Machine.{State, after_all, losing}
 use Rattle.log_machine.proofs.MachineLaws.{after_all-append2}
 use Rattle.graph_words.specs.Places.{Places, address_of, made_by}
 use Rattle.graph_words.proofs.Places.Addresses.{address_of-one, some_address}
-use Rattle.graph_words.proofs.Seal.Places.{address_of-append_left}
+use Rattle.graph_words.proofs.Seal.Places.{address_of-append_left, address_of-append_right}
+use Rattle.collection_words.specs.Completed.{future}
+use Rattle.collection_words.specs.Placed.{HaveOwnNames}
 use Rattle.collection_words.proofs.Copy.Named.{named, own_front}
 use Rattle.collection_words.proofs.Copy.Stands.{completed_own}
+use Rattle.collection_words.proofs.Laid.Names.{own_names}
 use Rattle.collection_words.proofs.Laid.Sources.{here_ends}
 use Rattle.collection_words.proofs.Laid.Underway.{underway}
 use Rattle.seen_laws.proofs.States.{sealed_stands, writes_of_all}
-use Rattle.heap_model.specs.Core.{Core, all_records, all_words, call_records, done, event_places, event_records, ground, log_start, sealed_places}
+use Rattle.heap_model.specs.Core.{Core, all_records, all_words, call_records, done, event_places, event_records, ground, log_start, placing, sealed_places}
 use Rattle.core_laws.proofs.Collecting.Entries.{all_at}
-use Rattle.core_laws.proofs.Step.Goes.{writing_of}
+use Rattle.core_laws.proofs.Step.Goes.{words_with, writing_of}
 use Rattle.core_laws.proofs.Seal.Cases as cases
 use Rattle.core_laws.proofs.Seal.Told as seal
 use Rattle.core_laws.proofs.Sessions.Actives.{each_session}
 use Rattle.core_laws.specs.Valid.{Agrees, IsValid}
-use Rattle.limit_laws.proofs.Copies.Disturbed.{some_none}
+use Rattle.limit_laws.specs.Copies.{is_made_by}
+use Rattle.limit_laws.proofs.Copies.Counted.{Seals, all_named}
+use Rattle.limit_laws.proofs.Copies.Disturbed.{own_apart, some_none}
+use Rattle.limit_laws.proofs.Copies.Running.{IsPlaced}
 use Rattle.limit_laws.proofs.Copies.Steps.{true_false}
-use Rattle.limit_laws.proofs.Copies.Tidy.{KeepsTidy}
+use Rattle.limit_laws.proofs.Copies.Tidy.{KeepsTidy, StaysTidy}
 
 -- What a seal leaves of a core: the same collection, the current objects and those that it made stable.
 pub record IsSealedTo (g : Graph) (a b : Account) (e f : Core) (s n : State) (session : ℕ) (t : Transaction) : Type 0 where
@@ -49,42 +56,50 @@ pub record IsSealedTo (g : Graph) (a b : Account) (e f : Core) (s n : State) (se
   pub remaining : f.remaining ≡ e.remaining
   pub others : (r : ℕ) (u : Transaction) → b.active r ≡ Some u → (session ≢ r) × (a.active r ≡ Some u)
 
+-- an object that has a place where none of the transaction has one is another's
+not_made : (t : Transaction) (ps : Places) (z : Id) (at : ℕ) → ((k : ℕ) → address_of ps (made_by t.number k) ≡ None) → address_of ps z ≡ Some at → z.t ≢ t.number
+not_made t ps z at apart there same = let clash = sym (apart z.k) ∙ ap (λ (m : ℕ). address_of ps (made_by m z.k)) (sym same) ∙ there in cc clash
+
 module _ (g : Graph) (a b : Account) (e f : Core) (h : Agrees a e) (n : State) (session : ℕ) (t : Transaction) (active : a.active session ≡ Some t) {numbers : List ℕ} {heard : Heard} (o : IsOrdered e.g0 numbers a heard)
     (to : IsSealedTo g a b e f h.behind n session t) (tidy : KeepsTidy g a e h.behind) where
   abbrev before : Graph
   before = serial e.g0 a.sealed
 
-  -- an object that it did not make has the fields that it had, if it was not locked
-  not_made : (ps : Places) (z : Id) (at : ℕ) → ((k : ℕ) → address_of ps (made_by t.number k) ≡ None) → address_of ps z ≡ Some at → z.t ≢ t.number
-  not_made ps z at apart there same = let clash = sym (apart z.k) ∙ ap (λ (m : ℕ). address_of ps (made_by m z.k)) (sym same) ∙ there in cc clash
-
-  pub tidy_sealed : KeepsTidy g b f n
-  tidy_sealed =
+  -- it did not make an object that is gray or remains, nor lock it, so that has the fields that it had
+  gray_fields : (k : Collection) → h.behind.collection ≡ Some k → (z : Id) (at : ℕ) → address_of e.places z ≡ Some at → contains k.gray at ≡ true → fields (serial f.g0 b.sealed) z ≡ fields g z
+  gray_fields k run z at there gray =
       let w = writing_of a e session t active h in
-      record {
-        leads = λ k run z y at i there gray refers left.
-            let was = sym to.collection ∙ run in
-            let old = to.gray k was z at there gray in
-            let free = λ (lock : Contains (locks_of before t) (z, Exclusive)). true_false gray (tidy.black k was session t z at active lock old) in
-            let same = fields-run before t z (not_made e.places z at w.made.apart old) free in
-            tidy.leads k was z y at i old gray (ap (λ (vs : List Val). slice_get vs i) (sym (ap (λ (x : Graph). fields x z) to.graph ∙ same)) ∙ refers) (ap (λ (ps : Places). is_some (address_of ps y)) (sym to.remaining) ∙ left);
-        rest = λ z y i left reached refers.
-            let here = ap (λ (ps : Places). is_some (address_of ps z)) (sym to.remaining) ∙ left in
-            let at = some_address (address_of e.remaining z) here in
-            let free = λ (lock : Contains (locks_of before t) (z, Exclusive)). some_none (all_at (λ (l : Lock). address_of e.remaining l.0 ≡ None) (locks_of before t) (z, Exclusive) w.unlocked lock) here in
-            let same = fields-run before t z (not_made e.remaining z at.0 w.apart at.1) free in
-            tidy.rest z y i here reached (ap (λ (vs : List Val). slice_get vs i) (sym (ap (λ (x : Graph). fields x z) to.graph ∙ same)) ∙ refers);
-        black = λ k run r u z at now lock there.
-            let was = sym to.collection ∙ run in
-            let also = to.others r u now in
-            let beside = o.beside session r t u also.0 active also.1 in
-            let alike = runs_alike before t u o.closed (λ same. beside.differ (sym same)) (o.unused session t active) beside.apart in
-            let held = subst (λ (ls : List Lock). Contains ls (z, Exclusive)) (sym alike.locks) (subst (λ (x : Graph). Contains (locks_of x u) (z, Exclusive)) to.graph lock) in
-            elim (to.places z at there) [
-              | inl old ↦ tidy.black k was r u z at also.1 held old
-              | inr made ↦ absurd (locks_of-other before u t.number z Exclusive o.closed (λ same. beside.differ (sym same)) (o.unused session t active) held made)
-            ];
-      }
+      let free = λ (lock : Contains (locks_of before t) (z, Exclusive)). true_false gray (tidy.black k run session t z at active lock there) in
+      ap (λ (x : Graph). fields x z) to.graph ∙ fields-run before t z (not_made t e.places z at w.made.apart there) free ∙ tidy.kept.gray k run z at there gray
+
+  rest_fields : (z : Id) → is_some (address_of e.remaining z) ≡ true → fields (serial f.g0 b.sealed) z ≡ fields g z
+  rest_fields z left =
+      let w = writing_of a e session t active h in
+      let at = some_address (address_of e.remaining z) left in
+      let free = λ (lock : Contains (locks_of before t) (z, Exclusive)). some_none (all_at (λ (l : Lock). address_of e.remaining l.0 ≡ None) (locks_of before t) (z, Exclusive) w.unlocked lock) left in
+      ap (λ (x : Graph). fields x z) to.graph ∙ fields-run before t z (not_made t e.remaining z at.0 w.apart at.1) free ∙ tidy.kept.rest z left
+
+  pub tidy_sealed : StaysTidy g b e f h.behind n
+  tidy_sealed = record {
+    kept = record { gray = gray_fields; rest = rest_fields };
+    tidy = record {
+      kept = record {
+        gray = λ k run z at there gray. let was = sym to.collection ∙ run in gray_fields k was z at (to.gray k was z at there gray) gray;
+        rest = λ z left. rest_fields z (ap (λ (ps : Places). is_some (address_of ps z)) (sym to.remaining) ∙ left);
+      };
+      gray = λ k run z at there gray. let was = sym to.collection ∙ run in tidy.gray k was z at (to.gray k was z at there gray) gray;
+      black = λ k run r u z at now lock there.
+          let was = sym to.collection ∙ run in
+          let also = to.others r u now in
+          let beside = o.beside session r t u also.0 active also.1 in
+          let alike = runs_alike before t u o.closed (λ same. beside.differ (sym same)) (o.unused session t active) beside.apart in
+          let held = subst (λ (ls : List Lock). Contains ls (z, Exclusive)) (sym alike.locks) (subst (λ (x : Graph). Contains (locks_of x u) (z, Exclusive)) to.graph lock) in
+          elim (to.places z at there) [
+            | inl old ↦ tidy.black k was r u z at also.1 held old
+            | inr made ↦ absurd (locks_of-other before u t.number z Exclusive o.closed (λ same. beside.differ (sym same)) (o.unused session t active) held made)
+          ];
+    };
+  }
 
 -- The seal of a core.
 
@@ -128,4 +143,44 @@ module _ (g : Graph) (e : Core) (valid : IsValid e) (n : State) (s m : ℕ) (t :
     others = λ r u now.
         let P : ℕ → Option Transaction → Type 0 = λ q x. x ≡ Some u → (s ≢ q) × (a.active q ≡ Some u) in
         each_session P a.active s None (λ never. absurd (cc never)) (λ q other is. ((λ same. other (sym same)), is)) r now;
+  }
+
+  -- What becomes stable.
+
+  mine : (id : Id) → id.t ≡ t.number → is_made_by (t ∷ []) id ≡ true
+  mine id same = ap (λ b. b || false) (eq-eqb t.number id.t (sym same))
+
+  not_mine : (id : Id) → id.t ≢ t.number → is_made_by (t ∷ []) id ≡ false
+  not_mine id other = ap (λ b. b || false) (ne_eqb t.number id.t (λ same. other (sym same)))
+
+  -- the transaction made it
+  placed_mine : (id : Id) → is_some (address_of (seal.placed a e valid o s t active) id) ≡ true → is_made_by (t ∷ []) id ≡ true
+  placed_mine id is =
+      let placed = seal.placed a e valid o s t active in
+      let told = cases.sealed_told a e valid o s t active space in
+      let last = seal.last a e valid o s t active in
+      let ends = future last (words_with e (seal.records a e valid o s t active)) e.remaining in
+      let P = (e.places ++ placed) ++ ends in
+      let own = own_front (e.places ++ placed) ends (own_names P _ last.base P _ told.stands.ends told.stands.names) in
+      let at = some_address (address_of placed id) is in
+      by (address_of e.places id) refl own at.0 at.1
+    where
+      by : (x : Option ℕ) → address_of e.places id ≡ x → HaveOwnNames (e.places ++ seal.placed a e valid o s t active) → (at : ℕ) → address_of (seal.placed a e valid o s t active) id ≡ Some at → is_made_by (t ∷ []) id ≡ true
+      by (Some x) here own at there = absurd (some_none (own_apart e.places (seal.placed a e valid o s t active) id x own here) is)
+      by None none own at there = elim (cases.old_or_new a e valid o s t active space id at (address_of-append_right e.places (seal.placed a e valid o s t active) id none ∙ there)) [
+        | inl old ↦ let clash = sym none ∙ old in absurd (cc clash)
+        | inr made ↦ mine id made
+      ]
+
+  -- and nothing that was current or remained
+  others_not : (id : Id) → IsPlaced (placing e) id → is_made_by (t ∷ []) id ≡ false
+  others_not id (inl here) = let at = some_address (address_of e.places id) here in not_mine id (not_made t e.places id at.0 (writing_of a e s t active valid).made.apart at.1)
+  others_not id (inr left) = let at = some_address (address_of e.remaining id) left in not_mine id (not_made t e.remaining id at.0 (writing_of a e s t active valid).apart at.1)
+
+  pub seal_seals : Seals e a.sealed (account_after a (record { event = Seal s; reply = Sealed m })).sealed (event_places e (Seal s))
+  seal_seals = record {
+    ts = t ∷ [];
+    seals = ap (λ (x : Option Transaction). a.sealed ++ option_to_list x) active;
+    made = subst (AllByRecursion (λ (p : Id × ℕ). is_made_by (t ∷ []) p.0 ≡ true)) (sym places_are) (all_named (λ id. is_made_by (t ∷ []) id ≡ true) (seal.placed a e valid o s t active) placed_mine);
+    others = others_not;
   }

@@ -1,6 +1,6 @@
 -- An event but a seal leaves a core tidy.
 use Rattle.std.proofs.Common.{◌≡◌, ◌⊎◌, inl, inr, ℕ, Bool, true, false, List, [], ◌∷◌, Option, None, Some, is_some, refl, sym, ap, ◌∙◌, subst, arith}
-use Rattle.std.specs.Prelude.{Contains, slice_get, unwrap_or, if◌then◌else◌, not, ◌==◌}
+use Rattle.std.specs.Prelude.{Contains, unwrap_or, if◌then◌else◌, not, ◌==◌}
 use Rattle.std.specs.List.{AllByRecursion}
 use Rattle.std.specs.FinSet.{contains}
 use Rattle.graph_model.specs.declared.event.Event.{Event}
@@ -26,7 +26,7 @@ use Rattle.core_laws.proofs.Collecting.Entries.{all_at}
 use Rattle.core_laws.proofs.Step.Goes.{writing_of}
 use Rattle.core_laws.specs.Valid.{Agrees}
 use Rattle.limit_laws.proofs.Copies.Disturbed.{kept_some, some_none}
-use Rattle.limit_laws.proofs.Copies.Tidy.{KeepsTidy, page_new}
+use Rattle.limit_laws.proofs.Copies.Tidy.{KeepsTidy, StaysTidy, page_new}
 use Rattle.limit_laws.proofs.Events.Kinds.{IsNoFlip}
 use Rattle.limit_laws.proofs.Progress.Black.{black_after_all}
 
@@ -75,25 +75,37 @@ module _ (g : Graph) (a b : Account) (e f : Core) (h : Agrees a e) (n : State) (
           each true on = (j, is, on)
           each false off = absurd (true_false gray (stays_black z at there (λ i has. ap (λ (x : Option Collection). contains (unwrap_or x j).gray at) (sym has ∙ is) ∙ off) k run))
 
-  pub tidy_next : KeepsTidy g b f n
+  same_fields : (z : Id) → fields (serial f.g0 b.sealed) z ≡ fields (serial e.g0 a.sealed) z
+  same_fields z = ap (λ (x : Graph). fields x z) next.graph
+
+  pub tidy_next : StaysTidy g b e f h.behind n
   tidy_next = record {
-    leads = λ k run z y at i there gray refers left.
-        let edge = ap (λ (x : Graph). slice_get (fields x z) i) (sym next.graph) ∙ refers in
-        elim (next.places z at there) [
-          | inl old ↦ let was = was_gray z at old k run gray in tidy.leads was.0 was.1 z y at i old was.2 edge (next.fewer y left)
-          | inr new ↦ tidy.rest z y i new.1 new.0 edge
-        ];
-    rest = λ z y i left reached refers. tidy.rest z y i (next.fewer z left) reached (ap (λ (x : Graph). slice_get (fields x z) i) (sym next.graph) ∙ refers);
-    black = λ k run r t z at active lock there.
-        elim (next.locks r t z at active (subst (λ (x : Graph). Contains (locks_of x t) (z, Exclusive)) next.graph lock) there) [
-          | inl black ↦ black k run
-          | inr held ↦ elim (next.places z at there) [
-            | inl old ↦ stays_black z at old (λ j is. tidy.black j is held.session held.transaction z at held.active held.lock old) k run
-            | inr new ↦
-                let w = writing_of a e held.session held.transaction held.active h in
-                absurd (some_none (all_at (λ (lock : Lock). address_of e.remaining lock.0 ≡ None) (locks_of (serial e.g0 a.sealed) held.transaction) (z, Exclusive) w.unlocked held.lock) new.1)
-          ]
-        ];
+    kept = record { gray = λ k run z at there gray. same_fields z ∙ tidy.kept.gray k run z at there gray; rest = λ z left. same_fields z ∙ tidy.kept.rest z left };
+    tidy = record {
+      kept = record {
+        gray = λ k run z at there gray.
+            same_fields z ∙ elim (next.places z at there) [
+              | inl old ↦ let was = was_gray z at old k run gray in tidy.kept.gray was.0 was.1 z at old was.2
+              | inr new ↦ tidy.kept.rest z new.1
+            ];
+        rest = λ z left. same_fields z ∙ tidy.kept.rest z (next.fewer z left);
+      };
+      gray = λ k run z at there gray.
+          elim (next.places z at there) [
+            | inl old ↦ let was = was_gray z at old k run gray in tidy.gray was.0 was.1 z at old was.2
+            | inr new ↦ new.0
+          ];
+      black = λ k run r t z at active lock there.
+          elim (next.locks r t z at active (subst (λ (x : Graph). Contains (locks_of x t) (z, Exclusive)) next.graph lock) there) [
+            | inl black ↦ black k run
+            | inr held ↦ elim (next.places z at there) [
+              | inl old ↦ stays_black z at old (λ j is. tidy.black j is held.session held.transaction z at held.active held.lock old) k run
+              | inr new ↦
+                  let w = writing_of a e held.session held.transaction held.active h in
+                  absurd (some_none (all_at (λ (lock : Lock). address_of e.remaining lock.0 ≡ None) (locks_of (serial e.g0 a.sealed) held.transaction) (z, Exclusive) w.unlocked held.lock) new.1)
+            ]
+          ];
+    };
   }
 
 -- Places behind a scan.

@@ -1,11 +1,11 @@
 -- What holds of a core while a collection is under way that began where no transaction was active.
-use Rattle.std.proofs.Common.{◌≡◌, ◌⊎◌, ℕ, true, false, List, [], ◌∷◌, Option, Some, is_some, ap, ◌∙◌, subst}
+use Rattle.std.proofs.Common.{◌≡◌, ◌⊎◌, ℕ, true, false, List, [], ◌∷◌, Option, Some, is_some, sym, ap, ◌∙◌, subst}
 use Rattle.std.specs.Prelude.{Contains, slice_get, unwrap_or}
 use Rattle.std.specs.List.{AllByRecursion}
 use Rattle.std.specs.FinSet.{contains}
 use Rattle.graph_model.specs.declared.id.Id.{Id}
-use Rattle.graph_model.specs.declared.val.Val.TheVariants.{Ref}
-use Rattle.graph_model.specs.Canon.{Reached}
+use Rattle.graph_model.specs.declared.val.Val.{Val}
+use Rattle.graph_model.specs.Canon.{Reached, along}
 use Rattle.graph_model.specs.Graph.{Graph, fields}
 use Rattle.graph_model.specs.History.{Account}
 use Rattle.graph_model.specs.Locking.{Exclusive, locks_of}
@@ -25,14 +25,23 @@ use Rattle.core_laws.proofs.Step.Goes.{writing_of}
 use Rattle.core_laws.specs.Valid.{Agrees, IsLocked}
 use Rattle.limit_laws.proofs.Copies.Disturbed.{scan_new}
 
--- By what an account says: gray objects refer to nothing that remains but what is reached, reached ones that remain refer to reached ones, and no
--- object that an active transaction has locked exclusively is gray.
+-- What is gray in a core, or remains, has the same fields in two graphs.
+pub record HasFields (g sealed : Graph) (e : Core) (s : State) : Type 0 where
+  pub gray : (k : Collection) → s.collection ≡ Some k → (z : Id) (at : ℕ) → address_of e.places z ≡ Some at → contains k.gray at ≡ true → fields sealed z ≡ fields g z
+  pub rest : (z : Id) → is_some (address_of e.remaining z) ≡ true → fields sealed z ≡ fields g z
+
+-- By what an account says: gray objects and those that remain have the fields that they had at the flip, gray ones are reached, and no object that
+-- an active transaction has locked exclusively is gray.
 pub record KeepsTidy (g : Graph) (a : Account) (e : Core) (s : State) : Type 0 where
-  pub leads : (k : Collection) → s.collection ≡ Some k → (z y : Id) (at i : ℕ) → address_of e.places z ≡ Some at → contains k.gray at ≡ true → slice_get (fields (serial e.g0 a.sealed) z) i ≡ Some (Ref y)
-      → is_some (address_of e.remaining y) ≡ true → Reached g y
-  pub rest : (z y : Id) (i : ℕ) → is_some (address_of e.remaining z) ≡ true → Reached g z → slice_get (fields (serial e.g0 a.sealed) z) i ≡ Some (Ref y) → Reached g y
+  pub kept : HasFields g (serial e.g0 a.sealed) e s
+  pub gray : (k : Collection) → s.collection ≡ Some k → (z : Id) (at : ℕ) → address_of e.places z ≡ Some at → contains k.gray at ≡ true → Reached g z
   pub black : (k : Collection) → s.collection ≡ Some k → (r : ℕ) (t : Transaction) (z : Id) (at : ℕ) → a.active r ≡ Some t → Contains (locks_of (serial e.g0 a.sealed) t) (z, Exclusive) → address_of e.places z ≡ Some at
       → contains k.gray at ≡ false
+
+-- An event leaves a core tidy, and what was gray before it or remained with the fields of the flip.
+pub record StaysTidy (g : Graph) (b : Account) (e f : Core) (s n : State) : Type 0 where
+  pub kept : HasFields g (serial f.g0 b.sealed) e s
+  pub tidy : KeepsTidy g b f n
 
 -- Entries.
 
@@ -60,4 +69,8 @@ page_new g a e h k page records run tidy planned =
     scan_new h.behind k e.places e.remaining (all_words e) g (serial e.g0 a.sealed) (writes_of_all (losing h.behind)) page records
     (record { run = run; spaced = heap.spaced; long = heap.long; small = heap.small; laid = heap.laid })
     (backed_all h.behind e.places (all_words e) h.told.backed) (sealed_stands h.behind e.places e.remaining (all_words e) h.told.stands) planned
-    (record { leads = tidy.leads k run; rest = tidy.rest; unwritten = unwritten g a e h k run tidy })
+    (record {
+      leads = λ z y at i there gray refers left. along i y (tidy.gray k run z at there gray) (ap (λ (vs : List Val). slice_get vs i) (sym (tidy.kept.gray k run z at there gray)) ∙ refers);
+      rest = λ z y i left reached refers. along i y reached (ap (λ (vs : List Val). slice_get vs i) (sym (tidy.kept.rest z left)) ∙ refers);
+      unwritten = unwritten g a e h k run tidy;
+    })

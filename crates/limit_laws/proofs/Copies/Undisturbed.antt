@@ -59,12 +59,13 @@ pub record IsBehind (c : Core) (g : Graph) (e : Core) : Type 0 where
   pub reached : IsReached e
   pub idle : HasNoActive (account e.history)
   pub graph : sealed_graph e ≡ g
+  pub sealed : (account e.history).sealed ≡ (account c.history).sealed
   pub more : List Record
   pub all : all_records e ≡ all_records c ++ more
   pub placed : placing e ≡ moved_by_all (placing c) more
 
 at_first : (c : Core) → IsReached c → IsIdle c → IsBehind c (sealed_graph c) c
-at_first c reached idle = record { reached = reached; idle = idle; graph = refl; more = []; all = sym (append-nil (all_records c)); placed = refl }
+at_first c reached idle = record { reached = reached; idle = idle; graph = refl; sealed = refl; more = []; all = sym (append-nil (all_records c)); placed = refl }
 
 -- what a step does
 record StepsTo (e f : Core) (event : Event) (reply : Reply) : Type 0 where
@@ -111,6 +112,7 @@ behind_more c g e f event reply b of step =
       reached = there;
       idle = λ s. ap (λ (a : Account). a.active s) told ∙ ap (λ x. x s) to.still.active ∙ b.idle s;
       graph = ap (λ (a : Account). serial f.g0 a.sealed) told ∙ ap (serial f.g0) to.still.sealed ∙ ap (λ (x : Graph). serial x (account e.history).sealed) (same_step e f event reply step).g0 ∙ b.graph;
+      sealed = ap (λ (a : Account). a.sealed) told ∙ to.still.sealed ∙ b.sealed;
       more = b.more ++ to.more;
       all = to.all ∙ ap (λ (rs : List Record). rs ++ to.more) b.all ∙ append_assoc (all_records c) b.more to.more;
       placed = to.placed ∙ ap (λ (p : Placing). moved_by_all p to.more) b.placed ∙ sym (fold-append moved_by (placing c) b.more to.more);
@@ -163,11 +165,11 @@ flip_clean c objects words reached idle is =
 -- The end.
 
 -- A scan ends the collection: nothing is gray.
-record EndsWith (s : State) (used : ℕ) : Type 0 where
-  collection : Collection
-  runs : s.collection ≡ Some collection
-  black : next_page (Some collection) ≡ None
-  size : used ≡ s.used
+pub record EndsWith (s : State) (used : ℕ) : Type 0 where
+  pub collection : Collection
+  pub runs : s.collection ≡ Some collection
+  pub black : next_page (Some collection) ≡ None
+  pub size : used ≡ s.used
 
 ends_with : (s : State) (rs : List Record) (o : Option Collection) (page : Option ℕ) (used : ℕ) → s.collection ≡ o → next_page o ≡ page → scan_reply_in s rs o page ≡ reply.Collected used → EndsWith s used
 ends_with s rs None page used run next is = absurd (cc is)
@@ -181,7 +183,7 @@ not_refused : (o : Option Refusal) (r : Reply) (used : ℕ) → reply_of o r ≡
 not_refused None r used is = is
 not_refused (Some why) r used is = absurd (cc is)
 
-end_of_scan : (a : Account) (d : Core) (h : Agrees a d) (used : ℕ) → answer d Scan ≡ reply.Collected used → EndsWith h.behind used
+pub end_of_scan : (a : Account) (d : Core) (h : Agrees a d) (used : ℕ) → answer d Scan ≡ reply.Collected used → EndsWith h.behind used
 end_of_scan a d h used is =
     let answered = not_refused (core_refusal d Scan) (granted_by d Scan) used is in
     ends_with h.behind (own_records d Scan) h.behind.collection (next_page h.behind.collection) used refl refl (ap (λ (o : Option State). scan_reply o (own_records d Scan)) (sym h.told.reached) ∙ answered)

@@ -1,6 +1,6 @@
 -- What is not gray stays so: a record other than a flip makes gray only where no word was used.
 use Rattle.std.proofs.Common.{◌≡◌, ℕ, ◌+◌, ◌<◌, ◌≤◌, Bool, true, false, List, [], ◌∷◌, Option, None, Some, refl, sym, ap, ◌∙◌, subst, arith}
-use Rattle.std.specs.Prelude.{if◌then◌else◌, option_and_then}
+use Rattle.std.specs.Prelude.{option_and_then}
 use Rattle.std.specs.List.{AllByRecursion}
 use Rattle.std.specs.FinSet.{contains}
 use Rattle.std.proofs.lemmas.Option.{cond_some, option_and_then_some, same_Some}
@@ -14,7 +14,7 @@ use Rattle.log_machine.specs.Collecting.{collected_in, copy_after, scanned_in}
 use Rattle.log_machine.specs.Machine.{State, after, after_all, is_number_or_none, number_of, row_after, turned, undo_of, with_entries, without_newest}
 use Rattle.log_machine.proofs.CopyRows.{copy_told}
 use Rattle.limit_laws.proofs.Events.Kinds.{IsNoFlip}
-use Rattle.limit_laws.proofs.Progress.Rows.{retained}
+use Rattle.limit_laws.proofs.Progress.Rows.{passed, retained}
 
 -- an address of a used word is not gray
 pub record IsBlack (at : ℕ) (s : State) : Type 0 where
@@ -70,10 +70,6 @@ row_black at s n (Copy from to words) plain e is = copied_black at s n from to w
 row_black at s n (Scan page writes) plain e is = scanned_black at s n page writes s.collection refl e is
 row_black at s n (Flip copies) plain e is = absurd plain
 row_black at s n Collected plain e is = ended_black at s n s.collection e is
-
-passed : (b : Bool) (o : Option State) (n : State) → (if b then o else None) ≡ Some n → o ≡ Some n
-passed true o n e = e
-passed false o n e = cc e
 
 -- so it stays behind records
 pub black_after_all : (at : ℕ) (s n : State) (records : List Record) → AllByRecursion IsNoFlip records → after_all s records ≡ Some n → IsBlack at s → IsBlack at n

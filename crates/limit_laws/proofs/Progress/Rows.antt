@@ -100,7 +100,7 @@ row_from x s n (Scan page writes) plain e from = scanned_from x s n page writes 
 row_from x s n (Flip copies) plain e from = absurd plain
 row_from x s n Collected plain e from = ended_from x s n s.collection e from
 
-passed : (b : Bool) (o : Option State) (n : State) → (if b then o else None) ≡ Some n → o ≡ Some n
+pub passed : (b : Bool) (o : Option State) (n : State) → (if b then o else None) ≡ Some n → o ≡ Some n
 passed true o n e = e
 passed false o n e = cc e
 
