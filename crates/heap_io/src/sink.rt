@@ -33,6 +33,10 @@ pub trait Sink {
     {
         false
     }
+
+    /// Shows whoever watches how far a long piece of work is: so many of its parts are done. Nothing is written to the sink by it, and no clause speaks
+    /// of what is shown.
+    fn show_progress(&self, _done: u32, _all: u32) {}
 }
 
 /// A sink that takes all and keeps nothing.

@@ -97,7 +97,7 @@ fn load_whole<D: Disk, K: Sink>(
         Ok(heap) => heap,
         Err((e, disk)) => return (Status::from(e), disk),
     };
-    match play_load(alloc, &mut heap, seed, count, &mut Discard) {
+    match play_load(alloc, &mut heap, seed, count, &mut Discard, sink) {
         Ok(()) => {
             let status = status_after(write_summary(alloc, seed, count, &heap, sink));
             (status, heap.close())

@@ -21,13 +21,14 @@ use heap_io::Sink;
 use script_text::Load;
 use std::alloc::Global;
 
-/// Makes the events of the load of `count` rounds that is made from `seed`, and then those that end a run.
-pub fn play_load<D: Disk, K: Sink>(
+/// Makes the events of the load of `count` rounds that is made from `seed`, and then those that end a run. How far it is `watch` shows after each round.
+pub fn play_load<D: Disk, K: Sink, W: Sink>(
     alloc: Global,
     heap: &mut Heap<D>,
     seed: u32,
     count: u32,
     sink: &mut K,
+    watch: &W,
 ) -> Result<(), Halt>
     requires { seed < 2 ^ 31 }
     ensures disk { KeepsDisk D.Disk (heap_disk heap.old) (heap_disk heap.new) (played_device result) }
@@ -35,16 +36,18 @@ pub fn play_load<D: Disk, K: Sink>(
     ensures core { (c : Core) → IsCore c heap.old → IsRunning c → PlaysCore c (all_events None c (events (load_lines seed count))) heap.new K.tells (K.written sink.old) (K.written sink.new) result }
     ensures plays { IsTrue D.tells → (of : Super) (c : Core) → IsHeap of c heap.old → IsRunning c → Plays of c (all_events None c (events (load_lines seed count))) heap.old heap.new K.tells (K.written sink.old) (K.written sink.new) result }
 {
-    play_rounds(alloc, heap, Load::new(seed, count), sink)?;
+    play_rounds(alloc, heap, Load::new(seed, count), count, sink, watch)?;
     play_ending(alloc, heap, sink)
 }
 
 /// Makes the events of the rounds that are to come.
-fn play_rounds<D: Disk, K: Sink>(
+fn play_rounds<D: Disk, K: Sink, W: Sink>(
     alloc: Global,
     heap: &mut Heap<D>,
     mut load: Load,
+    count: u32,
     sink: &mut K,
+    watch: &W,
 ) -> Result<(), Halt>
     requires { AllByRecursion IsOfSession (events (lines_left load)) }
     ensures disk { KeepsDisk D.Disk (heap_disk heap.old) (heap_disk heap.new) (played_device result) }
@@ -52,8 +55,11 @@ fn play_rounds<D: Disk, K: Sink>(
     ensures core { (c : Core) → IsCore c heap.old → IsRunning c → PlaysCore c (events (lines_left load)) heap.new K.tells (K.written sink.old) (K.written sink.new) result }
     ensures plays { IsTrue D.tells → (of : Super) (c : Core) → IsHeap of c heap.old → IsRunning c → Plays of c (events (lines_left load)) heap.old heap.new K.tells (K.written sink.old) (K.written sink.new) result }
 {
+    let mut done = 0u32;
     'rounds: while let Some(round) = load.next_round(alloc)? {
         play_lines(alloc, heap, &round, sink)?;
+        done = done.saturating_add(1);
+        watch.show_progress(done, count);
     }
     Ok(())
 }

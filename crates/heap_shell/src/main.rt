@@ -1,9 +1,12 @@
 //! The stable heap as a program: `heap_program::run` on the words of the command line, the standard streams and the file of the heap.
 #![tactic(auto)]
 
+mod output;
+
 use disk_file::FileDisk;
-use heap_io::{StdSink, StdSource};
+use heap_io::StdSource;
 use heap_program::{Status, run};
+use output::Output;
 use std::alloc::AllocError;
 use std::env::{self, Env};
 use std::io;
@@ -28,7 +31,7 @@ fn status_of(rt: &HostRuntime) -> Result<Status, AllocError> {
     };
     let disk = FileDisk::new(rt, String::from_str(rt.alloc(), HEAP_FILE)?);
     let mut source = StdSource::new(rt.stdin());
-    let mut sink = StdSink::new(rt.stdout());
+    let mut sink = Output::new(rt);
     let (status, _disk) = run(rt.alloc(), &words, disk, &mut source, &mut sink);
     Ok(status)
 }
