@@ -1,7 +1,7 @@
 -- A heap, as the clauses of its calls see it.
 use Rattle.std.specs.Prelude.{ℕ, List, Option, Result, Ok, Err}
 use Rattle.std.specs.Option.{option_map}
-use Rattle.commit_order.specs.Recorded.{Recorded}
+use Rattle.heap_history.specs.Recorded.{Recorded}
 use Rattle.disk_model.specs.declared.disk.Disk.{Ghosts}
 use Rattle.graph_model.specs.declared.reply.Entry.{Entry}
 use Rattle.heap_core.specs.declared.heap.Failure.{Failure}

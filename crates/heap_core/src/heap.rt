@@ -32,11 +32,11 @@ ghost use Rattle.committed_words.specs.Committed.{words_of};
 ghost use Rattle.commit_order.specs.SerialOrder.{IsCommitOrdered};
 
 use crate::errors::{GraphError, OpenError};
-use commit_order::History;
 use committed_words::CommittedWords;
 use disk_model::{Disk, DiskError};
 use graph_model::{Event, Refusal, Reply};
 use heap_engine::{Engine, StepError};
+use heap_history::History;
 use heap_recovery::{Recovered, recover};
 use std::alloc::{AllocError, Global};
 use txn_table::{SESSIONS, TxnTable};
@@ -249,7 +249,7 @@ impl<D: Disk> Heap<D> {
             Ok(reply) => Ok(entered(&mut self.history, event, reply)),
             Err(StepError::NoMemory) => Err(AllocError),
             Err(StepError::Disk(e)) => {
-                let entry = self.history.entries().len() as u64 + 1;
+                let entry = self.history.len() as u64 + 1;
                 self.failed = Some(Failure { entry, pending });
                 Ok(entered(&mut self.history, event, cut_short(e)))
             }

@@ -8,7 +8,7 @@ mod errors;
 mod formatting;
 mod heap;
 
-pub use commit_order::History;
 pub use errors::{FormatError, GraphError, OpenError};
 pub use heap::Heap;
+pub use heap_history::{Entries, History};
 pub use heap_recovery::At;

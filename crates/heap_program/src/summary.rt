@@ -11,8 +11,8 @@ ghost use Rattle.heap_program.specs.Output.{WroteText};
 
 use crate::output::WriteError;
 use disk_model::Disk;
-use graph_model::{Entry, Reply};
-use heap_core::Heap;
+use graph_model::Reply;
+use heap_core::{Heap, History};
 use heap_io::{Sink, put_all};
 use std::alloc::Global;
 use std::fmt;
@@ -58,8 +58,8 @@ impl fmt::Display for Summary {
     }
 }
 
-fn sealed(history: &[Entry]) -> usize
-    ensures { result ≡ replies_in is_sealed history.now }
+fn sealed(history: &History) -> usize
+    ensures { result ≡ replies_in is_sealed history.now.entries }
 {
     history
         .iter()
@@ -67,8 +67,8 @@ fn sealed(history: &[Entry]) -> usize
         .count()
 }
 
-fn aborted(history: &[Entry]) -> usize
-    ensures { result ≡ replies_in is_aborted history.now }
+fn aborted(history: &History) -> usize
+    ensures { result ≡ replies_in is_aborted history.now.entries }
 {
     history
         .iter()
@@ -76,8 +76,8 @@ fn aborted(history: &[Entry]) -> usize
         .count()
 }
 
-fn refused(history: &[Entry]) -> usize
-    ensures { result ≡ replies_in is_refused history.now }
+fn refused(history: &History) -> usize
+    ensures { result ≡ replies_in is_refused history.now.entries }
 {
     history
         .iter()
@@ -85,8 +85,8 @@ fn refused(history: &[Entry]) -> usize
         .count()
 }
 
-fn collected(history: &[Entry]) -> usize
-    ensures { result ≡ replies_in is_collected history.now }
+fn collected(history: &History) -> usize
+    ensures { result ≡ replies_in is_collected history.now.entries }
 {
     history
         .iter()
@@ -96,8 +96,8 @@ fn collected(history: &[Entry]) -> usize
 
 impl Summary {
     /// That of a load which left this history and that many objects.
-    fn of(seed: u32, count: u32, history: &[Entry], objects: u64) -> Summary
-        ensures { result ≡ summary_of seed count history.now objects }
+    fn of(seed: u32, count: u32, history: &History, objects: u64) -> Summary
+        ensures { result ≡ summary_of seed count history.now.entries objects }
     {
         Summary {
             seed,
@@ -125,7 +125,7 @@ pub fn write_summary<D: Disk, K: Sink>(
     ensures wrote { IsTrue K.tells → (c : Core) → IsCore c heap.now → IsReached c → WroteText result (K.written sink.old) (summary_text (core_summary seed count c)) (K.written sink.new) }
 {
     let objects = heap.objects(alloc)?;
-    let summary = Summary::of(seed, count, heap.history().entries(), objects);
+    let summary = Summary::of(seed, count, heap.history(), objects);
     let text = format!(in alloc; "{summary}")?;
     Ok(put_all(sink, text.as_bytes())?)
 }

@@ -1,10 +1,12 @@
-//! Tests of scripts, loads, command words, and histories in the order of their seals.
+//! Tests of scripts, loads, command words, and histories: their commits in the order of their seals, and in which form their entries are kept.
 #![tactic(auto)]
 
 #[cfg(test)]
+mod brief_entries_tests;
+#[cfg(test)]
 mod command_words_tests;
 #[cfg(test)]
-mod commit_order_tests;
+mod history_tests;
 #[cfg(test)]
 mod load_tests;
 #[cfg(test)]

@@ -48,7 +48,7 @@ impl<D: Disk> SharedHeap<D> {
         ensures passes { IfOk result (λ r. (i : ℕ) (pass : _) → slice_get r.1.items i ≡ Some pass → IsPass r.0 pass × (pass_numbers pass ≡ i ∷ []) × (label_of pass ≡ slice_index labels.now i) × (seen_of pass ≡ history_of heap) × (mine_of pass ≡ []) × (front_of pass ≡ 0)) }
         ensures err { IfErr result (λ e. e.1 ≡ heap) }
     {
-        let before = heap.history().entries().len();
+        let before = heap.history().len();
         let turned = Turned {
             heap,
             before,

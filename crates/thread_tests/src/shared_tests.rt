@@ -115,7 +115,7 @@ fn a_closed_heap_has_the_calls(rt: HostRuntime) -> Result<(), Fail> {
     let (shared, mut one, two, three) = share(&rt, alloc, heap);
     put_one(&rt, &shared, &mut one, 1, 7)?;
     let heap = close_three(alloc, shared, one, two, three)?;
-    assert!(rt; heap.history().entries().len() == 4 && heap.commits() == 1);
+    assert!(rt; heap.history().len() == 4 && heap.commits() == 1);
     Ok(())
 }
 

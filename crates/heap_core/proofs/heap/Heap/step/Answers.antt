@@ -160,8 +160,8 @@ returns-in-Err-Disk-clause-core g c core heap reached =
     let P : Result Reply StepError → Type 0 = λ r. CameTo g.D.Disk core c.args.event c.step_on.new.self c.step_on.new.disk r in
     let cut = subst P err (c.step_on.ensures.core.core core engine reached) in
     let known = some_waits _ core.batches core.pending engine.memory.log in
-    let steps = cut_steps g.D.Disk core c.args.event c.cut_short.result c.step_on.new.self c.step_on.new.disk (length c.entries.result.now) c.pending-pending.result _ engine.unfailed cut c.cut_short.ensures.told
-    (ap (λ (l : List Entry). length l) (c.entries.ensures ∙ c.make_room.ensures.same ∙ heap.history)) refl (λ yes. known.0 (sym c.pending-pending.ensures ∙ yes), λ some. c.pending-pending.ensures ∙ known.1 some) in
+    let steps = cut_steps g.D.Disk core c.args.event c.cut_short.result c.step_on.new.self c.step_on.new.disk c.len.result c.pending-pending.result _ engine.unfailed cut c.cut_short.ensures.told
+    (c.len.ensures ∙ ap (λ (l : List Entry). length l) (c.make_room.ensures.same ∙ heap.history)) refl (λ yes. known.0 (sym c.pending-pending.ensures ∙ yes), λ some. c.pending-pending.ensures ∙ known.1 some) in
     rw c.entered-in-Err-Disk.ensures.reply (
       steps.next,
       steps.step,
@@ -180,8 +180,8 @@ returns-in-Err-Disk-clause-holds g c tells s core heap reached =
     let P : Result Reply StepError → Type 0 = λ r. CameTo g.D.Disk core c.args.event c.step_on.new.self c.step_on.new.disk r in
     let cut = subst P err (c.step_on.ensures.core.core core engine reached) in
     let known = some_waits _ core.batches core.pending engine.memory.log in
-    let steps = cut_steps g.D.Disk core c.args.event c.cut_short.result c.step_on.new.self c.step_on.new.disk (length c.entries.result.now) c.pending-pending.result _ engine.unfailed cut c.cut_short.ensures.told
-    (ap (λ (l : List Entry). length l) (c.entries.ensures ∙ c.make_room.ensures.same ∙ heap.core.history)) refl (λ yes. known.0 (sym c.pending-pending.ensures ∙ yes), λ some. c.pending-pending.ensures ∙ known.1 some) in
+    let steps = cut_steps g.D.Disk core c.args.event c.cut_short.result c.step_on.new.self c.step_on.new.disk c.len.result c.pending-pending.result _ engine.unfailed cut c.cut_short.ensures.told
+    (c.len.ensures ∙ ap (λ (l : List Entry). length l) (c.make_room.ensures.same ∙ heap.core.history)) refl (λ yes. known.0 (sym c.pending-pending.ensures ∙ yes), λ some. c.pending-pending.ensures ∙ known.1 some) in
     rw c.entered-in-Err-Disk.ensures.reply (
       steps.next,
       steps.step,
@@ -194,7 +194,7 @@ returns-in-Err-Disk-clause-holds g c tells s core heap reached =
         };
         disk =
             let run = (c.step_on.ensures.holds tells).moments s core engine reached (heap.disk.unfailed engine.unfailed) in
-            cut_on s core c.args.event c.cut_short.result _ _ _ (length c.entries.result.now + 1) heap.disk.born cut.some c.cut_short.ensures.told steps.memory.failure
+            cut_on s core c.args.event c.cut_short.result _ _ _ (c.len.result + 1) heap.disk.born cut.some c.cut_short.ensures.told steps.memory.failure
             (g.met.D.Disk.reads_an_image tells c.step_on.new.disk) (λ image left. run.each image (g.met.D.Disk.counts_now tells c.step_on.new.disk _ image run.later left));
       },
     )

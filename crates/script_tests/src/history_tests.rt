@@ -1,6 +1,6 @@
 //! The commits that a history tells of, in the order of their seals.
-use commit_order::History;
 use graph_model::{Event, Refusal, Reply};
+use heap_history::History;
 use std::process::Abort;
 use std::test::Fail;
 
