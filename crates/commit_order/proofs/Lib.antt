@@ -1,6 +1,5 @@
 pub mod CallLaws
 pub mod CommitLaws
-pub mod Entries
 pub mod HoldsLaws
 pub mod LockingLaws
 pub mod OrderLaws

@@ -1,4 +1,2 @@
 pub mod Heard
-pub mod Recorded
 pub mod SerialOrder
-pub mod Told

@@ -1,4 +1,5 @@
-//! The order of transactions that run side by side under strict two-phase locking: they are serial in the order of their seals.
+//! The order of transactions that run side by side under strict two-phase locking: they are serial in the order of their seals. It has definitions and
+//! their laws alone, and no code.
 //!
 //! `specs/SerialOrder.antt` has the theorem in its words: what it is for a history to be under strict two-phase locking (`IsTwoPhase`),
 //! to have plain replies (`HasPlainReplies`), and to be serial in the order of the seals (`IsCommitOrdered`). What a transaction holds
@@ -8,13 +9,4 @@
 //!
 //! A heap that locks so may rest on the laws of each place of its history: `proofs/PlaceLaws.antt`; and `proofs/HoldsLaws.antt`, how
 //! what is held changes as a table of locks does. That locks are kept until a transaction ends is in `proofs/StrictLaws.antt`.
-//!
-//! The code is `History`, the list of events and their replies, and what it tells of the commits.
 #![tactic(auto)]
-
-mod commit_list;
-mod history;
-mod reading;
-
-pub use commit_list::{Commit, CommitList};
-pub use history::History;

@@ -1,8 +1,0 @@
--- A history as a value.
-use Rattle.std.specs.Prelude.{ℕ, List}
-use Rattle.graph_model.specs.declared.reply.Entry.{Entry}
-
--- The entries, oldest first, and for how many more there is room.
-pub record Recorded : Type 0 where
-  pub entries : List Entry
-  pub room : ℕ
