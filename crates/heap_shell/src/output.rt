@@ -5,8 +5,8 @@ ghost use Rattle.heap_io.specs.Stream.{HasCause};
 use heap_io::{Sink, SinkFailed, StdSink};
 use std::io::{IsTerminal, Stdout};
 
-/// Shorter pieces of work are not told of.
-const LONG: u32 = 10_000;
+/// Pieces of work with fewer parts are not told of.
+const LONG: u32 = 1_000;
 
 /// Standard output. How far a long piece of work is it tells on standard error, where that is a terminal: a line for each tenth.
 #[derive(Drop)]
