@@ -1,4 +1,5 @@
 pub mod Causes
+pub mod Collects
 pub mod Ending
 pub mod Format
 pub mod GivenBack

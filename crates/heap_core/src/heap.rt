@@ -28,6 +28,8 @@ ghost use Rattle.core_laws.specs.Valid.{IsReached};
 ghost use Rattle.heap_engine.specs.EngineState.{memory, LiesWithin, HasNotFailed};
 ghost use Rattle.heap_engine.specs.Refinement.{IsLeftByStep};
 ghost use Rattle.commit_order.specs.Heard.{replies_of_commits};
+ghost use Rattle.graph_model.specs.declared.event.Event.TheVariants.{Scan};
+ghost use Rattle.heap_core.specs.Collects.{CollectsAsTold};
 ghost use Rattle.committed_words.specs.Committed.{words_of};
 ghost use Rattle.commit_order.specs.SerialOrder.{IsCommitOrdered};
 
@@ -233,6 +235,8 @@ impl<D: Disk> Heap<D> {
         ensures passes { IsTrue D.tells → (c : Core) → IsCore c self.old → IsReached c → IfOk result (λ reply. Passes (calls c event) (D.passed self.old.disk) (D.passed self.new.disk) (reply_device reply)) }
         // An event that makes no write or sync leaves the disk alone, and does not read it either.
         ensures still { (c : Core) → IsCore c self.old → IsReached c → calls c event ≡ 0 → self.new.disk ≡ self.old.disk }
+        // A scan copies few objects, and where it ends a collection that began while no transaction was active, just what was reached then was copied.
+        ensures collects { (c : Core) → IsCore c self.old → IsReached c → event ≡ Scan → IfOk result (λ reply. CollectsAsTold c reply) }
         // When memory runs out, transactions can still be ended and commits forced.
         ensures memory { (c : Core) → IsCore c self.old → IsReached c → (account c.history).failed ≡ None → TakesNoMemory c event → IsOk result }
     {

@@ -12,6 +12,7 @@ use Rattle.graph_model.specs.declared.reply.Reply.TheVariants.{Refused}
 use Rattle.heap_model.specs.Core.{calls}
 use Rattle.heap_model.proofs.Run.Calls.{same_step}
 use Rattle.memory_laws.proofs.Kept.Log.{some_waits}
+use Rattle.heap_core.proofs.Collects.{collects_as_told}
 use Rattle.heap_core.proofs.CrashLaws.{heap_left}
 use Rattle.heap_core.specs.HeapState.{entry_of}
 use Rattle.heap_core.proofs.StepCore.{remembers, whole_steps, cut_steps, failed_steps, with_history, whole_on, cut_on, failed_on, failed_passes}
@@ -43,6 +44,11 @@ returns-in-Some-clause-core g c core heap reached =
         engine = steps.engine;
       },
     )
+
+pub returns-in-Some-clause-collects : goal.returns-in-Some-clause-collects
+returns-in-Some-clause-collects g c core heap reached scan =
+    let made = returns-in-Some-clause-core g c core heap reached in
+    collects_as_told core made.0 c.args.event _ reached scan made.1
 
 pub returns-in-Some-clause-holds : goal.returns-in-Some-clause-holds
 returns-in-Some-clause-holds g c tells s core heap reached =
@@ -88,6 +94,11 @@ returns-in-Ok-clause-core g c core heap reached =
         engine = steps.engine;
       },
     )
+
+pub returns-in-Ok-clause-collects : goal.returns-in-Ok-clause-collects
+returns-in-Ok-clause-collects g c core heap reached scan =
+    let made = returns-in-Ok-clause-core g c core heap reached in
+    collects_as_told core made.0 c.args.event _ reached scan made.1
 
 pub returns-in-Ok-clause-holds : goal.returns-in-Ok-clause-holds
 returns-in-Ok-clause-holds g c tells s core heap reached =
@@ -172,6 +183,11 @@ returns-in-Err-Disk-clause-core g c core heap reached =
         engine = steps.engine;
       },
     )
+
+pub returns-in-Err-Disk-clause-collects : goal.returns-in-Err-Disk-clause-collects
+returns-in-Err-Disk-clause-collects g c core heap reached scan =
+    let made = returns-in-Err-Disk-clause-core g c core heap reached in
+    collects_as_told core made.0 c.args.event _ reached scan made.1
 
 pub returns-in-Err-Disk-clause-holds : goal.returns-in-Err-Disk-clause-holds
 returns-in-Err-Disk-clause-holds g c tells s core heap reached =
