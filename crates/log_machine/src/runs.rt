@@ -1,5 +1,6 @@
 //! What a record writes, as runs of words.
 ghost use Rattle.std.specs.Prelude.{[], ◌≡◌, ◌∷◌, ◌<◌, ◌*◌, ◌^◌, IfSome, length, slice_get};
+ghost use Rattle.log_machine.specs.Machine.{field_at};
 ghost use Rattle.log_machine.specs.Runs.{runs, copy_runs, copies_runs, write_runs};
 
 use crate::effects::forwarding_word;
