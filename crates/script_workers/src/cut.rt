@@ -1,6 +1,8 @@
 //! The lines of a script are cut into one list of events for each worker.
 ghost use Rattle.std.specs.Prelude.{◌≡◌, ◌+◌, ◌<◌, ◌≤◌, ℕ, IfOk, Some, slice_get, vec_len};
 ghost use Rattle.std.specs.List.{AllByRecursion};
+ghost use Rattle.graph_model.specs.History.{IsOfSession};
+ghost use Rattle.script_text.specs.Line.{line_events};
 ghost use Rattle.script_workers.specs.Workers.{worker_of, worker_events, IsFor, IsOfScript};
 
 use graph_model::Event;
@@ -11,7 +13,9 @@ use std::alloc::{AllocError, Global};
 /// The number of the worker that makes a line's events: that of its session, of the collector for `flip` and `scan`, of the flusher for `force` and
 /// `flush`.
 pub fn worker_of(line: &Line) -> u32
-    ensures { result ≡ worker_of line.now }
+    ensures number { result ≡ worker_of line.now }
+    // Each line whose sessions are 1 to 32 has one of the 34 workers.
+    ensures known { AllByRecursion IsOfSession (line_events line.now) → (1 ≤ result) × (result ≤ 34) }
 {
     match line {
         Line::Commit { s } => *s,
