@@ -1,0 +1,5 @@
+pub mod Lists
+pub mod Sending
+pub mod Parts
+pub mod Stations
+pub mod Working

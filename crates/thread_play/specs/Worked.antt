@@ -1,0 +1,23 @@
+-- A script was played on one heap by several workers.
+use Rattle.std.specs.Prelude.{◌≡◌, ℕ, ◌+◌, List, length, MatchResult, Result, Some, slice_get}
+use Rattle.std.specs.List.{AllByRecursion}
+use Rattle.std.specs.declared.alloc.AllocError.{AllocError}
+use Rattle.graph_model.specs.declared.reply.Entry.{Entry}
+use Rattle.heap_workers.specs.Playing.{Played, IsBegun}
+use Rattle.script_text.specs.declared.line.Line.{Line}
+use Rattle.script_workers.specs.Workers.{worker_events}
+use Rattle.turn_lock.specs.Merging.{Rise, entries_of}
+use Rattle.turn_lock.specs.Turning.{EachOnce, StandIn, places, times, total}
+
+-- what one worker has sent of a script, or the beginning of that, where memory was refused to some worker
+abbrev pub IsPart : ℕ → List Line → Result (Unit {0}) AllocError → ℕ → List Entry → Type 0
+IsPart tries lines end number part = MatchResult end (λ _. Played tries (worker_events number lines) part) (λ _. IsBegun tries (worker_events number lines) part)
+
+-- Behind so many entries a history has those of the workers of a script, and no others: each place is one worker's, once, with the entry that stands
+-- there; each worker's places ascend, and its entries are what it sends of its lines.
+pub record IsWorked (tries : ℕ) (lines : List Line) (before : ℕ) (history : List Entry) (end : Result (Unit {0}) AllocError) : Type 0 where
+  pub mine : List (List (ℕ × Entry))
+  pub count : length mine ≡ 34
+  pub stand : AllByRecursion (λ placed. StandIn history placed × Rise 0 placed) mine
+  pub once : EachOnce (λ place. total (λ placed. times place (places placed)) mine) before (length history)
+  pub part : (i : ℕ) (placed : List (ℕ × Entry)) → slice_get mine i ≡ Some placed → IsPart tries lines end (i + 1) (entries_of placed)
