@@ -1,6 +1,6 @@
 //! What a core is limited to: the room of its log, and how long collections last, how many bytes they take, and what they copy.
 ghost use Rattle.limit_laws.specs.Bytes.{BytesTheorem};
-ghost use Rattle.limit_laws.specs.Copies.{ExactTheorem, NoGarbageTheorem, UndisturbedTheorem};
+ghost use Rattle.limit_laws.specs.Copies.{ExactTheorem, KeptTheorem, NoGarbageTheorem, UndisturbedTheorem};
 ghost use Rattle.limit_laws.specs.Progress.{EndTheorem, PagesTheorem};
 ghost use Rattle.limit_laws.specs.Room.{EndsTheorem, FitsTheorem, RollbackTheorem};
 
@@ -32,6 +32,11 @@ pub fn collections_end()
 /// Collections take few bytes of the log for each word that they copy.
 pub fn collections_take_few_bytes()
     ensures { BytesTheorem }
+{}
+
+/// A collection copies nothing but what is kept at its flip, whichever transactions are active.
+pub fn collections_copy_nothing_but_what_is_kept()
+    ensures { KeptTheorem }
 {}
 
 /// A collection that begins where no transaction is active copies nothing but what is reached, whatever sessions do meanwhile.

@@ -1,3 +1,4 @@
+pub mod Begun
 pub mod Closed
 pub mod Counted
 pub mod Disturbed
@@ -5,7 +6,8 @@ pub mod Edges
 pub mod Exact
 pub mod Flips
 pub mod Followed
-pub mod Idle
+pub mod Granted
+pub mod Led
 pub mod Locks
 pub mod Moves
 pub mod Quiet
@@ -17,3 +19,4 @@ pub mod Seals
 pub mod Steps
 pub mod Tidy
 pub mod Undisturbed
+pub mod Within

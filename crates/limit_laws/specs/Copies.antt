@@ -1,17 +1,21 @@
 -- What a collection copies.
-use Rattle.std.specs.Prelude.{◌≡◌, ◌↔◌, ℕ, ◌+◌, ◌==◌, Bool, true, List, length, drop, filter, sum_by, is_some, None}
+use Rattle.std.specs.Prelude.{◌≡◌, ◌↔◌, ℕ, ◌+◌, ◌==◌, Bool, true, List, length, drop, filter, sum_by, slice_get, is_some, None, Some, Contains}
 use Rattle.std.specs.List.{AllByRecursion, list_any}
 use Rattle.graph_model.specs.declared.event.Event.{Event}
 use Rattle.graph_model.specs.declared.event.Event.TheVariants.{Force, Flip, Scan, Flush}
 use Rattle.graph_model.specs.declared.id.Id.{Id}
 use Rattle.graph_model.specs.declared.reply.Reply.TheVariants as reply
 use Rattle.graph_model.specs.Canon.{Reached}
-use Rattle.graph_model.specs.Graph.{Graph, fields}
+use Rattle.graph_model.specs.declared.val.Val.TheVariants.{Ref}
+use Rattle.graph_model.specs.Graph.{Graph, fields, root}
 use Rattle.graph_model.specs.History.{account, IsOfSession}
 use Rattle.graph_model.specs.Transaction.{Transaction, serial}
+use Rattle.heap_words.specs.declared.Word.TheVariants.{Stable}
+use Rattle.heap_words.specs.Word.{meaning}
+use Rattle.log_machine.specs.declared.UndoEntry.{UndoEntry}
 use Rattle.graph_words.specs.Places.{Places, address_of}
 use Rattle.collection_words.specs.Placing.{moved_by_all}
-use Rattle.heap_model.specs.Core.{Core, IsRun, after, answer, placing}
+use Rattle.heap_model.specs.Core.{Core, IsRun, after, all_records, answer, placing, undo_behind}
 use Rattle.core_laws.specs.Active.{active_in}
 use Rattle.core_laws.specs.Valid.{IsReached}
 use Rattle.limit_laws.specs.Bytes.{appended}
@@ -46,6 +50,31 @@ words_of g places = sum_by (λ p. 2 + length (fields g p.0)) places
 pub record CopiesReached (c d : Core) (used : ℕ) : Type 0 where
   pub exactly : (id : Id) → (is_some (address_of (copied_since c d) id) ≡ true) ↔ Reached (sealed_graph c) id
   pub words : used ≡ words_of (sealed_graph c) (copied_since c d)
+
+-- An active transaction has overwritten a reference to an object: a write of it that may be taken back puts that reference back.
+pub record IsOverwritten (c : Core) (id : Id) : Type 0 where
+  pub session : ℕ
+  pub transaction : Transaction
+  pub active : active_in c session ≡ Some transaction
+  pub entry : UndoEntry
+  pub written : Contains (undo_behind c (all_records c) transaction.number) entry
+  pub at : ℕ
+  pub refers : meaning entry.was ≡ Some (Stable at)
+  pub stands : address_of c.places id ≡ Some at
+
+-- What references lead to in the graph that the sealed transactions have left, from the root and from what active ones have overwritten references to.
+pub data IsKept (c : Core) : Id → Type 0 where
+  of_root : IsKept c root
+  of_overwritten : {id : Id} → IsOverwritten c id → IsKept c id
+  of_field : {id : Id} (i : ℕ) (target : Id) → IsKept c id → slice_get (fields (sealed_graph c) id) i ≡ Some (Ref target) → IsKept c target
+
+-- A collection copies nothing else, whichever transactions are active when it begins, and whatever sessions do while it is under way. All that it
+-- has copied from c until d is kept in c: what active transactions hold, read, made or wrote adds nothing.
+abbrev pub KeptTheorem : Type 0
+KeptTheorem =
+    (c d : Core) (events : List Event) (objects words : ℕ) → IsReached c → answer c Flip ≡ reply.Flipped objects words
+    → AllByRecursion IsOfSession events → IsRun (after c Flip) events d → BeganNone (after c Flip) d
+    → (id : Id) → is_some (address_of (copied_since c d) id) ≡ true → IsKept c id
 
 -- A collection that no session disturbs copies no garbage, and all else. It begins in c, where no transaction is active, and ends with a scan of
 -- d; between are scans, forces and flushes, granted or refused, and flips that begin no other.

@@ -37,7 +37,7 @@ use Rattle.limit_laws.proofs.Copies.Followed.{new_left, parted}
 use Rattle.limit_laws.proofs.Copies.Running.{IsPlaced, all_placed, ran}
 use Rattle.limit_laws.proofs.Copies.Scans.{address_cases}
 use Rattle.limit_laws.proofs.Copies.Steps.{moved_fewer}
-use Rattle.limit_laws.proofs.Copies.Tidy.{HasFields}
+use Rattle.limit_laws.proofs.Copies.Tidy.{GraysHave}
 use Rattle.limit_laws.proofs.Events.Kinds.{IsNoFlip}
 
 -- Places.
@@ -47,7 +47,7 @@ named_still true x y o r is later = refl
 named_still false x y o r is later = later is
 
 -- an object with a place in the completed words that is not current remains
-future_some : (words : List ℕ) (ps : Places) (to : ℕ) (id : Id) → is_some (address_of (places_from words ps to) id) ≡ true → is_some (address_of ps id) ≡ true
+pub future_some : (words : List ℕ) (ps : Places) (to : ℕ) (id : Id) → is_some (address_of (places_from words ps to) id) ≡ true → is_some (address_of ps id) ≡ true
 future_some words [] to id is = is
 future_some words (p ∷ ps) to id is =
     let next = to + taken_at words p.1 in
@@ -131,7 +131,7 @@ closed_first g a e h same = record {
 -- An event keeps it.
 module _ (g : Graph) (b : Account) (e f : Core) (h : Agrees b f) (s : State) (copied : Places) (records : List Record) (plain : AllByRecursion IsNoFlip records) (follows : after_all s records ≡ Some h.behind)
     (own : HaveOwnNames (e.places ++ e.remaining)) (more : Places) (stands : f.places ≡ (moved_by_all (placing e) records).places ++ more) (left : f.remaining ≡ (moved_by_all (placing e) records).remaining)
-    (kept : HasFields g (serial f.g0 b.sealed) e s) (closed : IsClosed g copied e s) where
+    (rest : (z : Id) → is_some (address_of e.remaining z) ≡ true → fields (serial f.g0 b.sealed) z ≡ fields g z) (grays : GraysHave g (serial f.g0 b.sealed) e s) (closed : IsClosed g copied e s) where
   abbrev new : Places
   new = (moved_by_all (placing_of [] e.remaining) records).places
 
@@ -170,11 +170,11 @@ module _ (g : Graph) (b : Account) (e f : Core) (h : Agrees b f) (s : State) (co
       let fresh = λ (same : fields (serial f.g0 b.sealed) z ≡ fields g z). black_left b f h k run z y at i (still_current z at there) black (ap (λ (vs : List Val). slice_get vs i) same ∙ refers) in
       elim (was z at there) [
         | inl old ↦ by j.0 j.1 old (contains j.0.gray at) refl fresh
-        | inr added ↦ fresh (kept.rest z added.1)
+        | inr added ↦ fresh (rest z added.1)
       ]
     where
       by : (j : Collection) → s.collection ≡ Some j → address_of copied z ≡ Some at → (t : Bool) → contains j.gray at ≡ t → (fields (serial f.g0 b.sealed) z ≡ fields g z → address_of f.remaining y ≡ None) → address_of f.remaining y ≡ None
-      by j ran old true gray fresh = fresh (kept.gray j ran z at (closed.current z at old) gray)
+      by j ran old true gray fresh = fresh (grays j ran z at (closed.current z at old) gray)
       by j ran old false gray fresh = none_left y (closed.black j ran z y at i old gray refers)
 
   pub closed_next : IsClosed g (moved_by_all (placing_of copied e.remaining) records).places f h.behind

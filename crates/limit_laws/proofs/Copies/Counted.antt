@@ -34,7 +34,7 @@ keeps_all : (f : Id × ℕ → Bool) (ps : Places) → AllByRecursion (λ p. f p
 keeps_all f [] all = refl
 keeps_all f (p ∷ ps) all = ap (λ b. if b then p ∷ filter f ps else filter f ps) all.0 ∙ ap (λ (qs : Places). p ∷ qs) (keeps_all f ps all.1)
 
-keeps_none : (f : Id × ℕ → Bool) (ps : Places) → AllByRecursion (λ p. f p ≡ false) ps → filter f ps ≡ []
+pub keeps_none : (f : Id × ℕ → Bool) (ps : Places) → AllByRecursion (λ p. f p ≡ false) ps → filter f ps ≡ []
 keeps_none f [] all = refl
 keeps_none f (p ∷ ps) all = ap (λ b. if b then p ∷ filter f ps else filter f ps) all.0 ∙ keeps_none f ps all.1
 

@@ -1,47 +1,43 @@
--- A scan while transactions are active: what it copies is reached, if what gray objects and those that remain refer to is.
+-- A scan while transactions are active: what it copies is kept, if what gray objects and those that remain refer to is.
 use Rattle.std.proofs.Common.{◌≡◌, ◌≢◌, ◌⊎◌, inl, inr, ℕ, zero, suc, ◌+◌, ◌*◌, ◌<◌, ◌≤◌, Bool, true, false, List, [], ◌∷◌, ◌++◌, length, Option, None, Some, is_some, refl, sym, ap, ◌∙◌, subst, arith}
-use Rattle.std.specs.Prelude.{◌||◌, not, map, filter, fold, slice_get, slice_index, slice_index_or, if◌then◌else◌, ◌==◌}
+use Rattle.std.specs.Prelude.{◌||◌, Contains, not, map, filter, fold, slice_get, if◌then◌else◌, ◌==◌}
 use Rattle.std.specs.List.{AllByRecursion}
 use Rattle.std.specs.FinSet.{contains}
-use Rattle.std.proofs.lemmas.Bool.{eqb-true}
+use Rattle.std.proofs.lemmas.Bool.{eqb-false, eqb-true}
 use Rattle.std.proofs.lemmas.List.Sums.{fold-append}
-use Rattle.std.proofs.lemmas.Option.{option_and_then_some, same_Some, slice_get-get_or}
+use Rattle.std.proofs.lemmas.Option.{option_and_then_some, same_Some}
 use Rattle.graph_model.specs.declared.id.Id.{Id}
-use Rattle.graph_model.specs.declared.val.Val.TheVariants.{Null, Ref}
-use Rattle.graph_model.specs.Canon.{Reached}
+use Rattle.graph_model.specs.declared.val.Val.{Val}
+use Rattle.graph_model.specs.declared.val.Val.TheVariants.{Ref}
 use Rattle.graph_model.specs.Graph.{Graph, fields, is_same_id}
 use Rattle.heap_words.specs.declared.Word.TheVariants as word
-use Rattle.heap_words.specs.Header.{header}
-use Rattle.heap_words.specs.Word.{bits, meaning}
+use Rattle.heap_words.specs.Word.{bits}
 use Rattle.heap_spaces.specs.Collection.{Collection}
 use Rattle.log_records.specs.declared.Record.{Record}
 use Rattle.log_records.specs.declared.Record.TheVariants.{Copy}
 use Rattle.log_records.specs.declared.Record.TheVariants as record_of
 use Rattle.log_machine.specs.declared.UndoEntry.{UndoEntry}
 use Rattle.log_machine.specs.Collecting.{collecting_after}
-use Rattle.log_machine.specs.Machine.{State, field_at, spaces_of, words_in}
+use Rattle.log_machine.specs.Machine.{State, field_at, spaces_of}
 use Rattle.log_machine.proofs.CopyRows.{copy_told}
-use Rattle.log_machine.proofs.ListLaws.{AllByRecursion-at}
 use Rattle.object_layout.specs.Layout.{object_at}
-use Rattle.graph_words.specs.Places.{IsVisible, Places, address_of, addresses}
-use Rattle.graph_words.proofs.Places.Addresses.{address_of-Contains, address_of-cases, address_of-head}
+use Rattle.object_layout.proofs.WalkLaws.{Contains-head, Contains-rest}
+use Rattle.graph_words.specs.Places.{Places, address_of, addresses}
+use Rattle.graph_words.proofs.Places.Addresses.{address_of-cases, address_of-head}
 use Rattle.graph_words.proofs.Seal.Places.{address_of-append_left, address_of-append_right}
-use Rattle.graph_words.proofs.Stands.Objects.{stands_field, stands_field_one}
-use Rattle.collection_words.specs.Completed.{StandsCompleted, completed, end_of, followed, followed_by, future, moves_from}
+use Rattle.collection_words.specs.Completed.{StandsCompleted, future}
 use Rattle.collection_words.specs.LaidOut.{IsUnderway, LeadsHere, is_gray}
 use Rattle.collection_words.specs.Placed.{HaveOwnNames}
 use Rattle.collection_words.specs.Placing.{Placing, moved_by, moved_by_all, placing_of, put_at}
 use Rattle.collection_words.specs.Writes.{AreBacked, IsHereWrite}
 use Rattle.collection_words.proofs.Copy.Named.{named, own_front}
 use Rattle.collection_words.proofs.Copy.Stands.{completed_own}
-use Rattle.collection_words.proofs.Laid.Completed.{move_made}
-use Rattle.collection_words.proofs.Laid.Followed.{move_placed, place_current}
+use Rattle.collection_words.proofs.Laid.Followed.{place_current}
 use Rattle.collection_words.proofs.Laid.Old.{old_in_other}
 use Rattle.collection_words.proofs.Laid.Sources.{IsCollecting}
 use Rattle.collection_words.proofs.Laid.Underway.{underway}
 use Rattle.collection_words.proofs.Laid.Within.{placed_within, start_within}
 use Rattle.collection_words.proofs.Laid.Write.{unmoved_left}
-use Rattle.collection_words.proofs.Steps.Scan.{stable_here}
 use Rattle.page_scanner.specs.Passing.{collecting_after_all}
 use Rattle.page_scanner.specs.Scan.{Planned, coming, copied_from, is_current, nothing, scan, scan_records, visit_all}
 use Rattle.page_scanner.proofs.Steps.{planned_parts}
@@ -51,33 +47,11 @@ use Rattle.scan_laws.proofs.Made.{made_same}
 use Rattle.scan_laws.proofs.Visited.{visits}
 use Rattle.seen_laws.specs.Heap.{IsHeap, IsUnwritten}
 use Rattle.seen_laws.proofs.Reading.{object_here}
-use Rattle.seen_laws.proofs.Kept.{unwritten_word}
 use Rattle.core_laws.proofs.Collecting.Entries.{all_at}
-use Rattle.limit_laws.proofs.Copies.Edges.{stable_one, value_refers}
+use Rattle.limit_laws.proofs.Copies.Edges.{led_edge}
 use Rattle.limit_laws.proofs.Copies.Refers.{AreReferred, scan_refers}
 use Rattle.limit_laws.proofs.Copies.Scans.{GoesTo, address_cases, put_to, referred_to}
 use Rattle.limit_laws.proofs.Events.Kinds.{IsCopy, planned_copies}
-
--- An edge.
-
--- a write that a scan has led, of a field that none of these writes has written
-led_edge : {s : State} {k : Collection} {currents rest : Places} {words : List ℕ} {g : Graph} {write : ℕ × ℕ} (us : List UndoEntry) → IsCollecting s k currents rest words → words_in s.pages ≤ 2097152
-    → StandsCompleted 0 0 currents rest g us words s → (w : IsLedWrite s currents words write) → IsUnwritten us (field_at w.object w.field)
-    → (z y : Id) → w.is.fields ≡ length (fields g z) → address_of (currents ++ future s words rest) z ≡ Some w.object → address_of (currents ++ future s words rest) y ≡ Some w.to → slice_get (fields g z) w.field ≡ Some (Ref y)
-led_edge {s} {k} {currents} {rest} {words} {g} {write} us is small stands w unwritten z y size from to =
-    let P = currents ++ future s words rest in
-    let made = move_made is w.object w.object w.is.fields (move_placed is.laid w.object w.is.start) w.is.stands in
-    let within : w.field < length (fields g z) = subst (λ (n : ℕ). w.field < n) size w.is.within in
-    let moves = moves_from words (addresses rest) (s.base + s.used) in
-    let was = slice_index words (field_at w.object w.field) in
-    let follows : followed s words rest was ≡ bits (word.Stable w.to) =
-    ap (followed_by s words moves was) w.back
-    ∙ ap (λ t. if t then bits (word.Stable (end_of moves w.from (header (slice_index words w.from)))) else was) w.old
-    ∙ ap (λ h. bits (word.Stable (end_of moves w.from h))) w.forward in
-    let value = slice_index_or (fields g z) w.field Null in
-    let same = sym (stands_field stands z w.object w.field from within) ∙ unwritten_word us (completed s currents rest words) (field_at w.object w.field) unwritten ∙ made.fields w.field w.is.within ∙ follows in
-    let seen = AllByRecursion-at (IsVisible P 0 0) (fields g z) w.field Null within (stands.visible z w.object from) in
-    slice_get-get_or (fields g z) w.field Null within ∙ ap Some (value_refers stands value w.to y seen same (stable_here is small w.to w.leads) to)
 
 -- Where copies go.
 
@@ -173,16 +147,29 @@ old_or_left p (Copy from to words ∷ rs) all id at is = elim (old_or_left (move
 ]
 old_or_left p (r ∷ rs) all id at is = absurd all.0
 
+-- Writes that may be taken back.
+
+-- none of these writes is of a word, or one is
+unwritten_or : (us : List UndoEntry) (x : ℕ) → IsUnwritten us x ⊎ ((u : UndoEntry) × Contains us u × (x ≡ field_at u.object u.field))
+unwritten_or [] x = inl tt
+unwritten_or (u ∷ us) x = by (x == field_at u.object u.field) refl (unwritten_or us x)
+  where
+    by : (b : Bool) → (x == field_at u.object u.field) ≡ b → IsUnwritten us x ⊎ ((v : UndoEntry) × Contains us v × (x ≡ field_at v.object v.field))
+        → IsUnwritten (u ∷ us) x ⊎ ((v : UndoEntry) × Contains (u ∷ us) v × (x ≡ field_at v.object v.field))
+    by true same rest = inr (u, Contains-head u us, eqb-true x (field_at u.object u.field) same)
+    by false other (inl rest) = inl (eqb-false x (field_at u.object u.field) other, rest)
+    by false other (inr later) = inr (later.0, Contains-rest u us later.0 later.1, later.2)
+
 -- The scan.
 
--- the graph that the sealed transactions have left, where these writes may be taken back
-abbrev sealed_view : Graph → List UndoEntry → Placing → View
-sealed_view g us p = record { t = 0; made = 0; g = g; us = us; before = p }
+-- a graph as a transaction sees it that has made so many objects, where these writes may be taken back
+abbrev view_of : ℕ → ℕ → Graph → List UndoEntry → Placing → View
+view_of t made g us p = record { t = t; made = made; g = g; us = us; before = p }
 
 -- nothing is copied at first
-done_first : (s : State) (k : Collection) (places remaining : Places) (words : List ℕ) (g : Graph) (us : List UndoEntry) (is : IsUnderway s k places remaining words) → AreBacked places words us → StandsCompleted 0 0 places remaining g us words s
-    → IsDone s k places (underway is).from.starts words (sealed_view g us (placing_of places remaining)) nothing
-done_first s k places remaining words g us is backed stands = record {
+done_first : (s : State) (k : Collection) (places remaining : Places) (words : List ℕ) (t made : ℕ) (g : Graph) (us : List UndoEntry) (is : IsUnderway s k places remaining words) → AreBacked places words us
+    → StandsCompleted t made places remaining g us words s → IsDone s k places (underway is).from.starts words (view_of t made g us (placing_of places remaining)) nothing
+done_first s k places remaining words t made g us is backed stands = record {
   next = s;
   now = k;
   currents = places;
@@ -214,19 +201,20 @@ done_first s k places remaining words g us is backed stands = record {
     or_none true = refl
     or_none false = refl
 
--- What gray objects refer to that remains is reached, and so is what an object refers to that is reached and remains. No gray object has an entry.
-pub record IsTidy (g sealed : Graph) (places remaining : Places) (k : Collection) (us : List UndoEntry) : Type 0 where
-  pub leads : (z y : Id) (at i : ℕ) → address_of places z ≡ Some at → contains k.gray at ≡ true → slice_get (fields sealed z) i ≡ Some (Ref y) → is_some (address_of remaining y) ≡ true → Reached g y
-  pub rest : (z y : Id) (i : ℕ) → is_some (address_of remaining z) ≡ true → Reached g z → slice_get (fields sealed z) i ≡ Some (Ref y) → Reached g y
-  pub unwritten : AllByRecursion (λ (u : UndoEntry). contains k.gray u.object ≡ false) us
+-- A field that was led, of an object that was gray or came as a copy. It refers to what it was led to, if none of these writes wrote it.
+record IsLedFrom (k : Collection) (p : Placing) (copies : List Record) (g : Graph) (us : List UndoEntry) (x : ℕ) (y : Id) : Type 0 where
+  z : Id
+  object : ℕ
+  field : ℕ
+  is : x ≡ field_at object field
+  stood : ((address_of p.places z ≡ Some object) × (contains k.gray object ≡ true)) ⊎ WentThere p copies z object
+  there : address_of (moved_by_all p copies).places z ≡ Some object
+  refers : IsUnwritten us x → slice_get (fields g z) field ≡ Some (Ref y)
 
-module _ (s : State) (k : Collection) (places remaining : Places) (words : List ℕ) (g sealed : Graph) (us : List UndoEntry) (is0 : IsUnderway s k places remaining words) (backed : AreBacked places words us)
-    (q : Planned) (d : IsDone s k places (underway is0).from.starts words (sealed_view sealed us (placing_of places remaining)) q) (tidy : IsTidy g sealed places remaining k us) (copies : AllByRecursion IsCopy q.copies) where
+module _ (s : State) (k : Collection) (places remaining : Places) (words : List ℕ) (is0 : IsUnderway s k places remaining words) (t made : ℕ) (g : Graph) (us : List UndoEntry)
+    (q : Planned) (d : IsDone s k places (underway is0).from.starts words (view_of t made g us (placing_of places remaining)) q) (copies : AllByRecursion IsCopy q.copies) where
   is : IsCollecting d.next d.now d.currents d.rest d.moved
   is = underway d.is
-
-  own : HaveOwnNames (d.currents ++ d.rest)
-  own = completed_own us is d.stands
 
   -- a field that was led is of a gray object
   led_gray : (write : ℕ × ℕ) → (w : IsLedWrite d.next d.currents d.moved write) → contains d.now.gray w.object ≡ true
@@ -261,97 +249,132 @@ module _ (s : State) (k : Collection) (places remaining : Places) (words : List 
           came b (inl never) = absurd (cc never)
           came b (inr goes) = goes
 
-  heap : IsHeap d.next d.currents d.rest d.moved
-  heap = record { spaced = is.spaced; long = is.long; laid = is.laid }
+  -- a current object has as many fields as it has in the graph
+  size_of : (z : Id) (at n : ℕ) → address_of d.currents z ≡ Some at → object_at d.moved at ≡ Some n → n ≡ length (fields g z)
+  size_of z at n there object =
+      let heap : IsHeap d.next d.currents d.rest d.moved = record { spaced = is.spaced; long = is.long; laid = is.laid } in
+      same_Some n (length (fields g z)) (sym object ∙ object_here us heap d.backed d.stands z at there)
 
-  -- a current object is an object of the completed words
-  as_whole : (z : Id) (at : ℕ) → address_of d.currents z ≡ Some at → address_of (d.currents ++ future d.next d.moved d.rest) z ≡ Some at
-  as_whole z at there = address_of-append_left d.currents (future d.next d.moved d.rest) z at there
+  -- an object that was copied stands behind the words that were used
+  behind : (z : Id) (at : ℕ) → WentThere (placing_of places remaining) q.copies z at → s.base + s.used ≤ at
+  behind z at went = goes_behind s d.next q.copies at copies d.passes went.goes
 
-  -- it has as many fields as it has in the graph
-  size_of : (z : Id) (at n : ℕ) → address_of d.currents z ≡ Some at → object_at d.moved at ≡ Some n → n ≡ length (fields sealed z)
-  size_of z at n there object = same_Some n (length (fields sealed z)) (sym object ∙ object_here us heap d.backed d.stands z at there)
+  -- the field that was led to an object
+  led_from : (x at : ℕ) (y : Id) → Contains q.writes (x, bits (word.Stable at)) → address_of (moved_by_all (placing_of places remaining) q.copies).places y ≡ Some at → IsLedFrom k (placing_of places remaining) q.copies g us x y
+  led_from x at y write there =
+      let p = placing_of places remaining in
+      let w = all_at (IsLedWrite d.next d.currents d.moved) q.writes (x, bits (word.Stable at)) d.writes write in
+      let names = w.names in
+      let same : at ≡ w.to = omega arith in
+      let later = future d.next d.moved d.rest in
+      let here = ap (λ (c : Placing). address_of c.places y) (sym d.placed) ∙ there in
+      let z = named d.currents w.object (own_front d.currents d.rest (completed_own us is d.stands)) w.is.start in
+      let size = size_of z.0 w.object w.is.fields z.1 w.is.stands in
+      let stands_at = ap (λ (c : Placing). address_of c.places z.0) d.placed ∙ z.1 in
+      let gray = led_gray (x, bits (word.Stable at)) w in
+      record {
+        z = z.0;
+        object = w.object;
+        field = w.field;
+        is = w.at;
+        stood = elim (old_or_left p q.copies copies z.0 w.object stands_at) [
+          | inl old ↦ inl (old, old_gray z.0 w.object old gray)
+          | inr went ↦ inr went
+        ];
+        there = stands_at;
+        refers = λ free. led_edge us is d.stands w (subst (IsUnwritten us) w.at free) z.0 y size (address_of-append_left d.currents later z.0 w.object z.1) (address_of-append_left d.currents later y w.to (here ∙ ap Some same));
+      }
 
-  -- where it stood before the copies, or remained
-  stood : (z : Id) (at : ℕ) → address_of d.currents z ≡ Some at → (address_of places z ≡ Some at) ⊎ WentThere (placing_of places remaining) q.copies z at
-  stood z at there = old_or_left (placing_of places remaining) q.copies copies z at (ap (λ (x : Placing). address_of x.places z) d.placed ∙ there)
+-- What a scan copies.
 
-  -- a write that may be taken back is not of a field of a gray object that stood here
-  apart_old : (z : Id) (at i : ℕ) (u : UndoEntry) → address_of d.currents z ≡ Some at → i < length (fields sealed z) → contains k.gray at ≡ true → contains k.gray u.object ≡ false
-      → IsHereWrite d.currents d.moved u.object u.field u.was → field_at at i ≢ field_at u.object u.field
-  apart_old z at i u there within gray off here same =
-      let zu = named d.currents u.object (own_front d.currents d.rest own) here.is.start in
-      let size = size_of zu.0 u.object here.is.fields zu.1 here.is.stands in
-      let less : u.field < length (fields sealed zu.0) = subst (λ (n : ℕ). u.field < n) size here.is.within in
-      let one = stands_field_one d.stands z zu.0 at u.object i u.field (as_whole z at there) (as_whole zu.0 u.object zu.1) within less same in
-      let object : at ≡ u.object = same_Some at u.object (sym there ∙ ap (address_of d.currents) one.0 ∙ zu.1) in
-      cc (sym gray ∙ ap (contains k.gray) object ∙ off)
+-- Of a word that an active transaction wrote: what it sees there, and that this refers to nothing that remains but to what is kept.
+pub record IsSeenAt (K : Id → Type 0) (s : State) (k : Collection) (places remaining : Places) (words : List ℕ) (x : ℕ) : Type 0 where
+  pub t : ℕ
+  pub made : ℕ
+  pub seen : Graph
+  pub vs : List UndoEntry
+  pub backed : AreBacked places words vs
+  pub stands : StandsCompleted t made places remaining seen vs words s
+  pub unwritten : IsUnwritten vs x
+  pub leads : (z y : Id) (at i : ℕ) → address_of places z ≡ Some at → contains k.gray at ≡ true → x ≡ field_at at i → slice_get (fields seen z) i ≡ Some (Ref y) → is_some (address_of remaining y) ≡ true → K y
 
-  -- nor of one that was copied
-  apart_new : (at i : ℕ) (u : UndoEntry) → s.base + s.used ≤ at → IsHereWrite places words u.object u.field u.was → field_at at i ≢ field_at u.object u.field
-  apart_new at i u behind here same =
+-- What gray objects refer to that remains is kept, in the graph that the sealed transactions have left and in what those see that wrote there. What
+-- remains has the fields of a graph in which objects that are kept refer to such.
+pub record IsLed (K : Id → Type 0) (g sealed : Graph) (s : State) (k : Collection) (places remaining : Places) (words : List ℕ) (us : List UndoEntry) : Type 0 where
+  pub closed : (z y : Id) (i : ℕ) → K z → slice_get (fields g z) i ≡ Some (Ref y) → K y
+  pub rest : (z : Id) → is_some (address_of remaining z) ≡ true → fields sealed z ≡ fields g z
+  pub leads : (z y : Id) (at i : ℕ) → address_of places z ≡ Some at → contains k.gray at ≡ true → slice_get (fields sealed z) i ≡ Some (Ref y) → is_some (address_of remaining y) ≡ true → K y
+  pub written : (u : UndoEntry) → Contains us u → IsSeenAt K s k places remaining words (field_at u.object u.field)
+
+module _ (K : Id → Type 0) (g sealed : Graph) (s : State) (k : Collection) (places remaining : Places) (words : List ℕ) (us : List UndoEntry) (is0 : IsUnderway s k places remaining words) (backed : AreBacked places words us)
+    (stands : StandsCompleted 0 0 places remaining sealed us words s) (led : IsLed K g sealed s k places remaining words us) (q : Planned) (page : ℕ) (run : visit_all (spaces_of s) k words nothing (64 * page) 64 ≡ Some q)
+    (copies : AllByRecursion IsCopy q.copies) (referred : AreReferred q) where
+  -- the copies made, as a transaction sees them
+  made_by_scan : (t made : ℕ) (h : Graph) (vs : List UndoEntry) → AreBacked places words vs → StandsCompleted t made places remaining h vs words s
+      → IsDone s k places (underway is0).from.starts words (view_of t made h vs (placing_of places remaining)) q
+  made_by_scan t made h vs own seen =
+      (visits s k places remaining words (view_of t made h vs (placing_of places remaining)) nothing q (underway is0) (done_first s k places remaining words t made h vs is0 own seen) (64 * page) 64 run).goes.last
+
+  abbrev p : Placing
+  p = placing_of places remaining
+
+  -- no write that may be taken back is of a field of a copy
+  apart_new : (at i : ℕ) (u : UndoEntry) → s.base + s.used ≤ at → Contains us u → field_at at i ≢ field_at u.object u.field
+  apart_new at i u far has same =
+      let here = all_at (λ (v : UndoEntry). IsHereWrite places words v.object v.field v.was) us u backed has in
       let within = start_within is0.laid u.object here.is.start in
       let size : within.fields ≡ here.is.fields = same_Some within.fields here.is.fields (sym within.object ∙ here.is.stands) in
       let high = within.below in
       let less = here.is.within in
       omega arith
 
-  unwritten_old : (z : Id) (at i : ℕ) → address_of d.currents z ≡ Some at → i < length (fields sealed z) → contains k.gray at ≡ true → (vs : List UndoEntry) → AreBacked d.currents d.moved vs
-      → AllByRecursion (λ (u : UndoEntry). contains k.gray u.object ≡ false) vs → IsUnwritten vs (field_at at i)
-  unwritten_old z at i there within gray [] all off = tt
-  unwritten_old z at i there within gray (u ∷ vs) all off = (apart_old z at i u there within gray off.0 all.0, unwritten_old z at i there within gray vs all.1 off.1)
-
-  unwritten_new : (at i : ℕ) → s.base + s.used ≤ at → (vs : List UndoEntry) → AreBacked places words vs → IsUnwritten vs (field_at at i)
-  unwritten_new at i behind [] all = tt
-  unwritten_new at i behind (u ∷ vs) all = (apart_new at i u behind all.0, unwritten_new at i behind vs all.1)
-
-  module _ (stands : StandsCompleted 0 0 places remaining sealed us words s) (referred : AreReferred q) where
-    copied_reached : (bound : ℕ) → ((id : Id) (at : ℕ) → address_of d.currents id ≡ Some at → at < bound → is_some (address_of remaining id) ≡ true → Reached g id)
-        → (id : Id) (at : ℕ) → address_of d.currents id ≡ Some at → at < suc bound → WentThere (placing_of places remaining) q.copies id at → Reached g id
-    copied_reached bound below id at there low went =
-        let reference = referred_to q.writes q.copies at referred went.goes in
-        let w = all_at (IsLedWrite d.next d.currents d.moved) q.writes (reference.0, bits (word.Stable at)) d.writes reference.1 in
-        let same : at ≡ w.to = stable_one at w.to (sym (stable_here is d.is.small at (address_of-Contains d.currents id at there)) ∙ ap meaning w.names ∙ stable_here is d.is.small w.to w.leads) in
-        let z = named d.currents w.object (own_front d.currents d.rest own) w.is.start in
-        let size = size_of z.0 w.object w.is.fields z.1 w.is.stands in
-        let within : w.field < length (fields sealed z.0) = subst (λ (n : ℕ). w.field < n) size w.is.within in
-        let before = reference.2 in
-        let field = w.at in
-        let edge = λ (free : IsUnwritten us (field_at w.object w.field)). led_edge us is d.is.small d.stands w free z.0 id size (as_whole z.0 w.object z.1) (as_whole id w.to (there ∙ ap Some same)) in
-        elim (stood z.0 w.object z.1) [
-          | inl old ↦
-              let gray = old_gray z.0 w.object old (led_gray (reference.0, bits (word.Stable at)) w) in
-              tidy.leads z.0 id w.object w.field old gray (edge (unwritten_old z.0 w.object w.field z.1 within gray us d.backed tidy.unwritten)) went.left
-          | inr new ↦
-              let far = goes_behind s d.next q.copies w.object copies d.passes new.goes in
-              tidy.rest z.0 id w.field new.left (below z.0 w.object z.1 (omega arith) new.left) (edge (unwritten_new w.object w.field far us backed))
+  -- an object is kept that went to an address, if those are that went below
+  copied_kept : (bound : ℕ) → ((id : Id) (at : ℕ) → address_of (moved_by_all (placing_of places remaining) q.copies).places id ≡ Some at → at < bound → is_some (address_of remaining id) ≡ true → K id)
+      → (id : Id) (at : ℕ) → address_of (moved_by_all (placing_of places remaining) q.copies).places id ≡ Some at → at < suc bound → WentThere (placing_of places remaining) q.copies id at → K id
+  copied_kept bound below id at there low went =
+      let reference = referred_to q.writes q.copies at referred went.goes in
+      let before = reference.2 in
+      let d = made_by_scan 0 0 sealed us backed stands in
+      let f = led_from s k places remaining words is0 0 0 sealed us q d copies reference.0 at id reference.1 there in
+      let field = f.is in
+      elim (unwritten_or us reference.0) [
+        | inl free ↦ elim f.stood [
+          | inl old ↦ led.leads f.z id f.object f.field old.0 old.1 (f.refers free) went.left
+          | inr new ↦ led.closed f.z id f.field (below f.z f.object f.there (omega arith) new.left) (ap (λ (vs : List Val). slice_get vs f.field) (sym (led.rest f.z new.left)) ∙ f.refers free)
         ]
+        | inr wrote ↦
+            let v = led.written wrote.0 wrote.1 in
+            let e = made_by_scan v.t v.made v.seen v.vs v.backed v.stands in
+            let h = led_from s k places remaining words is0 v.t v.made v.seen v.vs q e copies reference.0 at id reference.1 there in
+            elim h.stood [
+              | inl old ↦ v.leads h.z id h.object h.field old.0 old.1 (sym wrote.2 ∙ h.is) (h.refers (subst (IsUnwritten v.vs) (sym wrote.2) v.unwritten)) went.left
+              | inr new ↦ absurd (apart_new h.object h.field wrote.0 (behind s k places remaining words is0 v.t v.made v.seen v.vs q e copies h.z h.object new) wrote.1 (sym h.is ∙ wrote.2))
+            ]
+      ]
 
-    new_reached : (bound : ℕ) → (id : Id) (at : ℕ) → address_of d.currents id ≡ Some at → at < bound → is_some (address_of remaining id) ≡ true → Reached g id
-    new_reached zero id at there low left = absurd (omega arith)
-    new_reached (suc bound) id at there low left = elim (stood id at there) [
-      | inl old ↦ absurd (some_none (own_apart places remaining id at (completed_own us (underway is0) stands) old) left)
-      | inr went ↦ copied_reached bound (new_reached bound) id at there low went
-    ]
+  new_kept : (bound : ℕ) → (id : Id) (at : ℕ) → address_of (moved_by_all (placing_of places remaining) q.copies).places id ≡ Some at → at < bound → is_some (address_of remaining id) ≡ true → K id
+  new_kept zero id at there low left = absurd (omega arith)
+  new_kept (suc bound) id at there low left = elim (old_or_left (placing_of places remaining) q.copies copies id at there) [
+    | inl old ↦ absurd (some_none (own_apart places remaining id at (completed_own us (underway is0) stands) old) left)
+    | inr went ↦ copied_kept bound (new_kept bound) id at there low went
+  ]
 
--- A scan of a page copies nothing but what is reached.
-pub scan_new : (s : State) (k : Collection) (places remaining : Places) (words : List ℕ) (g sealed : Graph) (us : List UndoEntry) (page : ℕ) (records : List Record) → (is : IsUnderway s k places remaining words) → AreBacked places words us
-    → StandsCompleted 0 0 places remaining sealed us words s → scan_records (spaces_of s) k words page ≡ Some records → IsTidy g sealed places remaining k us
-    → (id : Id) (at : ℕ) → address_of (moved_by_all (placing_of places remaining) records).places id ≡ Some at → (address_of places id ≡ Some at) ⊎ (Reached g id × (is_some (address_of remaining id) ≡ true))
-scan_new s k places remaining words g sealed us page records is backed stands planned tidy id at there =
+-- A scan of a page copies nothing but what is kept.
+pub scan_new : (K : Id → Type 0) (g sealed : Graph) (s : State) (k : Collection) (places remaining : Places) (words : List ℕ) (us : List UndoEntry) (page : ℕ) (records : List Record) → IsUnderway s k places remaining words → AreBacked places words us
+    → StandsCompleted 0 0 places remaining sealed us words s → scan_records (spaces_of s) k words page ≡ Some records → IsLed K g sealed s k places remaining words us
+    → (id : Id) (at : ℕ) → address_of (moved_by_all (placing_of places remaining) records).places id ≡ Some at → (address_of places id ≡ Some at) ⊎ (K id × (is_some (address_of remaining id) ≡ true))
+scan_new K g sealed s k places remaining words us page records is backed stands planned led id at there =
     let plan = planned_parts page (scan (spaces_of s) k words page) records planned in
     let q = plan.0 in
     let run = in_page (is_current (spaces_of s) page) (visit_all (spaces_of s) k words nothing (64 * page) 64) q plan.1 in
     let p = placing_of places remaining in
-    let first = done_first s k places remaining words sealed us is backed stands in
-    let d = (visits s k places remaining words (sealed_view sealed us p) nothing q (underway is) first (64 * page) 64 run).goes.last in
     let copies = planned_copies (spaces_of s) k words page q plan.1 in
     let referred = scan_refers (spaces_of s) k words page q (gray_apart (underway is)) run in
     let behind : address_of (moved_by_all p q.copies).places id ≡ Some at =
     ap (λ (x : Placing). address_of x.places id) (sym (fold-append moved_by p q.copies (record_of.Scan page q.writes ∷ []))) ∙ ap (λ (rs : List Record). address_of (moved_by_all p rs).places id) plan.2 ∙ there in
     elim (old_or_left p q.copies copies id at behind) [
       | inl old ↦ inl old
-      | inr went ↦ inr (new_reached s k places remaining words g sealed us is backed q d tidy copies stands referred (at + 1) id at (ap (λ (x : Placing). address_of x.places id) (sym d.placed) ∙ behind) (omega arith) went.left, went.left)
+      | inr went ↦ inr (new_kept K g sealed s k places remaining words us is backed stands led q page run copies referred (at + 1) id at behind (omega arith) went.left, went.left)
     ]
   where
     in_page : (t : Bool) (o : Option Planned) (q : Planned) → (if t then o else None) ≡ Some q → o ≡ Some q

@@ -29,12 +29,12 @@ use Rattle.heap_model.specs.Core.{Core, after, all_words, answer, placing}
 use Rattle.heap_model.proofs.Run.Calls.{same_run, same_step}
 use Rattle.core_laws.proofs.Step.Sound.{reached_agrees}
 use Rattle.core_laws.specs.Valid.{Agrees}
-use Rattle.limit_laws.specs.Copies.{ExactTheorem, copied_since, is_made_by, sealed_graph, sealed_since, words_of}
+use Rattle.limit_laws.specs.Copies.{ExactTheorem, IsIdle, copied_since, is_made_by, sealed_graph, sealed_since, words_of}
 use Rattle.limit_laws.proofs.Copies.Closed.{root_left}
 use Rattle.limit_laws.proofs.Copies.Disturbed.{some_none}
-use Rattle.limit_laws.proofs.Copies.Reached.{IsFollowed, copied_is, followed}
+use Rattle.limit_laws.proofs.Copies.Reached.{IsFollowed, copied_is, followed, idle_reached}
 use Rattle.limit_laws.proofs.Copies.Running.{IsPlaced}
-use Rattle.limit_laws.proofs.Copies.Undisturbed.{EndsWith, end_of_scan}
+use Rattle.limit_laws.proofs.Copies.Begun.{EndsWith, end_of_scan}
 use Rattle.limit_laws.proofs.Progress.Scans.{nothing_gray}
 
 -- Sizes.
@@ -95,7 +95,7 @@ not_left : (p : Placing) (id : Id) → IsPlaced p id → address_of p.remaining 
 not_left p id (inl here) none = here
 not_left p id (inr left) none = absurd (some_none none left)
 
-module _ (c d : Core) (b : IsFollowed c (sealed_graph c) d) (used : ℕ) (end : EndsWith (reached_agrees d b.reached).behind used) where
+module _ (c d : Core) (b : IsFollowed c d) (idle : IsIdle c) (used : ℕ) (end : EndsWith (reached_agrees d b.reached).behind used) where
   abbrev copies : Placing
   copies = placing_of (moved_by_all (placing c) b.more).places d.remaining
 
@@ -103,13 +103,13 @@ module _ (c d : Core) (b : IsFollowed c (sealed_graph c) d) (used : ℕ) (end : 
   none_left : (id : Id) → Reached (sealed_graph c) id → address_of d.remaining id ≡ None
   none_left id at_root = root_left _ d (reached_agrees d b.reached) end.collection end.runs
   none_left id (along {id = z} i to reached refers) =
-      let copied = not_left copies z (b.closed.reached end.collection end.runs z reached) (none_left z reached) in
+      let copied = not_left copies z ((b.closed idle).reached end.collection end.runs z reached) (none_left z reached) in
       let at = some_address (address_of copies.places z) copied in
-      b.closed.black end.collection end.runs z to at.0 i at.1 (nothing_gray end.collection end.black at.0) refers
+      (b.closed idle).black end.collection end.runs z to at.0 i at.1 (nothing_gray end.collection end.black at.0) refers
 
   -- so all of it is copied
   all_copied : (id : Id) → Reached (sealed_graph c) id → is_some (address_of (moved_by_all (placing c) b.more).places id) ≡ true
-  all_copied id reached = not_left copies id (b.closed.reached end.collection end.runs id reached) (none_left id reached)
+  all_copied id reached = not_left copies id ((b.closed idle).reached end.collection end.runs id reached) (none_left id reached)
 
   -- the used words are those of what was copied and of what became stable
   used_words : d.g0 ≡ c.g0 → used ≡ words_of (sealed_graph c) (moved_by_all (placing c) b.more).places + words_of (sealed_graph d) (filter (λ p. is_made_by b.ts p.0) d.places)
@@ -127,18 +127,18 @@ module _ (c d : Core) (b : IsFollowed c (sealed_graph c) d) (used : ℕ) (end : 
 -- What a collection copies is just what is reached.
 pub exact_law : ExactTheorem
 exact_law c d events objects words used reached idle flips of run none is =
-    let b = followed c d events objects words reached idle flips of run none in
+    let b = followed c d events objects words reached flips of run none in
     let end = end_of_scan _ d (reached_agrees d b.reached) used is in
-    let places = copied_is c (sealed_graph c) d b in
+    let places = copied_is c d b in
     let since : sealed_since c d ≡ b.ts = ap (drop (length (account c.history).sealed)) b.since ∙ drop-append_seam (account c.history).sealed b.ts in
     let opening : d.g0 ≡ c.g0 = (same_run (after c Flip) d events run).g0 ∙ (same_step c (after c Flip) Flip (answer c Flip) (inl (refl, refl))).g0 in
     record {
       exactly = λ id. (
-        λ there. let at = some_address (address_of (copied_since c d) id) there in b.copied id at.0 (ap (λ (ps : Places). address_of ps id) (sym places) ∙ at.1),
-        λ reaches. ap (λ (ps : Places). is_some (address_of ps id)) places ∙ all_copied c d b used end id reaches,
+        λ there. let at = some_address (address_of (copied_since c d) id) there in idle_reached c idle id (b.copied id at.0 (ap (λ (ps : Places). address_of ps id) (sym places) ∙ at.1)),
+        λ reaches. ap (λ (ps : Places). is_some (address_of ps id)) places ∙ all_copied c d b idle used end id reaches,
       );
       words =
-          used_words c d b used end opening
+          used_words c d b idle used end opening
           ∙ ap (λ (ps : Places). words_of (sealed_graph c) ps + words_of (sealed_graph d) (filter (λ p. is_made_by b.ts p.0) d.places)) (sym places)
           ∙ ap (λ (ts : List Transaction). words_of (sealed_graph c) (copied_since c d) + words_of (sealed_graph d) (filter (λ p. is_made_by ts p.0) d.places)) (sym since);
     }

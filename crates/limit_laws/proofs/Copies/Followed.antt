@@ -4,7 +4,6 @@ use Rattle.std.specs.Prelude.{not, ◌==◌}
 use Rattle.std.specs.List.{AllByRecursion}
 use Rattle.std.proofs.lemmas.List.{append-nil}
 use Rattle.graph_model.specs.declared.id.Id.{Id}
-use Rattle.graph_model.specs.Graph.{Graph}
 use Rattle.log_records.specs.declared.Record.{Record}
 use Rattle.log_records.specs.declared.Record.TheVariants.{Update, Base, Fix, Undo, Commit, End, Copy, Scan, Flip, Collected}
 use Rattle.graph_words.specs.Places.{Places, address_of}
@@ -14,7 +13,7 @@ use Rattle.collection_words.specs.Placed.{HaveOwnNames}
 use Rattle.collection_words.specs.Placing.{Placing, moved_by, moved_by_all, placing_of, put_at}
 use Rattle.heap_model.specs.Core.{Core}
 use Rattle.limit_laws.proofs.Copies.Disturbed.{kept_some, own_apart, put_some, some_none}
-use Rattle.limit_laws.proofs.Copies.Scans.{AllReached, address_cases}
+use Rattle.limit_laws.proofs.Copies.Scans.{AreKept, address_cases}
 use Rattle.limit_laws.proofs.Copies.Steps.{NewIn}
 use Rattle.limit_laws.proofs.Events.Kinds.{IsNoFlip, IsOfTransaction}
 
@@ -78,9 +77,9 @@ new_left p (Commit t ∷ rs) all id at is = new_left p rs all.1 id at is
 new_left p (End t ∷ rs) all id at is = new_left p rs all.1 id at is
 new_left p (Scan page writes ∷ rs) all id at is = new_left p rs all.1 id at is
 
--- What they add to a core is reached: so is what they add to whichever objects, by the same that remain.
-pub more_reached : (g : Graph) (e : Core) (P : Places) (rs : List Record) → AllByRecursion IsNoFlip rs → HaveOwnNames (e.places ++ e.remaining) → NewIn g e rs → AllReached g P → AllReached g (moved_by_all (placing_of P e.remaining) rs).places
-more_reached g e P rs plain own new old id at is =
+-- What they add to a core is kept: so is what they add to whichever objects, by the same that remain.
+pub more_kept : (K : Id → Type 0) (e : Core) (P : Places) (rs : List Record) → AllByRecursion IsNoFlip rs → HaveOwnNames (e.places ++ e.remaining) → NewIn K e rs → AreKept K P → AreKept K (moved_by_all (placing_of P e.remaining) rs).places
+more_kept K e P rs plain own new old id at is =
     let N = (moved_by_all (placing_of [] e.remaining) rs).places in
     let there = ap (λ (ps : Places). address_of ps id) (sym (parted P e.remaining rs plain).places) ∙ is in
     elim (address_cases P N id at there) [
@@ -91,7 +90,7 @@ more_reached g e P rs plain own new old id at is =
           let here = ap (λ (ps : Places). address_of ps id) ((parted e.places e.remaining rs plain).places) ∙ address_of-append_right e.places N id gone ∙ added in
           elim (new id at here) [
             | inl was ↦ let clash = sym gone ∙ was in absurd (cc clash)
-            | inr reached ↦ reached.0
+            | inr kept ↦ kept.0
           ]
     ]
   where

@@ -1,5 +1,5 @@
 -- Which exclusive locks an event adds: a write's, of an object that is not gray behind its barrier.
-use Rattle.std.proofs.Common.{◌≡◌, ◌⊎◌, inl, inr, ℕ, ◌+◌, ◌≤◌, false, List, [], ◌∷◌, ◌++◌, Option, None, Some, refl, sym, ap, ◌∙◌, subst, arith, append_assoc}
+use Rattle.std.proofs.Common.{◌≡◌, ◌≢◌, inl, inr, ℕ, ◌+◌, ◌≤◌, false, List, [], ◌∷◌, ◌++◌, Option, None, Some, refl, sym, ap, ◌∙◌, subst, arith, append_assoc}
 use Rattle.std.specs.Prelude.{Contains}
 use Rattle.std.specs.List.{AllByRecursion}
 use Rattle.std.specs.Option.{option_map, option_to_list}
@@ -12,15 +12,19 @@ use Rattle.graph_model.specs.declared.id.Id.{Id}
 use Rattle.graph_model.specs.History.{Account, account, session_of, with_call}
 use Rattle.graph_model.specs.Locking.{Exclusive, Lock, Mode, Shared, in_mode, lock_of, lock_on, locks_of}
 use Rattle.graph_model.specs.Plain.{view}
-use Rattle.graph_model.specs.Transaction.{IsCall, Registers, Transaction, fresh_view, held, serial}
-use Rattle.commit_order.proofs.CallLaws.{Contains-option}
-use Rattle.commit_order.proofs.LockingLaws.{locks_of_calls-append}
+use Rattle.graph_model.specs.Graph.{fields}
+use Rattle.graph_model.specs.Transaction.{IsCall, Registers, Transaction, View, fresh_view, held, run, serial}
+use Rattle.graph_model.proofs.Runs.History.{run-append}
+use Rattle.commit_order.proofs.CallLaws.{Contains-Some, Contains-option, fields-call}
+use Rattle.commit_order.proofs.LockingLaws.{exclusive_or_not, locks_of_calls-append}
 use Rattle.heap_spaces.specs.Collection.{Collection}
 use Rattle.log_records.specs.declared.Record.{Record}
 use Rattle.log_machine.specs.Machine.{State, after_all}
+use Rattle.log_machine.proofs.ListLaws.{AllByRecursion-map}
 use Rattle.log_machine.proofs.MachineLaws.{after_all-append2}
 use Rattle.gated_log.specs.Log.{records_of}
 use Rattle.graph_words.specs.Places.{address_of}
+use Rattle.graph_words.proofs.Places.Addresses.{some_address}
 use Rattle.collection_words.specs.LaidOut.{is_gray}
 use Rattle.collection_words.specs.Placing.{moved_by_all}
 use Rattle.collection_words.proofs.Laid.Within.{placed_within}
@@ -28,9 +32,11 @@ use Rattle.heap_model.specs.Core.{Core, all_records, barrier_records, call_barri
 use Rattle.heap_model.proofs.Step.Moved.{moved_is}
 use Rattle.core_laws.proofs.Collecting.Behind.{agrees_roomy, behind, black_call, roomy}
 use Rattle.core_laws.proofs.Collecting.Events.{barrier_kept}
+use Rattle.core_laws.proofs.Step.Goes.{writing_of}
 use Rattle.core_laws.specs.Valid.{Agrees, IsValid}
-use Rattle.limit_laws.proofs.Copies.Steps.{WasHeld}
-use Rattle.limit_laws.proofs.Events.Kinds.{IsNoFlip}
+use Rattle.limit_laws.proofs.Copies.Followed.{new_left}
+use Rattle.limit_laws.proofs.Copies.Steps.{BlackOrHeld, not_made}
+use Rattle.limit_laws.proofs.Events.Kinds.{IsNoFlip, IsOfScan, barrier_of_scan, no_flip_scan}
 use Rattle.limit_laws.proofs.Progress.Black.{black_after_all}
 
 -- What is written is not gray.
@@ -86,29 +92,49 @@ module _ (e : Core) (valid : IsValid e) (n : State) where
   call_black (Get s h i h2) t z at is active lock follows plain there = let never = (locked_held (view e.g0 a t).registers h Shared z lock).1 in absurd (cc never)
   call_black event t z at is active lock follows plain there = absurd (cc lock)
 
-  -- A lock of a session is new and its object not gray, or was held before.
-  abbrev pub HeldOrBlack : Id → ℕ → Type 0
-  HeldOrBlack z at = ((k : Collection) → n.collection ≡ Some k → contains k.gray at ≡ false) ⊎ WasHeld (account e.history) (serial e.g0 (account e.history).sealed) z
-
   -- after a call
   abbrev pub OfSession : ℕ → Option Transaction → Type 0
-  OfSession r o = (t : Transaction) (z : Id) (at : ℕ) → o ≡ Some t → Contains (locks_of (serial e.g0 (account e.history).sealed) t) (z, Exclusive)
-      → ((k : Collection) → n.collection ≡ Some k → contains k.gray at ≡ false) ⊎ WasHeld (account e.history) (serial e.g0 (account e.history).sealed) z
+  OfSession r o = (t : Transaction) (z : Id) (at : ℕ) → o ≡ Some t → Contains (locks_of (serial e.g0 (account e.history).sealed) t) (z, Exclusive) → BlackOrHeld (account e.history) (serial e.g0 (account e.history).sealed) n t z at
 
   pub held_still : (r : ℕ) → OfSession r (a.active r)
-  held_still r t z at active lock = inr (record { session = r; transaction = t; active = active; lock = lock })
+  held_still r t z at active lock = inr (record { session = r; transaction = t; active = active; lock = lock; sees = refl })
+
+  -- a call leaves what its transaction sees of an object of others that it does not lock
+  still_seen : (event : Event) (t : Transaction) (z : Id) (at : ℕ) → a.active (session_of event) ≡ Some t → address_of (moved_by_all (placing e) (barrier_records e event)).places z ≡ Some at
+      → (lock_of (view e.g0 a t).registers event ≡ Some (z, Exclusive) → ⊥)
+      → fields (run (serial e.g0 (account e.history).sealed) t).graph z ≡ fields (run (serial e.g0 (account e.history).sealed) (record { number = t.number; calls = t.calls ++ event ∷ [] })).graph z
+  still_seen event t z at active there free =
+      let g = serial e.g0 (account e.history).sealed in
+      let w = writing_of a e (session_of event) t active valid in
+      let rs = barrier_records e event in
+      let plain = AllByRecursion-map IsOfScan IsNoFlip rs no_flip_scan (barrier_of_scan e event) in
+      let others : z.t ≢ t.number = elim (new_left (placing e) rs plain z at there) [
+        | inl old ↦ not_made t e.places z at w.made.apart old
+        | inr left ↦ let to = some_address (address_of e.remaining z) left in not_made t e.remaining z to.0 w.apart to.1
+      ] in
+      sym (ap (λ (v : View). fields v.graph z) (run-append g t event) ∙ fields-call (run g t) t.number event z others free)
 
   pub own_call : (event : Event) → IsCall event → after_all valid.behind (event_records e event) ≡ Some n → AllByRecursion IsNoFlip (own_records e event) → (o : Option Transaction) → a.active (session_of event) ≡ o
       → (t : Transaction) (z : Id) (at : ℕ) → with_call o event ≡ Some t → Contains (locks_of (serial e.g0 (account e.history).sealed) t) (z, Exclusive) → address_of (moved_by_all (placing e) (barrier_records e event)).places z ≡ Some at
-      → ((k : Collection) → n.collection ≡ Some k → contains k.gray at ≡ false) ⊎ WasHeld (account e.history) (serial e.g0 (account e.history).sealed) z
+      → BlackOrHeld (account e.history) (serial e.g0 (account e.history).sealed) n t z at
   own_call event is follows plain None active t z at now lock there = absurd (cc now)
   own_call event is follows plain (Some t0) active t z at now lock there =
       let g = serial e.g0 (account e.history).sealed in
       let later : Transaction = record { number = t0.number; calls = t0.calls ++ event ∷ [] } in
       let same : later ≡ t = same_Some later t now in
+      let asks = option_to_list (lock_of (view e.g0 a t0).registers event) in
       let held_now = subst (λ (x : Transaction). Contains (locks_of g x) (z, Exclusive)) (sym same) lock in
       let parts = subst (λ (ls : List Lock). Contains ls (z, Exclusive)) (locks_of_calls-append (fresh_view g) t0.number t0.calls event) held_now in
-      elim (Contains-append_cases (locks_of g t0) (option_to_list (lock_of (view e.g0 a t0).registers event)) (z, Exclusive) parts) [
-        | inl old ↦ inr (record { session = session_of event; transaction = t0; active = active; lock = old })
-        | inr new ↦ inl (call_black event t0 z at is active (Contains-option (lock_of (view e.g0 a t0).registers event) (z, Exclusive) new) follows plain there)
+      elim (exclusive_or_not asks z) [
+        | inl new ↦ inl (call_black event t0 z at is active (Contains-option (lock_of (view e.g0 a t0).registers event) (z, Exclusive) new) follows plain there)
+        | inr free ↦ elim (Contains-append_cases (locks_of g t0) asks (z, Exclusive) parts) [
+          | inl old ↦ inr (record {
+            session = session_of event;
+            transaction = t0;
+            active = active;
+            lock = old;
+            sees = still_seen event t0 z at active there (λ asked. free (Contains-Some (lock_of (view e.g0 a t0).registers event) (z, Exclusive) asked)) ∙ ap (λ (x : Transaction). fields (run g x).graph z) same;
+          })
+          | inr new ↦ absurd (free new)
+        ]
       ]

@@ -1,27 +1,20 @@
--- A collection that no session disturbs.
-use Rattle.std.proofs.Common.{◌≡◌, ℕ, Bool, true, false, List, [], ◌∷◌, Option, None, Some, refl, sym, ap, subst}
-use Rattle.std.specs.Prelude.{if◌then◌else◌, unwrap_or}
+-- Events of no session.
+use Rattle.std.proofs.Common.{◌≡◌, ℕ, Bool, true, false, List, [], ◌∷◌, Option, None, Some, refl, ap}
+use Rattle.std.specs.Prelude.{if◌then◌else◌}
 use Rattle.graph_model.specs.declared.event.Event.{Event}
 use Rattle.graph_model.specs.declared.event.Event.TheVariants.{Force, Flip, Scan, Flush}
 use Rattle.graph_model.specs.declared.reply.Refusal.{Refusal}
 use Rattle.graph_model.specs.declared.reply.Refusal.TheVariants.{DiskFault, Stopped}
 use Rattle.graph_model.specs.declared.reply.Reply.TheVariants as reply
-use Rattle.graph_model.specs.Graph.{Graph}
 use Rattle.graph_model.specs.History.{Account, account, account_after, IsOfSession}
-use Rattle.graph_model.specs.Transaction.{serial}
 use Rattle.heap_spaces.specs.Collection.{Collection}
 use Rattle.log_records.specs.declared.Record.{Record}
-use Rattle.log_machine.specs.Machine.{State, spaces_of}
-use Rattle.collection_words.specs.Placing.{Placing, moved_by_all}
-use Rattle.page_scanner.specs.Scan.{scan_records}
-use Rattle.heap_model.specs.Collecting.{flip_reply, next_page, page_records_of, scan_event_records, scan_records_in, scan_reply, scan_reply_in}
-use Rattle.heap_model.specs.Core.{Core, all_words, done, event_records, forced, forced_if, granted_by, ground, is_ahead, is_dirty, moved, own_records, page_stored, placing}
+use Rattle.log_machine.specs.Machine.{State}
+use Rattle.collection_words.specs.Placing.{moved_by_all}
+use Rattle.heap_model.specs.Collecting.{flip_reply, next_page, scan_reply, scan_reply_in}
+use Rattle.heap_model.specs.Core.{Core, done, event_records, forced, forced_if, granted_by, ground, is_ahead, is_dirty, moved, own_records, page_stored, placing}
 use Rattle.heap_model.proofs.Step.Moved.{moved_is}
-use Rattle.core_laws.specs.Valid.{Agrees}
 use Rattle.limit_laws.specs.Copies.{IsOfNone}
-use Rattle.limit_laws.specs.Progress.{BeginsNone}
-use Rattle.limit_laws.proofs.Copies.Idle.{HasNoActive, idle_stands}
-use Rattle.limit_laws.proofs.Copies.Scans.{AllReached, scan_reached}
 
 -- The account.
 
@@ -91,8 +84,6 @@ place_done c Flip is = place_moved c (own_records c Flip)
 place_done c Scan is = place_moved c (own_records c Scan)
 place_done c event is = absurd is
 
--- What is reached.
-
 -- an event of no session is one of a session, or of none
 pub of_none : (event : Event) → IsOfNone event → IsOfSession event
 of_none Force is = tt
@@ -100,36 +91,3 @@ of_none Flip is = tt
 of_none Scan is = tt
 of_none (Flush p) is = tt
 of_none event is = absurd is
-
--- these records leave what stands in the current space reached
-abbrev KeepReached : Graph → Placing → List Record → Type 0
-KeepReached g p rs = AllReached g p.places → AllReached g (moved_by_all p rs).places
-
-page_reached : (a : Account) (c : Core) (h : Agrees a c) → HasNoActive a → (k : Collection) (page : ℕ) → h.behind.collection ≡ Some k → (o : Option (List Record)) → scan_records (spaces_of h.behind) k (all_words c) page ≡ o
-    → KeepReached (serial c.g0 a.sealed) (placing c) (unwrap_or o [])
-page_reached a c h none k page run None is old = old
-page_reached a c h none k page run (Some records) is old =
-    let heap = h.told.heap in
-    scan_reached h.behind k c.places c.remaining (all_words c) (serial c.g0 a.sealed) page records (record { run = run; spaced = heap.spaced; long = heap.long; small = heap.small; laid = heap.laid })
-    (idle_stands a c h none) is old
-
-scan_in_reached : (a : Account) (c : Core) (h : Agrees a c) → HasNoActive a → (o : Option Collection) (page : Option ℕ) → h.behind.collection ≡ o → KeepReached (serial c.g0 a.sealed) (placing c) (scan_records_in h.behind (all_words c) o page)
-scan_in_reached a c h none None page run old = old
-scan_in_reached a c h none (Some k) None run old = old
-scan_in_reached a c h none (Some k) (Some page) run old =
-    subst (λ (o : Option Collection). AllReached (serial c.g0 a.sealed) (moved_by_all (placing c) (unwrap_or (page_records_of (spaces_of h.behind) (all_words c) page o) [])).places) (sym run)
-    (page_reached a c h none k page run (scan_records (spaces_of h.behind) k (all_words c) page) refl old)
-
-flip_in_reached : (g : Graph) (p : Placing) (rs : List Record) → BeginsNone (flip_reply rs) → KeepReached g p rs
-flip_in_reached g p [] none old = old
-flip_in_reached g p (r ∷ rs) none old = absurd none
-
--- an event of no session that begins no collection
-pub event_reached : (a : Account) (c : Core) (h : Agrees a c) → HasNoActive a → (event : Event) → IsOfNone event → BeginsNone (granted_by c event) → KeepReached (serial c.g0 a.sealed) (placing c) (event_records c event)
-event_reached a c h none Force is begins old = old
-event_reached a c h none (Flush p) is begins old = old
-event_reached a c h none Flip is begins old = flip_in_reached (serial c.g0 a.sealed) (placing c) (own_records c Flip) begins old
-event_reached a c h none Scan is begins old =
-    subst (λ (o : Option State). AllReached (serial c.g0 a.sealed) (moved_by_all (placing c) (scan_event_records o (all_words c))).places) (sym h.told.reached)
-    (scan_in_reached a c h none h.behind.collection (next_page h.behind.collection) refl old)
-event_reached a c h none event is begins old = absurd is

@@ -1,12 +1,13 @@
--- A seal leaves a core tidy, and makes stable what its transaction made.
+-- What a seal leaves of a core while a collection is under way, and that it makes stable what its transaction made.
 use Rattle.std.proofs.Common.{◌≡◌, ◌≢◌, ◌⊎◌, inl, inr, ℕ, true, false, List, [], ◌∷◌, ◌++◌, Option, None, Some, is_some, refl, sym, ap, ◌∙◌, subst}
-use Rattle.std.specs.Prelude.{◌||◌, Contains}
+use Rattle.std.specs.Prelude.{◌||◌, Contains, slice_get}
 use Rattle.std.specs.List.{AllByRecursion}
 use Rattle.std.specs.FinSet.{contains}
 use Rattle.std.specs.Option.{option_to_list}
 use Rattle.std.proofs.lemmas.Bool.{eq-eqb, ne_eqb}
 use Rattle.std.proofs.lemmas.Option.{same_Some}
 use Rattle.graph_model.specs.declared.id.Id.{Id}
+use Rattle.graph_model.specs.declared.val.Val.{Val}
 use Rattle.graph_model.specs.Graph.{Graph, fields}
 use Rattle.graph_model.specs.History.{Account, account, account_after}
 use Rattle.graph_model.specs.declared.event.Event.TheVariants.{Seal}
@@ -16,13 +17,13 @@ use Rattle.graph_model.specs.Locking.{Exclusive, Lock, locks_of}
 use Rattle.graph_model.specs.Transaction.{Transaction, run, serial}
 use Rattle.commit_order.specs.Heard.{Heard, heard_in}
 use Rattle.commit_order.specs.SerialOrder.{numbers_begun}
-use Rattle.commit_order.proofs.LockingLaws.{fields-run, locks_of-other, runs_alike}
+use Rattle.commit_order.proofs.LockingLaws.{exclusive_or_not, fields-run, locks_of-other, runs_alike}
 use Rattle.commit_order.proofs.OrderLaws.{IsOrdered}
 use Rattle.heap_spaces.specs.Collection.{Collection}
 use Rattle.log_records.specs.declared.Record.{Record}
 use Rattle.log_machine.specs.Machine.{State, after_all, losing}
 use Rattle.log_machine.proofs.MachineLaws.{after_all-append2}
-use Rattle.graph_words.specs.Places.{Places, address_of, made_by}
+use Rattle.graph_words.specs.Places.{Places, address_of}
 use Rattle.graph_words.proofs.Places.Addresses.{address_of-one, some_address}
 use Rattle.graph_words.proofs.Seal.Places.{address_of-append_left, address_of-append_right}
 use Rattle.collection_words.specs.Completed.{future}
@@ -44,11 +45,12 @@ use Rattle.limit_laws.specs.Copies.{is_made_by}
 use Rattle.limit_laws.proofs.Copies.Counted.{Seals, all_named}
 use Rattle.limit_laws.proofs.Copies.Disturbed.{own_apart, some_none}
 use Rattle.limit_laws.proofs.Copies.Running.{IsPlaced}
-use Rattle.limit_laws.proofs.Copies.Steps.{true_false}
-use Rattle.limit_laws.proofs.Copies.Tidy.{KeepsTidy, StaysTidy}
+use Rattle.limit_laws.proofs.Copies.Led.{HasLed, StaysLed}
+use Rattle.limit_laws.proofs.Copies.Steps.{not_made, true_false}
+use Rattle.limit_laws.proofs.Copies.Tidy.{GraysHave, KeepsTidy, StaysTidy}
 
 -- What a seal leaves of a core: the same collection, the current objects and those that it made stable.
-pub record IsSealedTo (g : Graph) (a b : Account) (e f : Core) (s n : State) (session : ℕ) (t : Transaction) : Type 0 where
+pub record IsSealedTo (a b : Account) (e f : Core) (s n : State) (session : ℕ) (t : Transaction) : Type 0 where
   pub graph : serial f.g0 b.sealed ≡ (run (serial e.g0 a.sealed) t).graph
   pub collection : n.collection ≡ s.collection
   pub gray : (k : Collection) → s.collection ≡ Some k → (z : Id) (at : ℕ) → address_of f.places z ≡ Some at → contains k.gray at ≡ true → address_of e.places z ≡ Some at
@@ -56,54 +58,94 @@ pub record IsSealedTo (g : Graph) (a b : Account) (e f : Core) (s n : State) (se
   pub remaining : f.remaining ≡ e.remaining
   pub others : (r : ℕ) (u : Transaction) → b.active r ≡ Some u → (session ≢ r) × (a.active r ≡ Some u)
 
--- an object that has a place where none of the transaction has one is another's
-not_made : (t : Transaction) (ps : Places) (z : Id) (at : ℕ) → ((k : ℕ) → address_of ps (made_by t.number k) ≡ None) → address_of ps z ≡ Some at → z.t ≢ t.number
-not_made t ps z at apart there same = let clash = sym (apart z.k) ∙ ap (λ (m : ℕ). address_of ps (made_by m z.k)) (sym same) ∙ there in cc clash
-
-module _ (g : Graph) (a b : Account) (e f : Core) (h : Agrees a e) (n : State) (session : ℕ) (t : Transaction) (active : a.active session ≡ Some t) {numbers : List ℕ} {heard : Heard} (o : IsOrdered e.g0 numbers a heard)
-    (to : IsSealedTo g a b e f h.behind n session t) (tidy : KeepsTidy g a e h.behind) where
+module _ (K : Id → Type 0) (g : Graph) (a b : Account) (e f : Core) (h : Agrees a e) (n : State) (session : ℕ) (t : Transaction) (active : a.active session ≡ Some t) {numbers : List ℕ} {heard : Heard} (o : IsOrdered e.g0 numbers a heard)
+    (to : IsSealedTo a b e f h.behind n session t) (has : HasLed K g a e h) where
   abbrev before : Graph
   before = serial e.g0 a.sealed
 
-  -- it did not make an object that is gray or remains, nor lock it, so that has the fields that it had
-  gray_fields : (k : Collection) → h.behind.collection ≡ Some k → (z : Id) (at : ℕ) → address_of e.places z ≡ Some at → contains k.gray at ≡ true → fields (serial f.g0 b.sealed) z ≡ fields g z
-  gray_fields k run z at there gray =
-      let w = writing_of a e session t active h in
-      let free = λ (lock : Contains (locks_of before t) (z, Exclusive)). true_false gray (tidy.black k run session t z at active lock there) in
-      ap (λ (x : Graph). fields x z) to.graph ∙ fields-run before t z (not_made t e.places z at w.made.apart there) free ∙ tidy.kept.gray k run z at there gray
+  -- it made no current object, and none that remains
+  others_current : (z : Id) (at : ℕ) → address_of e.places z ≡ Some at → z.t ≢ t.number
+  others_current z at there = not_made t e.places z at (writing_of a e session t active h).made.apart there
 
+  still_left : (y : Id) → is_some (address_of f.remaining y) ≡ true → is_some (address_of e.remaining y) ≡ true
+  still_left y left = ap (λ (ps : Places). is_some (address_of ps y)) (sym to.remaining) ∙ left
+
+  -- what it did not lock has the fields that it had
+  free_fields : (z : Id) → z.t ≢ t.number → (Contains (locks_of (serial e.g0 a.sealed) t) (z, Exclusive) → ⊥) → fields (serial f.g0 b.sealed) z ≡ fields (serial e.g0 a.sealed) z
+  free_fields z others free = ap (λ (x : Graph). fields x z) to.graph ∙ fields-run before t z others free
+
+  -- so has what remains
   rest_fields : (z : Id) → is_some (address_of e.remaining z) ≡ true → fields (serial f.g0 b.sealed) z ≡ fields g z
   rest_fields z left =
       let w = writing_of a e session t active h in
       let at = some_address (address_of e.remaining z) left in
-      let free = λ (lock : Contains (locks_of before t) (z, Exclusive)). some_none (all_at (λ (l : Lock). address_of e.remaining l.0 ≡ None) (locks_of before t) (z, Exclusive) w.unlocked lock) left in
-      ap (λ (x : Graph). fields x z) to.graph ∙ fields-run before t z (not_made t e.remaining z at.0 w.apart at.1) free ∙ tidy.kept.rest z left
+      free_fields z (not_made t e.remaining z at.0 w.apart at.1) (λ lock. some_none (all_at (λ (l : Lock). address_of e.remaining l.0 ≡ None) (locks_of before t) (z, Exclusive) w.unlocked lock) left)
+      ∙ has.led.rest z left
 
-  pub tidy_sealed : StaysTidy g b e f h.behind n
-  tidy_sealed = record {
-    kept = record { gray = gray_fields; rest = rest_fields };
+  -- What another transaction holds and sees it held and saw.
+  record SawBefore (r : ℕ) (u : Transaction) (z : Id) : Type 0 where
+    active_before : a.active r ≡ Some u
+    lock : Contains (locks_of (serial e.g0 a.sealed) u) (z, Exclusive)
+    sees : (at : ℕ) → address_of e.places z ≡ Some at → fields (run (serial f.g0 b.sealed) u).graph z ≡ fields (run (serial e.g0 a.sealed) u).graph z
+    others : z.t ≢ t.number
+
+  saw_before : (r : ℕ) (u : Transaction) (z : Id) → b.active r ≡ Some u → Contains (locks_of (serial f.g0 b.sealed) u) (z, Exclusive) → SawBefore r u z
+  saw_before r u z now lock =
+      let also = to.others r u now in
+      let beside = o.beside session r t u also.0 active also.1 in
+      let differ = λ (same : u.number ≡ t.number). beside.differ (sym same) in
+      let alike = runs_alike before t u o.closed differ (o.unused session t active) beside.apart in
+      let held = subst (λ (ls : List Lock). Contains ls (z, Exclusive)) (sym alike.locks) (subst (λ (x : Graph). Contains (locks_of x u) (z, Exclusive)) to.graph lock) in
+      record {
+        active_before = also.1;
+        lock = held;
+        sees = λ at there. ap (λ (x : Graph). fields (run x u).graph z) to.graph ∙ sym (alike.views.objects z (others_current z at there) (λ mine. beside.apart z Exclusive Exclusive mine held refl));
+        others = locks_of-other before u t.number z Exclusive o.closed differ (o.unused session t active) held;
+      }
+
+  pub led_sealed : StaysLed K g b e f n
+  led_sealed = record {
+    rest = rest_fields;
+    led = record {
+      rest = λ z left. rest_fields z (still_left z left);
+      leads = λ k run_is z y at i there gray refers left.
+          let was = sym to.collection ∙ run_is in
+          let old = to.gray k was z at there gray in
+          elim (exclusive_or_not (locks_of before t) z) [
+            | inl lock ↦ has.led.seen k was session t z y at i active lock old gray (ap (λ (x : Graph). slice_get (fields x z) i) (sym to.graph) ∙ refers) (still_left y left)
+            | inr free ↦ has.led.leads k was z y at i old gray (ap (λ (vs : List Val). slice_get vs i) (sym (free_fields z (others_current z at old) free)) ∙ refers) (still_left y left)
+          ];
+      seen = λ k run_is r u z y at i now lock there gray refers left.
+          let was = sym to.collection ∙ run_is in
+          let old = to.gray k was z at there gray in
+          let saw = saw_before r u z now lock in
+          has.led.seen k was r u z y at i saw.active_before saw.lock old gray (ap (λ (vs : List Val). slice_get vs i) (sym (saw.sees at old)) ∙ refers) (still_left y left);
+    };
+  }
+
+  -- of a core that is tidy, gray objects too
+  gray_fields : KeepsTidy g a e h.behind → GraysHave g (serial f.g0 b.sealed) e h.behind
+  gray_fields tidy k run_is z at there gray =
+      free_fields z (others_current z at there) (λ lock. true_false gray (tidy.black k run_is session t z at active lock there)) ∙ tidy.grays k run_is z at there gray
+
+  pub tidy_sealed : KeepsTidy g a e h.behind → StaysTidy g b e f h.behind n
+  tidy_sealed tidy = record {
+    grays = gray_fields tidy;
     tidy = record {
-      kept = record {
-        gray = λ k run z at there gray. let was = sym to.collection ∙ run in gray_fields k was z at (to.gray k was z at there gray) gray;
-        rest = λ z left. rest_fields z (ap (λ (ps : Places). is_some (address_of ps z)) (sym to.remaining) ∙ left);
-      };
-      gray = λ k run z at there gray. let was = sym to.collection ∙ run in tidy.gray k was z at (to.gray k was z at there gray) gray;
-      black = λ k run r u z at now lock there.
-          let was = sym to.collection ∙ run in
-          let also = to.others r u now in
-          let beside = o.beside session r t u also.0 active also.1 in
-          let alike = runs_alike before t u o.closed (λ same. beside.differ (sym same)) (o.unused session t active) beside.apart in
-          let held = subst (λ (ls : List Lock). Contains ls (z, Exclusive)) (sym alike.locks) (subst (λ (x : Graph). Contains (locks_of x u) (z, Exclusive)) to.graph lock) in
+      grays = λ k run_is z at there gray. let was = sym to.collection ∙ run_is in gray_fields tidy k was z at (to.gray k was z at there gray) gray;
+      black = λ k run_is r u z at now lock there.
+          let was = sym to.collection ∙ run_is in
+          let saw = saw_before r u z now lock in
           elim (to.places z at there) [
-            | inl old ↦ tidy.black k was r u z at also.1 held old
-            | inr made ↦ absurd (locks_of-other before u t.number z Exclusive o.closed (λ same. beside.differ (sym same)) (o.unused session t active) held made)
+            | inl old ↦ tidy.black k was r u z at saw.active_before saw.lock old
+            | inr made ↦ absurd (saw.others made)
           ];
     };
   }
 
 -- The seal of a core.
 
-module _ (g : Graph) (e : Core) (valid : IsValid e) (n : State) (s m : ℕ) (t : Transaction) (active : (account e.history).active s ≡ Some t)
+module _ (e : Core) (valid : IsValid e) (n : State) (s m : ℕ) (t : Transaction) (active : (account e.history).active s ≡ Some t)
     (o : IsOrdered e.g0 (numbers_begun e.history) (account e.history) (heard_in e.history)) (space : seal.HasSpace (account e.history) e valid o s t active) (follows : after_all valid.behind (event_records e (Seal s)) ≡ Some n) where
   abbrev a : Account
   a = account e.history
@@ -133,7 +175,7 @@ module _ (g : Graph) (e : Core) (valid : IsValid e) (n : State) (s m : ℕ) (t :
       let same : old.0 ≡ z = address_of-one _ _ later _ at old.0 z (here_ends told.heap.laid) (address_of-append_left e.places (seal.placed a e valid o s t active) old.0 at old.1) (in_later z at there) in
       subst (λ (x : Id). address_of e.places x ≡ Some at) same old.1
 
-  pub sealed_to : IsSealedTo g a (account_after a (record { event = Seal s; reply = Sealed m })) e (done e (Seal s)) valid.behind n s t
+  pub sealed_to : IsSealedTo a (account_after a (record { event = Seal s; reply = Sealed m })) e (done e (Seal s)) valid.behind n s t
   sealed_to = record {
     graph = ap (λ (x : Option Transaction). serial e.g0 (a.sealed ++ option_to_list x)) active ∙ serial-append e.g0 a.sealed t;
     collection = ap (λ (x : State). x.collection) last_is;
