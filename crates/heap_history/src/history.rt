@@ -1,5 +1,5 @@
 //! The history of a heap: each event and its reply.
-ghost use Rattle.std.specs.Prelude.{◌≡◌, List, ◌+◌, ◌<◌, ◌≤◌, [], ◌∷◌, ◌++◌, OnOk, OnErr, IfOk, length, slice_get, vec_len, vec_capacity};
+ghost use Rattle.std.specs.Prelude.{◌≡◌, List, ◌+◌, ◌^◌, ◌<◌, ◌≤◌, [], ◌∷◌, ◌++◌, OnOk, OnErr, IfOk, length, slice_get, vec_len, vec_capacity};
 ghost use Rattle.brief_entries.specs.Brief.{IsWithin, entry_of};
 ghost use Rattle.brief_entries.specs.Ordinary.{IsOrdinary};
 ghost use Rattle.heap_history.specs.Kept.{Extends};
@@ -112,7 +112,8 @@ impl History {
 
     /// How many entries there are.
     pub fn len(&self) -> usize
-        ensures { result ≡ length self.now.entries }
+        ensures value { result ≡ length self.now.entries }
+        ensures few { result < 2 ^ 63 }
     {
         self.kept.len()
     }

@@ -172,7 +172,7 @@ returns-in-Err-Disk-clause-core g c core heap reached =
     let cut = subst P err (c.step_on.ensures.core.core core engine reached) in
     let known = some_waits _ core.batches core.pending engine.memory.log in
     let steps = cut_steps g.D.Disk core c.args.event c.cut_short.result c.step_on.new.self c.step_on.new.disk c.len.result c.pending-pending.result _ engine.unfailed cut c.cut_short.ensures.told
-    (c.len.ensures ∙ ap (λ (l : List Entry). length l) (c.make_room.ensures.same ∙ heap.history)) refl (λ yes. known.0 (sym c.pending-pending.ensures ∙ yes), λ some. c.pending-pending.ensures ∙ known.1 some) in
+    (c.len.ensures.value ∙ ap (λ (l : List Entry). length l) (c.make_room.ensures.same ∙ heap.history)) refl (λ yes. known.0 (sym c.pending-pending.ensures ∙ yes), λ some. c.pending-pending.ensures ∙ known.1 some) in
     rw c.entered-in-Err-Disk.ensures.reply (
       steps.next,
       steps.step,
@@ -197,7 +197,7 @@ returns-in-Err-Disk-clause-holds g c tells s core heap reached =
     let cut = subst P err (c.step_on.ensures.core.core core engine reached) in
     let known = some_waits _ core.batches core.pending engine.memory.log in
     let steps = cut_steps g.D.Disk core c.args.event c.cut_short.result c.step_on.new.self c.step_on.new.disk c.len.result c.pending-pending.result _ engine.unfailed cut c.cut_short.ensures.told
-    (c.len.ensures ∙ ap (λ (l : List Entry). length l) (c.make_room.ensures.same ∙ heap.core.history)) refl (λ yes. known.0 (sym c.pending-pending.ensures ∙ yes), λ some. c.pending-pending.ensures ∙ known.1 some) in
+    (c.len.ensures.value ∙ ap (λ (l : List Entry). length l) (c.make_room.ensures.same ∙ heap.core.history)) refl (λ yes. known.0 (sym c.pending-pending.ensures ∙ yes), λ some. c.pending-pending.ensures ∙ known.1 some) in
     rw c.entered-in-Err-Disk.ensures.reply (
       steps.next,
       steps.step,
