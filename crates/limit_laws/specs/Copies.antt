@@ -29,8 +29,8 @@ IsOfNone event = ⊥
 abbrev pub IsIdle : Core → Type 0
 IsIdle c = (s : ℕ) → active_in c s ≡ None
 
--- The objects that a collection has copied which began in c, each where its copy stands, if nothing was made stable since: those that stood at the
--- addresses from which the Flip and Copy records have copied.
+-- The objects that a collection has copied which began in c, each where its copy stands: those that stood at the addresses from which the Flip and
+-- Copy records have copied. What became stable since is not among them.
 abbrev pub copied_since : Core → Core → Places
 copied_since c d = (moved_by_all (placing c) (appended c d)).places
 
