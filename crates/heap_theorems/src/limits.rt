@@ -1,6 +1,6 @@
 //! What a core is limited to: the room of its log, and how long collections last, how many bytes they take, and what they copy.
 ghost use Rattle.limit_laws.specs.Bytes.{BytesTheorem};
-ghost use Rattle.limit_laws.specs.Copies.{ExactTheorem, KeptTheorem, NoGarbageTheorem, UndisturbedTheorem};
+ghost use Rattle.limit_laws.specs.Copies.{ExactTheorem, NoGarbageTheorem, UndisturbedTheorem, UsedTheorem};
 ghost use Rattle.limit_laws.specs.Progress.{EndTheorem, PagesTheorem};
 ghost use Rattle.limit_laws.specs.Room.{EndsTheorem, FitsTheorem, RollbackTheorem};
 
@@ -34,17 +34,12 @@ pub fn collections_take_few_bytes()
     ensures { BytesTheorem }
 {}
 
-/// A collection copies nothing but what is kept at its flip, whichever transactions are active.
-pub fn collections_copy_nothing_but_what_is_kept()
-    ensures { KeptTheorem }
-{}
-
-/// A collection that begins where no transaction is active copies nothing but what is reached, whatever sessions do meanwhile.
+/// A collection copies no garbage, whichever transactions are active when it begins.
 pub fn collections_copy_no_garbage()
     ensures { NoGarbageTheorem }
 {}
 
-/// It copies just what is reached at its flip.
+/// One that begins where none is active copies just what is reached at its flip.
 pub fn collections_copy_just_what_is_reached()
     ensures { ExactTheorem }
 {}
@@ -52,4 +47,9 @@ pub fn collections_copy_just_what_is_reached()
 /// One that no session disturbs copies all that is reached.
 pub fn undisturbed_collections_copy_all_else()
     ensures { UndisturbedTheorem }
+{}
+
+/// `collected` says the words in use.
+pub fn collected_says_the_words_in_use()
+    ensures { UsedTheorem }
 {}

@@ -1,21 +1,17 @@
 -- What a collection copies.
-use Rattle.std.specs.Prelude.{◌≡◌, ◌↔◌, ℕ, ◌+◌, ◌==◌, Bool, true, List, length, drop, filter, sum_by, slice_get, is_some, None, Some, Contains}
+use Rattle.std.specs.Prelude.{◌≡◌, ◌↔◌, ℕ, ◌+◌, ◌==◌, Bool, true, List, length, drop, filter, sum_by, is_some, None}
 use Rattle.std.specs.List.{AllByRecursion, list_any}
 use Rattle.graph_model.specs.declared.event.Event.{Event}
 use Rattle.graph_model.specs.declared.event.Event.TheVariants.{Force, Flip, Scan, Flush}
 use Rattle.graph_model.specs.declared.id.Id.{Id}
 use Rattle.graph_model.specs.declared.reply.Reply.TheVariants as reply
 use Rattle.graph_model.specs.Canon.{Reached}
-use Rattle.graph_model.specs.declared.val.Val.TheVariants.{Ref}
-use Rattle.graph_model.specs.Graph.{Graph, fields, root}
+use Rattle.graph_model.specs.Graph.{Graph, fields}
 use Rattle.graph_model.specs.History.{account, IsOfSession}
 use Rattle.graph_model.specs.Transaction.{Transaction, serial}
-use Rattle.heap_words.specs.declared.Word.TheVariants.{Stable}
-use Rattle.heap_words.specs.Word.{meaning}
-use Rattle.log_machine.specs.declared.UndoEntry.{UndoEntry}
 use Rattle.graph_words.specs.Places.{Places, address_of}
 use Rattle.collection_words.specs.Placing.{moved_by_all}
-use Rattle.heap_model.specs.Core.{Core, IsRun, after, all_records, answer, placing, undo_behind}
+use Rattle.heap_model.specs.Core.{Core, IsRun, after, answer, placing}
 use Rattle.core_laws.specs.Active.{active_in}
 use Rattle.core_laws.specs.Valid.{IsReached}
 use Rattle.limit_laws.specs.Bytes.{appended}
@@ -33,8 +29,8 @@ IsOfNone event = ⊥
 abbrev pub IsIdle : Core → Type 0
 IsIdle c = (s : ℕ) → active_in c s ≡ None
 
--- The objects that a collection has copied which began in c, each where its copy stands, if nothing was made stable since: those that stood at the
--- addresses from which the Flip and Copy records have copied.
+-- The objects that a collection has copied which began in c, each where its copy stands: those that stood at the addresses from which the Flip and
+-- Copy records have copied. What became stable since is not among them.
 abbrev pub copied_since : Core → Core → Places
 copied_since c d = (moved_by_all (placing c) (appended c d)).places
 
@@ -51,31 +47,6 @@ pub record CopiesReached (c d : Core) (used : ℕ) : Type 0 where
   pub exactly : (id : Id) → (is_some (address_of (copied_since c d) id) ≡ true) ↔ Reached (sealed_graph c) id
   pub words : used ≡ words_of (sealed_graph c) (copied_since c d)
 
--- An active transaction has overwritten a reference to an object: a write of it that may be taken back puts that reference back.
-pub record IsOverwritten (c : Core) (id : Id) : Type 0 where
-  pub session : ℕ
-  pub transaction : Transaction
-  pub active : active_in c session ≡ Some transaction
-  pub entry : UndoEntry
-  pub written : Contains (undo_behind c (all_records c) transaction.number) entry
-  pub at : ℕ
-  pub refers : meaning entry.was ≡ Some (Stable at)
-  pub stands : address_of c.places id ≡ Some at
-
--- What references lead to in the graph that the sealed transactions have left, from the root and from what active ones have overwritten references to.
-pub data IsKept (c : Core) : Id → Type 0 where
-  of_root : IsKept c root
-  of_overwritten : {id : Id} → IsOverwritten c id → IsKept c id
-  of_field : {id : Id} (i : ℕ) (target : Id) → IsKept c id → slice_get (fields (sealed_graph c) id) i ≡ Some (Ref target) → IsKept c target
-
--- A collection copies nothing else, whichever transactions are active when it begins, and whatever sessions do while it is under way. All that it
--- has copied from c until d is kept in c: what active transactions hold, read, made or wrote adds nothing.
-abbrev pub KeptTheorem : Type 0
-KeptTheorem =
-    (c d : Core) (events : List Event) (objects words : ℕ) → IsReached c → answer c Flip ≡ reply.Flipped objects words
-    → AllByRecursion IsOfSession events → IsRun (after c Flip) events d → BeganNone (after c Flip) d
-    → (id : Id) → is_some (address_of (copied_since c d) id) ≡ true → IsKept c id
-
 -- A collection that no session disturbs copies no garbage, and all else. It begins in c, where no transaction is active, and ends with a scan of
 -- d; between are scans, forces and flushes, granted or refused, and flips that begin no other.
 abbrev pub UndisturbedTheorem : Type 0
@@ -83,11 +54,12 @@ UndisturbedTheorem =
     (c d : Core) (events : List Event) (objects words used : ℕ) → IsReached c → IsIdle c → answer c Flip ≡ reply.Flipped objects words
     → IsRun (after c Flip) events d → AllByRecursion IsOfNone events → BeganNone (after c Flip) d → answer d Scan ≡ reply.Collected used → CopiesReached c d used
 
--- A collection copies no garbage, whatever sessions do while it is under way. It begins in c, where no transaction is active; all that it has copied
--- until d is reached from the root in the graph of c.
+-- A collection copies no garbage, whichever transactions are active when it begins, and whatever sessions do while it is under way. It begins in c,
+-- to which events of sessions led from a core in which no transaction was active, as an opening leaves it. All that it has copied until d is reached
+-- from the root in the graph that the sealed transactions had left in c: what active ones held, read, made, wrote or overwrote adds nothing.
 abbrev pub NoGarbageTheorem : Type 0
 NoGarbageTheorem =
-    (c d : Core) (events : List Event) (objects words : ℕ) → IsReached c → IsIdle c → answer c Flip ≡ reply.Flipped objects words
+    (b c d : Core) (before events : List Event) (objects words : ℕ) → IsReached b → IsIdle b → AllByRecursion IsOfSession before → IsRun b before c → answer c Flip ≡ reply.Flipped objects words
     → AllByRecursion IsOfSession events → IsRun (after c Flip) events d → BeganNone (after c Flip) d
     → (id : Id) → is_some (address_of (copied_since c d) id) ≡ true → Reached (sealed_graph c) id
 
@@ -103,11 +75,21 @@ is_made_by ts id = list_any (λ (t : Transaction). t.number == id.t) ts
 abbrev pub promoted_since : Core → Core → Places
 promoted_since c d = filter (λ p. is_made_by (sealed_since c d) p.0) d.places
 
--- What was copied from c to d is just what is reached from the root in the graph of c. So many words are what these objects take, and those that
--- became stable meanwhile.
+-- So many words are what the objects take that were copied from c to d, and those that became stable meanwhile.
+abbrev pub AreUsed : Core → Core → ℕ → Type 0
+AreUsed c d used = used ≡ words_of (sealed_graph c) (copied_since c d) + words_of (sealed_graph d) (promoted_since c d)
+
+-- A collection is answered `collected` with the words that are in use, whichever transactions are active when it begins, and whatever sessions do
+-- while it is under way. It begins in c, and ends with a scan of d.
+abbrev pub UsedTheorem : Type 0
+UsedTheorem =
+    (c d : Core) (events : List Event) (objects words used : ℕ) → IsReached c → answer c Flip ≡ reply.Flipped objects words
+    → AllByRecursion IsOfSession events → IsRun (after c Flip) events d → BeganNone (after c Flip) d → answer d Scan ≡ reply.Collected used → AreUsed c d used
+
+-- What was copied from c to d is just what is reached from the root in the graph of c, and so many words are in use.
 pub record CopiesJust (c d : Core) (used : ℕ) : Type 0 where
   pub exactly : (id : Id) → (is_some (address_of (copied_since c d) id) ≡ true) ↔ Reached (sealed_graph c) id
-  pub words : used ≡ words_of (sealed_graph c) (copied_since c d) + words_of (sealed_graph d) (promoted_since c d)
+  pub words : AreUsed c d used
 
 -- A collection copies just what is reached at its flip, whatever sessions do while it is under way: they may cut references to it, and take that
 -- back or seal it. It begins in c, where no transaction is active, and ends with a scan of d.

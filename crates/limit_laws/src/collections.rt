@@ -1,6 +1,6 @@
 //! How long a collection lasts, how many bytes of the log it takes, and what it copies.
 ghost use Rattle.limit_laws.specs.Bytes.{BytesTheorem};
-ghost use Rattle.limit_laws.specs.Copies.{ExactTheorem, KeptTheorem, NoGarbageTheorem, UndisturbedTheorem};
+ghost use Rattle.limit_laws.specs.Copies.{ExactTheorem, NoGarbageTheorem, UndisturbedTheorem, UsedTheorem};
 ghost use Rattle.limit_laws.specs.Progress.{EndTheorem, PagesTheorem};
 
 /// The pages that scans are answered with ascend while one collection is under way, whatever sessions do meanwhile, and there are no more of them
@@ -25,16 +25,15 @@ pub fn undisturbed_collections_copy_what_is_reached()
     ensures { UndisturbedTheorem }
 {}
 
-/// A collection copies nothing but what references lead to at its flip, in the graph that the sealed transactions have left, from the root and from
-/// what active transactions have overwritten references to; whichever are active then, and whatever sessions do while it is under way.
-pub fn collections_copy_nothing_but_what_is_kept()
-    ensures { KeptTheorem }
-{}
-
-/// A collection that begins where no transaction is active copies nothing but what is reached from the root at its flip, whatever sessions do
-/// while it is under way.
+/// A collection copies nothing but what is reached from the root at its flip, whichever transactions are active then, and whatever sessions do while
+/// it is under way.
 pub fn collections_copy_no_garbage()
     ensures { NoGarbageTheorem }
+{}
+
+/// It is answered `collected` with the words that its copies take, and the objects that became stable meanwhile.
+pub fn collected_says_the_words_in_use()
+    ensures { UsedTheorem }
 {}
 
 /// A collection that begins where no transaction is active copies just what is reached from the root at its flip, whatever sessions do while it is

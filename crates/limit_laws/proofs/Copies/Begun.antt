@@ -25,8 +25,9 @@ use Rattle.core_laws.proofs.Run.Events.{step_reached}
 use Rattle.core_laws.proofs.Step.Goes.{writing_of}
 use Rattle.core_laws.proofs.Step.Sound.{reached_agrees, sound_valid}
 use Rattle.core_laws.specs.Valid.{Agrees, IsReached, IsValid}
-use Rattle.limit_laws.specs.Copies.{IsKept, sealed_graph}
+use Rattle.limit_laws.specs.Copies.{sealed_graph}
 use Rattle.limit_laws.proofs.Copies.Flips.{flip_is, flip_kept, kept_closed, seen_within}
+use Rattle.limit_laws.proofs.Copies.Kept.{IsKept}
 use Rattle.limit_laws.proofs.Copies.Led.{KeepsLed}
 use Rattle.limit_laws.proofs.Copies.Quiet.{place_done}
 use Rattle.limit_laws.proofs.Copies.Scans.{AreKept}

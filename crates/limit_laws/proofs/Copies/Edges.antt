@@ -13,7 +13,6 @@ use Rattle.heap_spaces.specs.Collection.{Collection}
 use Rattle.log_machine.specs.declared.UndoEntry.{UndoEntry}
 use Rattle.log_machine.specs.Machine.{State, field_at}
 use Rattle.graph_words.specs.Places.{Places, address_of, addresses, bits_of, place_of}
-use Rattle.graph_words.specs.Stands.{Stands}
 use Rattle.graph_words.proofs.Stands.Objects.{stands_field, stands_one}
 use Rattle.graph_words.proofs.Stands.Visible.{place_of-apart, place_of-placed}
 use Rattle.collection_words.specs.Completed.{StandsCompleted, completed, end_of, followed, followed_by, future, moves_from}
@@ -24,19 +23,22 @@ use Rattle.scan_laws.proofs.Copied.{IsLedWrite}
 use Rattle.seen_laws.specs.Heap.{IsUnwritten}
 use Rattle.seen_laws.proofs.Kept.{unwritten_word}
 
+-- no two objects stand at one address
+abbrev pub StandApart : Places → Type 0
+StandApart places = (x y : Id) (at : ℕ) → address_of places x ≡ Some at → address_of places y ≡ Some at → x ≡ y
+
 -- a value with the word of a reference to where an object stands refers to the object
-pub value_refers : {t made : ℕ} {places : Places} {g : Graph} {words : List ℕ} {base used : ℕ} → Stands t made places g words base used → (v : Val) (to : ℕ) (y : Id)
-    → bits_of (place_of places g) v ≡ bits (word.Stable to) → address_of places y ≡ Some to → v ≡ Ref y
-value_refers stands Null to y same there = absurd (omega arith)
-value_refers stands (Int n) to y same there = absurd (omega arith)
-value_refers {places = places} {g = g} stands (Ref id) to y same there = by (address_of places id) refl
+pub value_refers : (places : Places) (g : Graph) → StandApart places → (v : Val) (to : ℕ) (y : Id) → bits_of (place_of places g) v ≡ bits (word.Stable to) → address_of places y ≡ Some to → v ≡ Ref y
+value_refers places g one Null to y same there = absurd (omega arith)
+value_refers places g one (Int n) to y same there = absurd (omega arith)
+value_refers places g one (Ref id) to y same there = by (address_of places id) refl
   where
     by : (o : Option ℕ) → address_of places id ≡ o → Ref id ≡ Ref y
     by None none = let own = ap bits (sym (place_of-apart places g id none)) ∙ same in absurd (omega arith)
     by (Some at) here =
-        let one = ap bits (sym (place_of-placed places g id at here)) ∙ same in
+        let stood = ap bits (sym (place_of-placed places g id at here)) ∙ same in
         let address : at ≡ to = omega arith in
-        ap Ref (stands_one stands id y to (here ∙ ap Some address) there)
+        ap Ref (one id y to (here ∙ ap Some address) there)
 
 -- a write that a scan has led, of a field that none of these writes has written
 pub led_edge : {s : State} {k : Collection} {currents rest : Places} {words : List ℕ} {t made : ℕ} {g : Graph} {write : ℕ × ℕ} (us : List UndoEntry) → IsCollecting s k currents rest words
@@ -53,4 +55,4 @@ led_edge {s} {k} {currents} {rest} {words} {t} {made} {g} {write} us is stands w
     ∙ ap (λ h. bits (word.Stable (end_of moves w.from h))) w.forward in
     let value = slice_index_or (fields g z) w.field Null in
     let same = sym (stands_field stands z w.object w.field from within) ∙ unwritten_word us (completed s currents rest words) (field_at w.object w.field) unwritten ∙ one.fields w.field w.is.within ∙ follows in
-    slice_get-get_or (fields g z) w.field Null within ∙ ap Some (value_refers stands value w.to y same to)
+    slice_get-get_or (fields g z) w.field Null within ∙ ap Some (value_refers (currents ++ future s words rest) g (stands_one stands) value w.to y same to)

@@ -29,10 +29,11 @@ use Rattle.heap_model.specs.Core.{Core, after, all_words, answer, placing}
 use Rattle.heap_model.proofs.Run.Calls.{same_run, same_step}
 use Rattle.core_laws.proofs.Step.Sound.{reached_agrees}
 use Rattle.core_laws.specs.Valid.{Agrees}
-use Rattle.limit_laws.specs.Copies.{ExactTheorem, IsIdle, copied_since, is_made_by, sealed_graph, sealed_since, words_of}
+use Rattle.limit_laws.specs.Copies.{ExactTheorem, IsIdle, UsedTheorem, copied_since, is_made_by, sealed_graph, sealed_since, words_of}
 use Rattle.limit_laws.proofs.Copies.Closed.{root_left}
 use Rattle.limit_laws.proofs.Copies.Disturbed.{some_none}
-use Rattle.limit_laws.proofs.Copies.Reached.{IsFollowed, copied_is, followed, idle_reached}
+use Rattle.limit_laws.proofs.Copies.Garbage.{no_garbage_law}
+use Rattle.limit_laws.proofs.Copies.Reached.{IsFollowed, copied_is, followed}
 use Rattle.limit_laws.proofs.Copies.Running.{IsPlaced}
 use Rattle.limit_laws.proofs.Copies.Begun.{EndsWith, end_of_scan}
 use Rattle.limit_laws.proofs.Progress.Scans.{nothing_gray}
@@ -89,6 +90,31 @@ module _ (a : Account) (d : Core) (h : Agrees a d) where
       let taken = here_taken h.told.heap.laid in
       omega arith
 
+-- The words in use.
+
+-- are those of what was copied and of what became stable
+used_words : (c d : Core) (b : IsFollowed c d) (used : ℕ) → EndsWith (reached_agrees d b.reached).behind used → d.g0 ≡ c.g0 → used ≡ words_of (sealed_graph c) (moved_by_all (placing c) b.more).places + words_of (sealed_graph d) (filter (λ p. is_made_by b.ts p.0) d.places)
+used_words c d b used end same =
+    let g = sealed_graph d in
+    let others = λ (p : Id × ℕ). not (is_made_by b.ts p.0) in
+    let graph : g ≡ serial (sealed_graph c) b.ts = ap (λ (x : Graph). serial x (account d.history).sealed) same ∙ ap (serial c.g0) b.since ∙ serial_on c.g0 (account c.history).sealed b.ts in
+    let old : words_of g (filter others d.places) ≡ words_of (sealed_graph c) (moved_by_all (placing c) b.more).places =
+    ap (λ (x : Graph). words_of x (filter others d.places)) graph ∙ same_words (sealed_graph c) b.ts d.places ∙ ap (words_of (sealed_graph c)) b.counted.others in
+    let both = sum_by-filter_both (λ (p : Id × ℕ). is_made_by b.ts p.0) others (λ p. refl) (λ (p : Id × ℕ). 2 + length (fields g p.0)) d.places in
+    let all = all_used _ d (reached_agrees d b.reached) in
+    let size = end.size in
+    omega arith
+
+pub used_law : UsedTheorem
+used_law c d events objects words used reached flips of run none is =
+    let b = followed c d events objects words reached flips of run none in
+    let end = end_of_scan _ d (reached_agrees d b.reached) used is in
+    let since : sealed_since c d ≡ b.ts = ap (drop (length (account c.history).sealed)) b.since ∙ drop-append_seam (account c.history).sealed b.ts in
+    let opening : d.g0 ≡ c.g0 = (same_run (after c Flip) d events run).g0 ∙ (same_step c (after c Flip) Flip (answer c Flip) (inl (refl, refl))).g0 in
+    used_words c d b used end opening
+    ∙ ap (λ (ps : Places). words_of (sealed_graph c) ps + words_of (sealed_graph d) (filter (λ p. is_made_by b.ts p.0) d.places)) (sym (copied_is c d b))
+    ∙ ap (λ (ts : List Transaction). words_of (sealed_graph c) (copied_since c d) + words_of (sealed_graph d) (filter (λ p. is_made_by ts p.0) d.places)) (sym since)
+
 -- What is copied when nothing is gray.
 
 not_left : (p : Placing) (id : Id) → IsPlaced p id → address_of p.remaining id ≡ None → is_some (address_of p.places id) ≡ true
@@ -111,34 +137,15 @@ module _ (c d : Core) (b : IsFollowed c d) (idle : IsIdle c) (used : ℕ) (end :
   all_copied : (id : Id) → Reached (sealed_graph c) id → is_some (address_of (moved_by_all (placing c) b.more).places id) ≡ true
   all_copied id reached = not_left copies id ((b.closed idle).reached end.collection end.runs id reached) (none_left id reached)
 
-  -- the used words are those of what was copied and of what became stable
-  used_words : d.g0 ≡ c.g0 → used ≡ words_of (sealed_graph c) (moved_by_all (placing c) b.more).places + words_of (sealed_graph d) (filter (λ p. is_made_by b.ts p.0) d.places)
-  used_words same =
-      let g = sealed_graph d in
-      let others = λ (p : Id × ℕ). not (is_made_by b.ts p.0) in
-      let graph : g ≡ serial (sealed_graph c) b.ts = ap (λ (x : Graph). serial x (account d.history).sealed) same ∙ ap (serial c.g0) b.since ∙ serial_on c.g0 (account c.history).sealed b.ts in
-      let old : words_of g (filter others d.places) ≡ words_of (sealed_graph c) (moved_by_all (placing c) b.more).places =
-      ap (λ (x : Graph). words_of x (filter others d.places)) graph ∙ same_words (sealed_graph c) b.ts d.places ∙ ap (words_of (sealed_graph c)) b.counted.others in
-      let both = sum_by-filter_both (λ (p : Id × ℕ). is_made_by b.ts p.0) others (λ p. refl) (λ (p : Id × ℕ). 2 + length (fields g p.0)) d.places in
-      let all = all_used _ d (reached_agrees d b.reached) in
-      let size = end.size in
-      omega arith
-
--- What a collection copies is just what is reached.
+-- What a collection copies is just what is reached, if no transaction was active.
 pub exact_law : ExactTheorem
 exact_law c d events objects words used reached idle flips of run none is =
     let b = followed c d events objects words reached flips of run none in
     let end = end_of_scan _ d (reached_agrees d b.reached) used is in
-    let places = copied_is c d b in
-    let since : sealed_since c d ≡ b.ts = ap (drop (length (account c.history).sealed)) b.since ∙ drop-append_seam (account c.history).sealed b.ts in
-    let opening : d.g0 ≡ c.g0 = (same_run (after c Flip) d events run).g0 ∙ (same_step c (after c Flip) Flip (answer c Flip) (inl (refl, refl))).g0 in
     record {
       exactly = λ id. (
-        λ there. let at = some_address (address_of (copied_since c d) id) there in idle_reached c idle id (b.copied id at.0 (ap (λ (ps : Places). address_of ps id) (sym places) ∙ at.1)),
-        λ reaches. ap (λ (ps : Places). is_some (address_of ps id)) places ∙ all_copied c d b idle used end id reaches,
+        λ there. no_garbage_law c c d [] events objects words reached idle tt refl flips of run none id there,
+        λ reaches. ap (λ (ps : Places). is_some (address_of ps id)) (copied_is c d b) ∙ all_copied c d b idle used end id reaches,
       );
-      words =
-          used_words c d b idle used end opening
-          ∙ ap (λ (ps : Places). words_of (sealed_graph c) ps + words_of (sealed_graph d) (filter (λ p. is_made_by b.ts p.0) d.places)) (sym places)
-          ∙ ap (λ (ts : List Transaction). words_of (sealed_graph c) (copied_since c d) + words_of (sealed_graph d) (filter (λ p. is_made_by ts p.0) d.places)) (sym since);
+      words = used_law c d events objects words used reached flips of run none is;
     }

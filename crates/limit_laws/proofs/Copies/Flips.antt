@@ -26,8 +26,6 @@ use Rattle.log_machine.specs.Machine.{State, undo_of}
 use Rattle.flip_copy.specs.Copied.{with_base}
 use Rattle.graph_words.specs.Places.{Places, address_of, made_by}
 use Rattle.graph_words.proofs.Places.Addresses.{address_of-Contains, placed, placed_as, some_address}
-use Rattle.graph_words.proofs.Seal.Places.{address_of-append_left}
-use Rattle.graph_words.proofs.Stands.Objects.{stands_one}
 use Rattle.collection_words.specs.Completed.{future}
 use Rattle.collection_words.specs.Placing.{Placing, moved_by_all}
 use Rattle.collection_words.proofs.Copy.Named.{own_front}
@@ -41,8 +39,10 @@ use Rattle.core_laws.proofs.Collecting.Entries.{all_at}
 use Rattle.core_laws.proofs.Collecting.Flip as flip
 use Rattle.core_laws.proofs.Step.Goes.{writing_of}
 use Rattle.core_laws.specs.Valid.{IsLocked, IsValid, RunsLocked}
-use Rattle.limit_laws.specs.Copies.{IsKept, of_field, of_overwritten, of_root, sealed_graph}
+use Rattle.limit_laws.specs.Copies.{sealed_graph}
 use Rattle.limit_laws.proofs.Copies.Closed.{future_some}
+use Rattle.limit_laws.proofs.Copies.Kept.{IsKept, of_field, of_overwritten, of_root}
+use Rattle.limit_laws.proofs.Copies.Own.{stand_apart}
 use Rattle.limit_laws.proofs.Copies.Scans.{AreKept}
 use Rattle.limit_laws.proofs.Copies.Steps.{not_made}
 use Rattle.limit_laws.proofs.Copies.Within.{IsWithin, OwnOr, run_locks, run_within}
@@ -144,19 +144,13 @@ module _ (c : Core) (valid : IsValid c) (runs : RunsLocked c.g0 c.first c.histor
   current_kept r t active id at there (inl own) = absurd (not_made t c.places id at (writing_of a c r t active valid).made.apart there own)
   current_kept r t active id at there (inr kept) = kept
 
-  -- no two objects stand at one address
-  one_there : (x y : Id) (at : ℕ) → address_of c.places x ≡ Some at → address_of c.places y ≡ Some at → x ≡ y
-  one_there x y at one other =
-      let later = future valid.behind (all_words c) c.remaining in
-      stands_one valid.told.stands x y at (address_of-append_left c.places later x at one) (address_of-append_left c.places later y at other)
-
   -- an object that a transaction wrote, or has overwritten a reference to
   entry_kept : (r : ℕ) (t : Transaction) → (account c.history).active r ≡ Some t → (id : Id) (at : ℕ) → address_of c.places id ≡ Some at → (u : UndoEntry) → Contains (undo_of valid.behind t.number) u → is_entry_at at u ≡ true → IsKept c id
   entry_kept r t active id at there u has names = elim (either (u.object == at) (refers_at at (meaning u.was)) names) [
     | inl object ↦
         let w = writing_of a c r t active valid in
         let lock = all_at (IsLocked c.places (locks_of (sealed_graph c) t)) (undo_of valid.behind t.number) u w.locked has in
-        let same = one_there lock.id id at (lock.object ∙ ap Some (eqb-true u.object at object)) there in
+        let same = stand_apart a c valid lock.id id at (lock.object ∙ ap Some (eqb-true u.object at object)) there in
         current_kept r t active id at there (subst (λ (x : Id). OwnOr (IsKept c) t.number x) same (locks_kept r t active lock.id Exclusive lock.lock))
     | inr was ↦
         of_overwritten (record {
@@ -218,9 +212,9 @@ module _ (c : Core) (valid : IsValid c) (runs : RunsLocked c.g0 c.first c.histor
       let stood = placed_as (λ (p : Id × ℕ). Q p × (moves p ≡ true)) from id was.0 (passing Q moves c.places names) was.1 in
       let copied = subst (λ (xs : List ℕ). Contains xs was.0) (roots_copied (flip.can a c valid none)) (address_of-Contains from id was.0 was.1) in
       elim (with_base-cases s.base roots was.0 copied) [
-        | inl base ↦ subst (IsKept c) (one_there root id was.0 (root_current valid.told.heap.laid valid.told.stands.root_place ∙ ap Some base) stood.0) of_root
+        | inl base ↦ subst (IsKept c) (stand_apart a c valid root id was.0 (root_current valid.told.heap.laid valid.told.stands.root_place ∙ ap Some base) stood.0) of_root
         | inr named ↦
             let is = is_root (undo_of s) c.g0 a in
             let root = placed (λ (p : Id × ℕ). Q p × (is p ≡ true)) (filter is c.places) was.0 (passing Q is c.places names) named in
-            subst (IsKept c) (one_there root.0 id was.0 root.1.0 stood.0) (root_kept root.0 was.0 root.1.0 root.1.1)
+            subst (IsKept c) (stand_apart a c valid root.0 id was.0 root.1.0 stood.0) (root_kept root.0 was.0 root.1.0 root.1.1)
       ]

@@ -44,9 +44,8 @@ pub record Stays (K : Id → Type 0) (g : Graph) (a b : Account) (e f : Core) (s
   pub tidy : KeepsTidy g a e s → StaysTidy g b e f s n
 
 -- Where its records move objects, what it makes stable, and which transactions it seals.
-pub record IsMoved (K : Id → Type 0) (e : Core) (event : Event) : Type 0 where
+pub record IsMoved (e : Core) (event : Event) : Type 0 where
   pub plain : AllByRecursion IsNoFlip (event_records e event)
-  pub new : NewIn K e (event_records e event)
   pub more : Places
   pub places : (done e event).places ≡ (moved_by_all (placing e) (event_records e event)).places ++ more
   pub remaining : (done e event).remaining ≡ (moved_by_all (placing e) (event_records e event)).remaining
@@ -54,6 +53,52 @@ pub record IsMoved (K : Id → Type 0) (e : Core) (event : Event) : Type 0 where
 
 same_seals : (e : Core) (later : List Transaction) → later ≡ (account e.history).sealed → Seals e (account e.history).sealed later []
 same_seals e later same = subst (λ (ts : List Transaction). Seals e (account e.history).sealed ts []) (sym same) (seals_none e (account e.history).sealed)
+
+-- the barrier's records move objects as all of a session's do
+session_placing : (e : Core) (event : Event) → event ≢ Flip → event ≢ Scan → moved_by_all (placing e) (event_records e event) ≡ moved_by_all (placing e) (barrier_records e event)
+session_placing e event flip scan =
+    let rs = barrier_records e event in
+    fold-append moved_by (placing e) rs (own_records e event) ∙ moved_own (moved_by_all (placing e) rs) (own_records e event) (own_of_transaction e event flip scan)
+
+-- Where objects stand.
+
+none_moved : (e : Core) (event : Event) → IsOfNone event → BeginsNone (granted_by e event) → IsMoved e event
+none_moved e event is begins = record {
+  plain = none_plain e event is begins;
+  more = [];
+  places = ap (λ (p : Placing). p.places) (place_done e event is) ∙ sym (append-nil (moved_by_all (placing e) (event_records e event)).places);
+  remaining = ap (λ (p : Placing). p.remaining) (place_done e event is);
+  seals = same_seals e _ (still_granted e event is).sealed;
+}
+
+session_moved : (e : Core) (event : Event) → event ≢ Flip → event ≢ Scan → (more : Places) → (done e event).places ≡ (moved_by_all (placing e) (barrier_records e event)).places ++ more
+    → (done e event).remaining ≡ (moved_by_all (placing e) (barrier_records e event)).remaining → Seals e (account e.history).sealed (said_of e event).sealed more → IsMoved e event
+session_moved e event flip scan more stand left seals =
+    let same = sym (session_placing e event flip scan) in
+    record {
+      plain = no_flips e event flip;
+      more = more;
+      places = stand ∙ ap (λ (p : Placing). p.places ++ more) same;
+      remaining = left ∙ ap (λ (p : Placing). p.remaining) same;
+      seals = seals;
+    }
+
+pub granted_moved : (e : Core) (valid : IsValid e) (runs : RunsLocked e.g0 e.first e.history) (n : State) (event : Event) → IsGranted e event → BeginsNone (granted_by e event) → after_all valid.behind (event_records e event) ≡ Some n → IsMoved e event
+granted_moved e valid runs n Force may begins follows = none_moved e Force tt begins
+granted_moved e valid runs n Flip may begins follows = none_moved e Flip tt begins
+granted_moved e valid runs n Scan may begins follows = none_moved e Scan tt begins
+granted_moved e valid runs n (Flush p) may begins follows = none_moved e (Flush p) tt begins
+granted_moved e valid runs n (Begin s) may begins follows = session_moved e (Begin s) (λ never. cc never) (λ never. cc never) [] refl refl (same_seals e _ refl)
+granted_moved e valid runs n (Abort s) may begins follows = session_moved e (Abort s) (λ never. cc never) (λ never. cc never) [] refl refl (same_seals e _ refl)
+granted_moved e valid runs n (Seal s) may begins follows =
+    let a = account e.history in
+    let t = has_transaction e.g0 a (a.active s) (Seal s) may.asks in
+    let space = ap (λ (x : Option Transaction). room_refusal (ground e) e.g0 a x (Seal s)) (sym t.1) ∙ may.words in
+    session_moved e (Seal s) (λ never. cc never) (λ never. cc never) (event_places e (Seal s)) refl refl
+    (seal_seals e valid n s (length a.sealed + 1) t.0 t.1 (two_phase_ordered e.g0 e.history runs.plain runs.two_phase) space follows)
+granted_moved e valid runs n event may begins follows =
+    session_moved e event (λ never. cc never) (λ never. cc never) [] (ap (λ (x : Core). x.places) (core_call e event tt)) (ap (λ (x : Core). x.remaining) (core_call e event tt))
+    (same_seals e _ (ap (λ (b : Account). b.sealed) (call_account (next_number e) e.g0 (account e.history) event tt)))
 
 module _ (K : Id → Type 0) (g : Graph) (closed : (z y : Id) (i : ℕ) → K z → slice_get (fields g z) i ≡ Some (Ref y) → K y) (e : Core) (valid : IsValid e) (runs : RunsLocked e.g0 e.first e.history) (n : State)
     (keeps : KeepsLed K g (account e.history) e valid.behind) where
@@ -93,44 +138,14 @@ module _ (K : Id → Type 0) (g : Graph) (closed : (z y : Id) (i : ℕ) → K z 
       subst (λ (b : Account). Stays K g (account e.history) b e (done e event) valid.behind n) (sym (call_account (next_number e) e.g0 a event tt))
       (next_stays _ (done e event) (call_next K g e valid n event tt led follows))
 
-  -- Where objects stand.
+  -- What stands in the current space.
 
-  none_moved : (event : Event) → IsOfNone event → BeginsNone (granted_by e event) → IsMoved K e event
-  none_moved event is begins = record {
-    plain = none_plain e event is begins;
-    new = event_new K g (account e.history) e valid led event is begins;
-    more = [];
-    places = ap (λ (p : Placing). p.places) (place_done e event is) ∙ sym (append-nil (moved_by_all (placing e) (event_records e event)).places);
-    remaining = ap (λ (p : Placing). p.remaining) (place_done e event is);
-    seals = same_seals e _ (still_granted e event is).sealed;
-  }
+  session_new : (event : Event) → event ≢ Flip → event ≢ Scan → NewIn K e (event_records e event)
+  session_new event flip scan id at there = barrier_new K g (account e.history) e valid led event id at (ap (λ (p : Placing). address_of p.places id) (sym (session_placing e event flip scan)) ∙ there)
 
-  session_moved : (event : Event) → event ≢ Flip → event ≢ Scan → (more : Places) → (done e event).places ≡ (moved_by_all (placing e) (barrier_records e event)).places ++ more
-      → (done e event).remaining ≡ (moved_by_all (placing e) (barrier_records e event)).remaining → Seals e (account e.history).sealed (said_of e event).sealed more → IsMoved K e event
-  session_moved event flip scan more stand left seals =
-      let rs = barrier_records e event in
-      let same : moved_by_all (placing e) (event_records e event) ≡ moved_by_all (placing e) rs =
-      fold-append moved_by (placing e) rs (own_records e event) ∙ moved_own (moved_by_all (placing e) rs) (own_records e event) (own_of_transaction e event flip scan) in
-      record {
-        plain = no_flips e event flip;
-        new = λ id at there. barrier_new K g (account e.history) e valid led event id at (ap (λ (p : Placing). address_of p.places id) (sym same) ∙ there);
-        more = more;
-        places = stand ∙ ap (λ (p : Placing). p.places ++ more) (sym same);
-        remaining = left ∙ ap (λ (p : Placing). p.remaining) (sym same);
-        seals = seals;
-      }
-
-  pub granted_moved : (event : Event) → IsGranted e event → BeginsNone (granted_by e event) → after_all valid.behind (event_records e event) ≡ Some n → IsMoved K e event
-  granted_moved Force may begins follows = none_moved Force tt begins
-  granted_moved Flip may begins follows = none_moved Flip tt begins
-  granted_moved Scan may begins follows = none_moved Scan tt begins
-  granted_moved (Flush p) may begins follows = none_moved (Flush p) tt begins
-  granted_moved (Begin s) may begins follows = session_moved (Begin s) (λ never. cc never) (λ never. cc never) [] refl refl (same_seals e _ refl)
-  granted_moved (Abort s) may begins follows = session_moved (Abort s) (λ never. cc never) (λ never. cc never) [] refl refl (same_seals e _ refl)
-  granted_moved (Seal s) may begins follows =
-      let t = has_transaction e.g0 a (a.active s) (Seal s) may.asks in
-      let space = ap (λ (x : Option Transaction). room_refusal (ground e) e.g0 a x (Seal s)) (sym t.1) ∙ may.words in
-      session_moved (Seal s) (λ never. cc never) (λ never. cc never) (event_places e (Seal s)) refl refl (seal_seals e valid n s (length a.sealed + 1) t.0 t.1 ordered space follows)
-  granted_moved event may begins follows =
-      session_moved event (λ never. cc never) (λ never. cc never) [] (ap (λ (x : Core). x.places) (core_call e event tt)) (ap (λ (x : Core). x.remaining) (core_call e event tt))
-      (same_seals e _ (ap (λ (b : Account). b.sealed) (call_account (next_number e) e.g0 a event tt)))
+  pub granted_new : (event : Event) → BeginsNone (granted_by e event) → NewIn K e (event_records e event)
+  granted_new Force begins = event_new K g (account e.history) e valid led Force tt begins
+  granted_new Flip begins = event_new K g (account e.history) e valid led Flip tt begins
+  granted_new Scan begins = event_new K g (account e.history) e valid led Scan tt begins
+  granted_new (Flush p) begins = event_new K g (account e.history) e valid led (Flush p) tt begins
+  granted_new event begins = session_new event (λ never. cc never) (λ never. cc never)

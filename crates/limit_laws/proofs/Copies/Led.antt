@@ -68,7 +68,7 @@ all_entries : (P : UndoEntry → Type 0) (es : List Loser) → AllByRecursion (�
 all_entries P [] all = tt
 all_entries P (e ∷ es) all = AllByRecursion-append P e.1 (writes_of_all es) all.0 (all_entries P es all.1)
 
-both_hold : (P Q R : UndoEntry → Type 0) (us : List UndoEntry) → ((u : UndoEntry) → P u → Q u → R u) → AllByRecursion P us → AllByRecursion Q us → AllByRecursion R us
+pub both_hold : (P Q R : UndoEntry → Type 0) (us : List UndoEntry) → ((u : UndoEntry) → P u → Q u → R u) → AllByRecursion P us → AllByRecursion Q us → AllByRecursion R us
 both_hold P Q R [] f p q = tt
 both_hold P Q R (u ∷ us) f p q = (f u p.0 q.0, both_hold P Q R us f p.1 q.1)
 

@@ -150,7 +150,7 @@ flushed_graph e p true true = forced_graph e e.pending
 flushed_graph e p true false = refl
 flushed_graph e p false ahead = refl
 
-none_graph : (e : Core) (event : Event) → IsOfNone event → (done e event).g0 ≡ e.g0
+pub none_graph : (e : Core) (event : Event) → IsOfNone event → (done e event).g0 ≡ e.g0
 none_graph e Force is = forced_graph e e.pending
 none_graph e (Flush p) is = flushed_graph e p (is_dirty e p) (is_ahead e p)
 none_graph e Flip is = ap (λ (x : Core). x.g0) (moved_is e (own_records e Flip))

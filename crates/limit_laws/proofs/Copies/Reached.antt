@@ -1,8 +1,7 @@
--- What a collection has copied since its flip, whatever sessions do: nothing but what is kept. Where no transaction was active then, that is what was
--- reached.
-use Rattle.std.proofs.Common.{◌≡◌, ℕ, List, [], ◌∷◌, ◌++◌, drop, length, Option, None, Some, refl, sym, ap, ◌∙◌, subst, append_assoc}
+-- What a collection has copied since its flip, whatever sessions do: nothing but what is kept.
+use Rattle.std.proofs.Common.{◌≡◌, ℕ, List, [], ◌∷◌, ◌++◌, drop, length, None, Some, is_some, true, refl, sym, ap, ◌∙◌, subst, append_assoc}
 use Rattle.std.proofs.Math.Seq.{drop-append_seam}
-use Rattle.std.specs.Prelude.{Contains, MatchOption, slice_get}
+use Rattle.std.specs.Prelude.{Contains, slice_get}
 use Rattle.std.specs.List.{AllByRecursion}
 use Rattle.std.proofs.lemmas.List.{append-nil}
 use Rattle.std.proofs.lemmas.List.Sums.{fold-append}
@@ -16,63 +15,39 @@ use Rattle.graph_model.specs.declared.reply.Refusal.{Refusal}
 use Rattle.graph_model.specs.declared.reply.Refusal.TheVariants.{DiskFault, Stopped}
 use Rattle.graph_model.specs.declared.reply.Reply.{Reply}
 use Rattle.graph_model.specs.declared.reply.Reply.TheVariants as reply
-use Rattle.graph_model.specs.Canon.{Reached, at_root, along}
 use Rattle.graph_model.specs.Graph.{Graph, fields}
 use Rattle.graph_model.specs.History.{Account, account, account_after, IsOfSession}
 use Rattle.graph_model.specs.Locking.{Exclusive, locks_of}
 use Rattle.graph_model.specs.Transaction.{Transaction, run, serial}
 use Rattle.graph_model.proofs.Runs.History.{account-append}
-use Rattle.heap_spaces.specs.Collection.{Collection}
 use Rattle.log_records.specs.declared.Record.{Record}
-use Rattle.log_machine.specs.Machine.{State, after_all, losing}
+use Rattle.log_machine.specs.Machine.{State, after_all}
 use Rattle.graph_words.specs.Places.{Places, address_of}
 use Rattle.graph_words.proofs.Places.Addresses.{some_address}
-use Rattle.collection_words.specs.Completed.{completed_places, future}
-use Rattle.collection_words.specs.LaidOut.{IsFromSpace}
 use Rattle.collection_words.specs.Placed.{HaveOwnNames}
 use Rattle.collection_words.specs.Placing.{Placing, moved_by, moved_by_all, placing_of}
-use Rattle.collection_words.proofs.Copy.Named.{own_front}
-use Rattle.collection_words.proofs.Copy.Stands.{completed_own}
-use Rattle.collection_words.proofs.Laid.Names.{own_names}
-use Rattle.collection_words.proofs.Laid.Underway.{underway}
-use Rattle.seen_laws.proofs.States.{sealed_stands, writes_of_all}
-use Rattle.heap_model.specs.Core.{Core, IsRun, after, all_records, all_words, answer, core_refusal, done, event_records, granted_by, own_records, placing, with_entry}
+use Rattle.heap_model.specs.Core.{Core, IsRun, after, all_records, answer, core_refusal, done, event_records, granted_by, own_records, placing, with_entry}
 use Rattle.heap_model.proofs.Run.Calls.{step_history}
 use Rattle.core_laws.proofs.Run.Events.{step_reached}
 use Rattle.core_laws.proofs.Step.Events.{may_go}
 use Rattle.core_laws.proofs.Step.Sound.{reached_agrees, sound_valid}
-use Rattle.core_laws.specs.Valid.{Agrees, IsReached, IsValid}
-use Rattle.limit_laws.specs.Copies.{IsIdle, IsKept, KeptTheorem, NoGarbageTheorem, copied_since, of_field, of_overwritten, of_root, sealed_graph}
+use Rattle.core_laws.specs.Valid.{IsReached, IsValid}
+use Rattle.limit_laws.specs.Copies.{IsIdle, copied_since, sealed_graph}
 use Rattle.limit_laws.specs.Progress.{BeganNone, BeginsNone}
 use Rattle.limit_laws.proofs.Copies.Begun.{IsBegun, begun_graph, begun_kept, begun_led, flip_begins, unfailed}
 use Rattle.limit_laws.proofs.Copies.Closed.{IsClosed, closed_first, closed_next}
 use Rattle.limit_laws.proofs.Copies.Counted.{IsCounted, counted_first, counted_next}
 use Rattle.limit_laws.proofs.Copies.Followed.{more_kept, same_left}
-use Rattle.limit_laws.proofs.Copies.Granted.{IsMoved, Stays, granted_moved, granted_stays, said_of}
+use Rattle.limit_laws.proofs.Copies.Granted.{IsMoved, Stays, granted_moved, granted_new, granted_stays, said_of}
+use Rattle.limit_laws.proofs.Copies.Kept.{IsKept, of_field}
 use Rattle.limit_laws.proofs.Copies.Led.{KeepsLed}
+use Rattle.limit_laws.proofs.Copies.Own.{own_all}
 use Rattle.limit_laws.proofs.Copies.Quiet.{IsStill}
 use Rattle.limit_laws.proofs.Copies.Scans.{AreKept}
 use Rattle.limit_laws.proofs.Copies.Tidy.{GraysHave, KeepsTidy, StaysTidy}
 use Rattle.limit_laws.proofs.Events.Appended.{all_done}
 use Rattle.limit_laws.proofs.Events.Steps.{IsDone, granted as is_granted, refused, step_done}
 use Rattle.limit_laws.proofs.Runs.{run_entries, since_run}
-
--- Names.
-
--- no two objects of a core have one name
-own_all : (a : Account) (e : Core) (h : Agrees a e) → HaveOwnNames (e.places ++ e.remaining)
-own_all a e h = by h.behind.collection refl
-  where
-    by : (o : Option Collection) → h.behind.collection ≡ o → HaveOwnNames (e.places ++ e.remaining)
-    by (Some k) run =
-        let heap = h.told.heap in
-        completed_own (writes_of_all (losing h.behind)) (underway (record { run = run; spaced = heap.spaced; long = heap.long; small = heap.small; laid = heap.laid }))
-        (sealed_stands h.behind e.places e.remaining (all_words e) h.told.stands)
-    by None none =
-        let empty : e.remaining ≡ [] = subst (λ o. MatchOption o (e.remaining ≡ []) (λ k. IsFromSpace h.behind k e.places e.remaining (all_words e))) none h.told.heap.laid.from in
-        let P = completed_places h.behind e.places e.remaining (all_words e) in
-        let own = own_front e.places (future h.behind (all_words e) e.remaining) (own_names P _ h.behind.base P _ h.told.stands.ends h.told.stands.names) in
-        subst (λ (ps : Places). HaveOwnNames (e.places ++ ps)) (sym empty) (subst HaveOwnNames (sym (append-nil e.places)) own)
 
 -- Runs.
 
@@ -111,7 +86,7 @@ counted_entry : (copied : Places) (ts : List Transaction) (x : Core) (event : Ev
 counted_entry copied ts x event r counted = record { others = counted.others; old = counted.old }
 
 -- nor does a refusal change sessions
-still_any : (a : Account) (event : Event) (why : Refusal) → IsStill a (account_after a (record { event = event; reply = reply.Refused why }))
+pub still_any : (a : Account) (event : Event) (why : Refusal) → IsStill a (account_after a (record { event = event; reply = reply.Refused why }))
 still_any a (Seal s) DiskFault = record { active = refl; sealed = refl }
 still_any a (Seal s) Stopped = record { active = refl; sealed = refl }
 still_any a event DiskFault = record { active = refl; sealed = refl }
@@ -192,8 +167,8 @@ module _ (c e f : Core) (event : Event) (r : Reply) (b : IsFollowed c e) (there 
     is_kept : (z y : Id) (i : ℕ) → IsKept c z → slice_get (fields (sealed_graph c) z) i ≡ Some (Ref y) → IsKept c y
     is_kept z y i kept refers = of_field i y kept refers
 
-    moves : IsMoved (IsKept c) e event
-    moves = granted_moved (IsKept c) g is_kept e valid b.reached.locked n led event (may_go e event valid.unfailed may) none goes
+    moves : IsMoved e event
+    moves = granted_moved e valid b.reached.locked n event (may_go e event valid.unfailed may) none goes
 
     stays : Stays (IsKept c) (sealed_graph c) (account e.history) (account f.history) e f valid.behind (reached_agrees f there).behind
     stays =
@@ -227,7 +202,7 @@ module _ (c e f : Core) (event : Event) (r : Reply) (b : IsFollowed c e) (there 
       more = b.more ++ rs;
       all = ap all_records is ∙ all_done e event ∙ ap (λ (x : List Record). x ++ rs) b.all ∙ append_assoc (all_records c) b.more rs;
       left = ap (λ (p : Placing). p.remaining) split ∙ same_left M.places e.places e.remaining rs moves.plain ∙ sym remains;
-      copied = subst (λ (p : Placing). AreKept (IsKept c) p.places) (sym split) (more_kept (IsKept c) e M.places rs moves.plain own moves.new b.copied);
+      copied = subst (λ (p : Placing). AreKept (IsKept c) p.places) (sym split) (more_kept (IsKept c) e M.places rs moves.plain own (granted_new (IsKept c) g is_kept e valid b.reached.locked n led event none) b.copied);
       ts = b.ts ++ moves.seals.ts;
       since =
           ap (λ (x : Account). x.sealed) told
@@ -291,18 +266,8 @@ followed c d events objects words reached flips of run none =
 pub copied_is : (c d : Core) (b : IsFollowed c d) → copied_since c d ≡ (moved_by_all (placing c) b.more).places
 copied_is c d b = ap (λ (rs : List Record). (moved_by_all (placing c) rs).places) (ap (drop (length (all_records c))) b.all ∙ drop-append_seam (all_records c) b.more)
 
--- A collection copies nothing but what is kept at its flip.
-pub kept_law : KeptTheorem
-kept_law c d events objects words reached flips of run none id there =
-    let b = followed c d events objects words reached flips of run none in
+-- so it has copied nothing but what is kept
+pub copied_kept : (c d : Core) (b : IsFollowed c d) (id : Id) → is_some (address_of (copied_since c d) id) ≡ true → IsKept c id
+copied_kept c d b id there =
     let at = some_address (address_of (copied_since c d) id) there in
     b.copied id at.0 (ap (λ (ps : Places). address_of ps id) (sym (copied_is c d b)) ∙ at.1)
-
--- that is what is reached, if no transaction is active
-pub idle_reached : (c : Core) → IsIdle c → (id : Id) → IsKept c id → Reached (sealed_graph c) id
-idle_reached c idle id of_root = at_root
-idle_reached c idle id (of_overwritten wrote) = absurd (cc (sym (idle wrote.session) ∙ wrote.active))
-idle_reached c idle id (of_field {id = z} i y kept refers) = along i y (idle_reached c idle z kept) refers
-
-pub no_garbage_law : NoGarbageTheorem
-no_garbage_law c d events objects words reached idle flips of run none id there = idle_reached c idle id (kept_law c d events objects words reached flips of run none id there)

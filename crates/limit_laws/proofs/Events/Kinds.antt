@@ -45,6 +45,18 @@ IsOfScan (Copy from to words) = Unit {0}
 IsOfScan (record_of.Scan page writes) = Unit {0}
 IsOfScan rec = ⊥
 
+-- a record of a collection that goes on, or ends
+abbrev pub IsOfCollection : Record → Type 0
+IsOfCollection (Copy from to words) = Unit {0}
+IsOfCollection (record_of.Scan page writes) = Unit {0}
+IsOfCollection Collected = Unit {0}
+IsOfCollection rec = ⊥
+
+of_collection : (rec : Record) → IsOfScan rec → IsOfCollection rec
+of_collection (Copy from to words) is = tt
+of_collection (record_of.Scan page writes) is = tt
+of_collection rec is = absurd is
+
 -- a record that is no flip
 abbrev pub IsNoFlip : Record → Type 0
 IsNoFlip (record_of.Flip copies) = ⊥
@@ -65,6 +77,10 @@ IsCopy rec = ⊥
 pub no_flip_scan : (rec : Record) → IsOfScan rec → IsNoFlip rec
 no_flip_scan (record_of.Flip copies) is = is
 no_flip_scan rec is = tt
+
+no_flip_collection : (rec : Record) → IsOfCollection rec → IsNoFlip rec
+no_flip_collection (record_of.Flip copies) is = is
+no_flip_collection rec is = tt
 
 -- What a transaction appends.
 
@@ -202,16 +218,20 @@ own_of_transaction c Force other more = tt
 own_of_transaction c (Flush p) other more = tt
 own_of_transaction c event other more = let a = account c.history in call_of (ground (behind_barrier c event)) c.g0 a (a.active (session_of event)) event
 
--- a scan appends no flip
-scan_none : (s : State) (words : List ℕ) (o : Option Collection) (page : Option ℕ) → AllByRecursion IsNoFlip (scan_records_in s words o page)
-scan_none s words None page = tt
-scan_none s words (Some k) None = (tt, tt)
-scan_none s words (Some k) (Some page) =
-    AllByRecursion-map IsOfScan IsNoFlip (page_records s words page) no_flip_scan (page_of_scan s words page s.collection)
+-- a scan appends records of a collection that goes on or ends
+scan_on : (s : State) (words : List ℕ) (o : Option Collection) (page : Option ℕ) → AllByRecursion IsOfCollection (scan_records_in s words o page)
+scan_on s words None page = tt
+scan_on s words (Some k) None = (tt, tt)
+scan_on s words (Some k) (Some page) =
+    AllByRecursion-map IsOfScan IsOfCollection (page_records s words page) of_collection (page_of_scan s words page s.collection)
 
-event_none : (o : Option State) (words : List ℕ) → AllByRecursion IsNoFlip (scan_event_records o words)
-event_none None words = tt
-event_none (Some s) words = scan_none s words s.collection (next_page s.collection)
+event_on : (o : Option State) (words : List ℕ) → AllByRecursion IsOfCollection (scan_event_records o words)
+event_on None words = tt
+event_on (Some s) words = scan_on s words s.collection (next_page s.collection)
 
+pub scan_goes_on : (c : Core) → AllByRecursion IsOfCollection (own_records c Scan)
+scan_goes_on c = event_on (ground c).state (all_words c)
+
+-- so it appends no flip
 pub scan_kinds : (c : Core) → AllByRecursion IsNoFlip (own_records c Scan)
-scan_kinds c = event_none (ground c).state (all_words c)
+scan_kinds c = AllByRecursion-map IsOfCollection IsNoFlip (own_records c Scan) no_flip_collection (scan_goes_on c)
