@@ -1,7 +1,7 @@
 -- What a step answers a scan is true of the collection that is under way.
-use Rattle.std.proofs.Common.{◌≡◌, ℕ, ◌≤◌, List, ◌++◌, length, Option, None, Some, ⊎_elim, inl, inr, sym, ap, ◌∙◌, subst, arith}
+use Rattle.std.proofs.Common.{◌≡◌, ℕ, List, length, Option, None, Some, ⊎_elim, inl, inr, sym, ◌∙◌, subst, arith}
 use Rattle.graph_model.specs.declared.event.Event.{Event}
-use Rattle.graph_model.specs.declared.event.Event.TheVariants.{Flip, Scan}
+use Rattle.graph_model.specs.declared.event.Event.TheVariants.{Scan}
 use Rattle.graph_model.specs.declared.reply.Refusal.{Refusal}
 use Rattle.graph_model.specs.declared.reply.Reply.{Reply}
 use Rattle.graph_model.specs.declared.reply.Reply.TheVariants as reply
@@ -13,9 +13,9 @@ use Rattle.heap_model.specs.Collecting.{copied_in, next_page, scan_reply, scan_r
 use Rattle.heap_model.specs.Core.{Core, IsStep, answer, core_refusal, event_records, granted_by, ground, own_records}
 use Rattle.core_laws.specs.Valid.{IsReached}
 use Rattle.core_laws.proofs.Collecting.Few.{pause_law}
-use Rattle.limit_laws.proofs.Copies.Exact.{exact_law}
-use Rattle.limit_laws.proofs.Copies.Reached.{no_garbage_law}
-use Rattle.heap_core.specs.Collects.{BeganIdle, CollectsAsTold}
+use Rattle.limit_laws.proofs.Copies.Exact.{exact_law, used_law}
+use Rattle.limit_laws.proofs.Copies.Garbage.{no_garbage_law}
+use Rattle.heap_core.specs.Collects.{CollectsAsTold}
 
 -- a scan that is answered so was not refused
 granted : (o : Option Refusal) (r : Reply) (page objects words : ℕ) → reply_of o r ≡ reply.Scanned page objects words → r ≡ reply.Scanned page objects words
@@ -49,8 +49,9 @@ told_of_scan d next answered reached step = record {
   few = λ page objects words is.
       let most = pause_law d Scan reached (λ same. absurd (cc same)) in
       omega (arith, most, told d page objects words (answered_scan d next answered page objects words step is));
-  within = λ c began. no_garbage_law c d began.events began.objects began.words began.reached began.idle began.flipped began.sessions began.run began.alone;
-  exact = λ c used began is. exact_law c d began.events began.objects began.words used began.reached began.idle began.flipped began.sessions began.run began.alone (answered_end d next answered used step is);
+  within = λ c idle way. no_garbage_law idle.first c d idle.events way.events way.objects way.words idle.reached idle.idle idle.sessions idle.run way.flipped way.sessions way.run way.alone;
+  used = λ c used way is. used_law c d way.events way.objects way.words used way.reached way.flipped way.sessions way.run way.alone (answered_end d next answered used step is);
+  exact = λ c used way idle is. exact_law c d way.events way.objects way.words used way.reached idle way.flipped way.sessions way.run way.alone (answered_end d next answered used step is);
 }
 
 -- the same of a step whose event is a scan
