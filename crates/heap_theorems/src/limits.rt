@@ -34,12 +34,12 @@ pub fn collections_take_few_bytes()
     ensures { BytesTheorem }
 {}
 
-/// A collection copies no garbage, whichever transactions are active when it begins.
+/// A collection copies no garbage, at no moment.
 pub fn collections_copy_no_garbage()
     ensures { NoGarbageTheorem }
 {}
 
-/// One that begins where none is active copies just what is reached at its flip.
+/// It copies just what is reached at its flip, whichever transactions are active then.
 pub fn collections_copy_just_what_is_reached()
     ensures { ExactTheorem }
 {}

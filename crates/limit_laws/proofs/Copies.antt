@@ -19,11 +19,12 @@ pub mod Own
 pub mod Past
 pub mod Quiet
 pub mod Reached
+pub mod References
 pub mod Refers
 pub mod Running
 pub mod Scans
 pub mod Seals
 pub mod Steps
-pub mod Tidy
+pub mod Uncopied
 pub mod Undisturbed
 pub mod Within

@@ -91,9 +91,10 @@ pub record CopiesJust (c d : Core) (used : ℕ) : Type 0 where
   pub exactly : (id : Id) → (is_some (address_of (copied_since c d) id) ≡ true) ↔ Reached (sealed_graph c) id
   pub words : AreUsed c d used
 
--- A collection copies just what is reached at its flip, whatever sessions do while it is under way: they may cut references to it, and take that
--- back or seal it. It begins in c, where no transaction is active, and ends with a scan of d.
+-- A collection copies just what is reached from the root in the graph that the sealed transactions have left at its flip, whichever are active then,
+-- and whatever sessions do while it is under way: they may cut references to it, and take that back or seal it. It begins in c, to which events of
+-- sessions led from a core in which no transaction was active, as an opening leaves it, and ends with a scan of d.
 abbrev pub ExactTheorem : Type 0
 ExactTheorem =
-    (c d : Core) (events : List Event) (objects words used : ℕ) → IsReached c → IsIdle c → answer c Flip ≡ reply.Flipped objects words
+    (b c d : Core) (before events : List Event) (objects words used : ℕ) → IsReached b → IsIdle b → AllByRecursion IsOfSession before → IsRun b before c → answer c Flip ≡ reply.Flipped objects words
     → AllByRecursion IsOfSession events → IsRun (after c Flip) events d → BeganNone (after c Flip) d → answer d Scan ≡ reply.Collected used → CopiesJust c d used

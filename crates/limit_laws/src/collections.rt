@@ -25,8 +25,7 @@ pub fn undisturbed_collections_copy_what_is_reached()
     ensures { UndisturbedTheorem }
 {}
 
-/// A collection copies nothing but what is reached from the root at its flip, whichever transactions are active then, and whatever sessions do while
-/// it is under way.
+/// At no moment has a collection copied anything but what was reached from the root at its flip.
 pub fn collections_copy_no_garbage()
     ensures { NoGarbageTheorem }
 {}
@@ -36,8 +35,8 @@ pub fn collected_says_the_words_in_use()
     ensures { UsedTheorem }
 {}
 
-/// A collection that begins where no transaction is active copies just what is reached from the root at its flip, whatever sessions do while it is
-/// under way, and is answered as many used words as that takes and what became stable meanwhile.
+/// A collection copies just what is reached from the root at its flip, whichever transactions are active then, and whatever sessions do while it is
+/// under way.
 pub fn collections_copy_just_what_is_reached()
     ensures { ExactTheorem }
 {}

@@ -1,6 +1,6 @@
 -- A flip that is granted: what it leaves, and the scan that ends its collection.
-use Rattle.std.proofs.Common.{◌≡◌, inl, inr, ℕ, List, ◌++◌, Option, None, Some, refl, sym, ap, ◌∙◌, subst}
-use Rattle.std.specs.Prelude.{slice_get}
+use Rattle.std.proofs.Common.{◌≡◌, inl, inr, ℕ, List, [], ◌∷◌, ◌++◌, Option, None, Some, refl, sym, ap, ◌∙◌, subst}
+use Rattle.std.specs.Prelude.{Contains, slice_get, is_some}
 use Rattle.graph_model.specs.declared.event.Event.TheVariants.{Flip, Scan}
 use Rattle.graph_model.specs.declared.id.Id.{Id}
 use Rattle.graph_model.specs.declared.reply.Entry.{Entry}
@@ -9,6 +9,7 @@ use Rattle.graph_model.specs.declared.reply.Reply.{Reply}
 use Rattle.graph_model.specs.declared.reply.Reply.TheVariants as reply
 use Rattle.graph_model.specs.Graph.{Graph, fields}
 use Rattle.graph_model.specs.History.{Account, account, account_after}
+use Rattle.graph_model.specs.Locking.{Exclusive, locks_of}
 use Rattle.graph_model.specs.Plain.{refusal_of, reply_of}
 use Rattle.graph_model.specs.Transaction.{Transaction, run, serial}
 use Rattle.graph_model.proofs.Runs.History.{account-append}
@@ -18,20 +19,25 @@ use Rattle.log_machine.specs.Machine.{State}
 use Rattle.graph_words.specs.Places.{address_of}
 use Rattle.graph_words.proofs.Places.Addresses.{some_address}
 use Rattle.collection_words.specs.Placing.{Placing, moved_by_all}
+use Rattle.collection_words.proofs.Copy.Named.{apart_of}
 use Rattle.heap_model.specs.Collecting.{flip_records, flip_records_in, flip_reply, next_page, scan_reply, scan_reply_in}
 use Rattle.heap_model.specs.Core.{Core, IsStep, after, after_refusal, all_records, all_words, answer, core_refusal, granted_by, ground, own_records, placing, roots}
 use Rattle.heap_model.proofs.Run.Calls.{same_step, step_history}
+use Rattle.core_laws.proofs.Collecting.Flip as flip
 use Rattle.core_laws.proofs.Run.Events.{step_reached}
 use Rattle.core_laws.proofs.Step.Goes.{writing_of}
 use Rattle.core_laws.proofs.Step.Sound.{reached_agrees, sound_valid}
 use Rattle.core_laws.specs.Valid.{Agrees, IsReached, IsValid}
 use Rattle.limit_laws.specs.Copies.{sealed_graph}
-use Rattle.limit_laws.proofs.Copies.Flips.{flip_is, flip_kept, kept_closed, seen_within}
+use Rattle.limit_laws.proofs.Copies.Flips.{copied_from, flip_is, flip_kept, kept_closed, left_from, seen_within}
 use Rattle.limit_laws.proofs.Copies.Kept.{IsKept}
 use Rattle.limit_laws.proofs.Copies.Led.{KeepsLed}
+use Rattle.limit_laws.proofs.Copies.Own.{own_all}
 use Rattle.limit_laws.proofs.Copies.Quiet.{place_done}
+use Rattle.limit_laws.proofs.Copies.References.{KeepsReferences}
 use Rattle.limit_laws.proofs.Copies.Scans.{AreKept}
 use Rattle.limit_laws.proofs.Copies.Steps.{not_made}
+use Rattle.limit_laws.proofs.Copies.Uncopied.{seen_refers}
 use Rattle.limit_laws.proofs.Copies.Within.{OwnOr}
 use Rattle.limit_laws.proofs.Events.Appended.{all_done}
 
@@ -109,6 +115,22 @@ module _ (c f : Core) (reached : IsReached c) (begun : IsBegun c f) where
       theirs : (t : Transaction) (y : Id) → (y.t ≡ t.number → ⊥) → OwnOr (IsKept c) t.number y → IsKept c y
       theirs t y apart (inl own) = absurd (apart own)
       theirs t y apart (inr kept) = kept
+
+  -- and each reference to what remains is as it was
+  pub begun_refers : KeepsReferences (sealed_graph c) (account f.history) f (reached_agrees f begun.reached).behind
+  begun_refers = record {
+    sealed = λ k run_is z y at i there gray refers left. ap (λ (x : Graph). slice_get (fields x z) i) begun_graph ∙ refers;
+    seen = λ k run_is r t z y at i active lock there gray refers left.
+        let runs = reached.locked in
+        let h = reached_agrees f begun.reached in
+        let stood : placing f ≡ moved_by_all (placing c) (flip.rec (account c.history) c begun.valid begun.none ∷ []) = begun.placed ∙ ap (moved_by_all (placing c)) (flip_is c begun.valid runs begun.none) in
+        let from = copied_from c begun.valid runs begun.none z at (ap (λ (p : Placing). address_of p.places z) (sym stood) ∙ there) in
+        let to = left_from c begun.valid runs begun.none y (ap (λ (p : Placing). is_some (address_of p.remaining y)) (sym stood) ∙ left) in
+        let last = some_address (address_of f.remaining y) left in
+        let apart = ap (λ (p : Placing). address_of p.places y) (sym stood) ∙ apart_of f.places f.remaining y last.0 (own_all _ f h) last.1 in
+        ap (λ (x : Graph). slice_get (fields (run x t).graph z) i) begun_graph
+        ∙ seen_refers c begun.valid runs begun.none r t (ap (λ x. x r) (sym begun.active) ∙ active) z y i from.0 to.0 (subst (λ (x : Graph). Contains (locks_of x t) (z, Exclusive)) begun_graph lock) from.1 to.1 apart refers;
+  }
 
 -- The end.
 

@@ -37,7 +37,7 @@ use Rattle.limit_laws.proofs.Copies.Followed.{new_left, parted}
 use Rattle.limit_laws.proofs.Copies.Running.{IsPlaced, all_placed, ran}
 use Rattle.limit_laws.proofs.Copies.Scans.{address_cases}
 use Rattle.limit_laws.proofs.Copies.Steps.{moved_fewer}
-use Rattle.limit_laws.proofs.Copies.Tidy.{GraysHave}
+use Rattle.limit_laws.proofs.Copies.References.{GraysRefer}
 use Rattle.limit_laws.proofs.Events.Kinds.{IsNoFlip}
 
 -- Places.
@@ -130,8 +130,8 @@ closed_first g a e h same = record {
 
 -- An event keeps it.
 module _ (g : Graph) (b : Account) (e f : Core) (h : Agrees b f) (s : State) (copied : Places) (records : List Record) (plain : AllByRecursion IsNoFlip records) (follows : after_all s records ≡ Some h.behind)
-    (own : HaveOwnNames (e.places ++ e.remaining)) (more : Places) (stands : f.places ≡ (moved_by_all (placing e) records).places ++ more) (left : f.remaining ≡ (moved_by_all (placing e) records).remaining)
-    (rest : (z : Id) → is_some (address_of e.remaining z) ≡ true → fields (serial f.g0 b.sealed) z ≡ fields g z) (grays : GraysHave g (serial f.g0 b.sealed) e s) (closed : IsClosed g copied e s) where
+    (own : HaveOwnNames (e.places ++ e.remaining)) (more : Places) (stands : f.places ≡ (moved_by_all (placing e) records).places ++ more) (remains : f.remaining ≡ (moved_by_all (placing e) records).remaining)
+    (rest : (z : Id) → is_some (address_of e.remaining z) ≡ true → fields (serial f.g0 b.sealed) z ≡ fields g z) (grays : GraysRefer g (serial f.g0 b.sealed) e s) (closed : IsClosed g copied e s) where
   abbrev new : Places
   new = (moved_by_all (placing_of [] e.remaining) records).places
 
@@ -157,25 +157,24 @@ module _ (g : Graph) (b : Account) (e f : Core) (h : Agrees b f) (s : State) (co
       ∙ address_of-append_left (moved_by_all (placing e) records).places more id at (ap (λ (ps : Places). address_of ps id) (parted e.places e.remaining records plain).places ∙ here)
 
   same_left : f.remaining ≡ (moved_by_all (placing_of copied e.remaining) records).remaining
-  same_left = left ∙ (parted e.places e.remaining records plain).remaining ∙ sym (parted copied e.remaining records plain).remaining
+  same_left = remains ∙ (parted e.places e.remaining records plain).remaining ∙ sym (parted copied e.remaining records plain).remaining
 
-  -- what did not remain does not
-  none_left : (y : Id) → address_of e.remaining y ≡ None → address_of f.remaining y ≡ None
-  none_left y none = none_of (address_of f.remaining y) (λ has. some_none none (moved_fewer (placing e) records plain y (ap (λ (ps : Places). is_some (address_of ps y)) (sym left) ∙ has)))
-
+  -- what a copied object refers to that is not gray does not remain
   black_still : (k : Collection) → h.behind.collection ≡ Some k → (z y : Id) (at i : ℕ) → address_of (moved_by_all (placing_of copied e.remaining) records).places z ≡ Some at → contains k.gray at ≡ false
       → slice_get (fields g z) i ≡ Some (Ref y) → address_of f.remaining y ≡ None
-  black_still k run z y at i there black refers =
+  black_still k run z y at i there black refers = none_of (address_of f.remaining y) (λ left.
       let j = ran s h.behind records plain follows k run in
-      let fresh = λ (same : fields (serial f.g0 b.sealed) z ≡ fields g z). black_left b f h k run z y at i (still_current z at there) black (ap (λ (vs : List Val). slice_get vs i) same ∙ refers) in
-      elim (was z at there) [
-        | inl old ↦ by j.0 j.1 old (contains j.0.gray at) refl fresh
-        | inr added ↦ fresh (rest z added.1)
-      ]
+      let was_left = moved_fewer (placing e) records plain y (ap (λ (ps : Places). is_some (address_of ps y)) (sym remains) ∙ left) in
+      let none = λ (edge : slice_get (fields (serial f.g0 b.sealed) z) i ≡ Some (Ref y)). black_left b f h k run z y at i (still_current z at there) black edge in
+      some_none (elim (was z at there) [
+        | inl old ↦ by j.0 j.1 old (contains j.0.gray at) refl was_left none
+        | inr added ↦ none (ap (λ (vs : List Val). slice_get vs i) (rest z added.1) ∙ refers)
+      ]) left)
     where
-      by : (j : Collection) → s.collection ≡ Some j → address_of copied z ≡ Some at → (t : Bool) → contains j.gray at ≡ t → (fields (serial f.g0 b.sealed) z ≡ fields g z → address_of f.remaining y ≡ None) → address_of f.remaining y ≡ None
-      by j ran old true gray fresh = fresh (grays j ran z at (closed.current z at old) gray)
-      by j ran old false gray fresh = none_left y (closed.black j ran z y at i old gray refers)
+      by : (j : Collection) → s.collection ≡ Some j → address_of copied z ≡ Some at → (t : Bool) → contains j.gray at ≡ t → is_some (address_of e.remaining y) ≡ true
+          → (slice_get (fields (serial f.g0 b.sealed) z) i ≡ Some (Ref y) → address_of f.remaining y ≡ None) → address_of f.remaining y ≡ None
+      by j ran old true gray left none = none (grays j ran z y at i (closed.current z at old) gray refers left)
+      by j ran old false gray left none = absurd (some_none (closed.black j ran z y at i old gray refers) left)
 
   pub closed_next : IsClosed g (moved_by_all (placing_of copied e.remaining) records).places f h.behind
   closed_next = record {

@@ -27,9 +27,10 @@ use Rattle.seen_laws.proofs.Reading.{object_here}
 use Rattle.seen_laws.proofs.States.{backed_all, sealed_stands, writes_of_all}
 use Rattle.heap_model.specs.Core.{Core, after, all_words, answer, placing}
 use Rattle.heap_model.proofs.Run.Calls.{same_run, same_step}
+use Rattle.core_laws.proofs.Run.Events.{run_reached}
 use Rattle.core_laws.proofs.Step.Sound.{reached_agrees}
 use Rattle.core_laws.specs.Valid.{Agrees}
-use Rattle.limit_laws.specs.Copies.{ExactTheorem, IsIdle, UsedTheorem, copied_since, is_made_by, sealed_graph, sealed_since, words_of}
+use Rattle.limit_laws.specs.Copies.{ExactTheorem, UsedTheorem, copied_since, is_made_by, sealed_graph, sealed_since, words_of}
 use Rattle.limit_laws.proofs.Copies.Closed.{root_left}
 use Rattle.limit_laws.proofs.Copies.Disturbed.{some_none}
 use Rattle.limit_laws.proofs.Copies.Garbage.{no_garbage_law}
@@ -121,7 +122,7 @@ not_left : (p : Placing) (id : Id) → IsPlaced p id → address_of p.remaining 
 not_left p id (inl here) none = here
 not_left p id (inr left) none = absurd (some_none none left)
 
-module _ (c d : Core) (b : IsFollowed c d) (idle : IsIdle c) (used : ℕ) (end : EndsWith (reached_agrees d b.reached).behind used) where
+module _ (c d : Core) (b : IsFollowed c d) (used : ℕ) (end : EndsWith (reached_agrees d b.reached).behind used) where
   abbrev copies : Placing
   copies = placing_of (moved_by_all (placing c) b.more).places d.remaining
 
@@ -129,23 +130,24 @@ module _ (c d : Core) (b : IsFollowed c d) (idle : IsIdle c) (used : ℕ) (end :
   none_left : (id : Id) → Reached (sealed_graph c) id → address_of d.remaining id ≡ None
   none_left id at_root = root_left _ d (reached_agrees d b.reached) end.collection end.runs
   none_left id (along {id = z} i to reached refers) =
-      let copied = not_left copies z ((b.closed idle).reached end.collection end.runs z reached) (none_left z reached) in
+      let copied = not_left copies z (b.closed.reached end.collection end.runs z reached) (none_left z reached) in
       let at = some_address (address_of copies.places z) copied in
-      (b.closed idle).black end.collection end.runs z to at.0 i at.1 (nothing_gray end.collection end.black at.0) refers
+      b.closed.black end.collection end.runs z to at.0 i at.1 (nothing_gray end.collection end.black at.0) refers
 
   -- so all of it is copied
   all_copied : (id : Id) → Reached (sealed_graph c) id → is_some (address_of (moved_by_all (placing c) b.more).places id) ≡ true
-  all_copied id reached = not_left copies id ((b.closed idle).reached end.collection end.runs id reached) (none_left id reached)
+  all_copied id reached = not_left copies id (b.closed.reached end.collection end.runs id reached) (none_left id reached)
 
--- What a collection copies is just what is reached, if no transaction was active.
+-- What a collection copies is just what is reached.
 pub exact_law : ExactTheorem
-exact_law c d events objects words used reached idle flips of run none is =
-    let b = followed c d events objects words reached flips of run none in
-    let end = end_of_scan _ d (reached_agrees d b.reached) used is in
+exact_law b c d before events objects words used reached idle sessions first flips of run none is =
+    let there = run_reached b c before reached sessions first in
+    let copies = followed c d events objects words there flips of run none in
+    let end = end_of_scan _ d (reached_agrees d copies.reached) used is in
     record {
       exactly = λ id. (
-        λ there. no_garbage_law c c d [] events objects words reached idle tt refl flips of run none id there,
-        λ reaches. ap (λ (ps : Places). is_some (address_of ps id)) (copied_is c d b) ∙ all_copied c d b idle used end id reaches,
+        λ copied. no_garbage_law b c d before events objects words reached idle sessions first flips of run none id copied,
+        λ reaches. ap (λ (ps : Places). is_some (address_of ps id)) (copied_is c d copies) ∙ all_copied c d copies used end id reaches,
       );
-      words = used_law c d events objects words used reached flips of run none is;
+      words = used_law c d events objects words used there flips of run none is;
     }

@@ -1,6 +1,6 @@
 -- What a flip copies: the root, and what active transactions name. All of it is kept.
 use Rattle.std.proofs.Common.{◌≡◌, ◌⊎◌, inl, inr, ℕ, zero, suc, Bool, true, false, List, [], ◌∷◌, ◌++◌, filter, Option, None, Some, is_some, refl, sym, ap, ◌∙◌, subst}
-use Rattle.std.specs.Prelude.{◌||◌, ◌==◌, Contains, slice_get, if◌then◌else◌}
+use Rattle.std.specs.Prelude.{not, ◌||◌, ◌==◌, Contains, slice_get, if◌then◌else◌}
 use Rattle.std.specs.List.{AllByRecursion, list_any}
 use Rattle.std.specs.FinSet.{contains}
 use Rattle.std.proofs.lemmas.Bool.{eqb-true}
@@ -200,8 +200,14 @@ module _ (c : Core) (valid : IsValid c) (runs : RunsLocked c.g0 c.first c.histor
       let P = c.places ++ future valid.behind (all_words c) c.remaining in
       names_own c.places (own_front c.places (future valid.behind (all_words c) c.remaining) (own_names P _ valid.behind.base P _ valid.told.stands.ends valid.told.stands.names))
 
-  pub flip_kept : AreKept (IsKept c) (moved_by_all (placing c) (flip.rec (account c.history) c valid none ∷ [])).places
-  flip_kept id at there =
+  -- Where a copied object stood.
+  record WasRoot (id : Id) : Type 0 where
+    at : ℕ
+    there : address_of c.places id ≡ Some at
+    root : Contains (with_base valid.behind.base (flip.roots (account c.history) c valid none)) at
+
+  was_root : (id : Id) (at : ℕ) → address_of (moved_by_all (placing c) (flip.rec (account c.history) c valid none ∷ [])).places id ≡ Some at → WasRoot id
+  was_root id at there =
       let s = valid.behind in
       let roots = flip.roots a c valid none in
       let Q : Id × ℕ → Type 0 = λ p. address_of c.places p.0 ≡ Some p.1 in
@@ -210,11 +216,34 @@ module _ (c : Core) (valid : IsValid c) (runs : RunsLocked c.g0 c.first c.histor
       let here = ap (λ (p : Placing). address_of p.places id) (sym (flip.placed a c valid none)) ∙ there in
       let was = some_address (address_of from id) (future_some (all_words c) from _ id (ap is_some here)) in
       let stood = placed_as (λ (p : Id × ℕ). Q p × (moves p ≡ true)) from id was.0 (passing Q moves c.places names) was.1 in
-      let copied = subst (λ (xs : List ℕ). Contains xs was.0) (roots_copied (flip.can a c valid none)) (address_of-Contains from id was.0 was.1) in
-      elim (with_base-cases s.base roots was.0 copied) [
-        | inl base ↦ subst (IsKept c) (stand_apart a c valid root id was.0 (root_current valid.told.heap.laid valid.told.stands.root_place ∙ ap Some base) stood.0) of_root
+      record {
+        at = was.0;
+        there = stood.0;
+        root = subst (λ (xs : List ℕ). Contains xs was.0) (roots_copied (flip.can a c valid none)) (address_of-Contains from id was.0 was.1);
+      }
+
+  -- in the current space
+  pub copied_from : (id : Id) (at : ℕ) → address_of (moved_by_all (placing c) (flip.rec (account c.history) c valid none ∷ [])).places id ≡ Some at → (from : ℕ) × (address_of c.places id ≡ Some from)
+  copied_from id at there = let was = was_root id at there in (was.at, was.there)
+
+  -- so did what remains
+  pub left_from : (id : Id) → is_some (address_of (moved_by_all (placing c) (flip.rec (account c.history) c valid none ∷ [])).remaining id) ≡ true → (from : ℕ) × (address_of c.places id ≡ Some from)
+  left_from id left =
+      let Q : Id × ℕ → Type 0 = λ p. address_of c.places p.0 ≡ Some p.1 in
+      let stays = λ (p : Id × ℕ). not (contains (collection_begun valid.behind (all_words c) (flip.roots a c valid none)).moved p.1) in
+      let here = ap (λ (p : Placing). is_some (address_of p.remaining id)) (sym (flip.placed a c valid none)) ∙ left in
+      let was = some_address (address_of (filter stays c.places) id) here in
+      (was.0, (placed_as (λ (p : Id × ℕ). Q p × (stays p ≡ true)) (filter stays c.places) id was.0 (passing Q stays c.places names) was.1).0)
+
+  pub flip_kept : AreKept (IsKept c) (moved_by_all (placing c) (flip.rec (account c.history) c valid none ∷ [])).places
+  flip_kept id at there =
+      let s = valid.behind in
+      let Q : Id × ℕ → Type 0 = λ p. address_of c.places p.0 ≡ Some p.1 in
+      let was = was_root id at there in
+      elim (with_base-cases s.base (flip.roots a c valid none) was.at was.root) [
+        | inl base ↦ subst (IsKept c) (stand_apart a c valid root id was.at (root_current valid.told.heap.laid valid.told.stands.root_place ∙ ap Some base) was.there) of_root
         | inr named ↦
             let is = is_root (undo_of s) c.g0 a in
-            let root = placed (λ (p : Id × ℕ). Q p × (is p ≡ true)) (filter is c.places) was.0 (passing Q is c.places names) named in
-            subst (IsKept c) (stand_apart a c valid root.0 id was.0 root.1.0 stood.0) (root_kept root.0 was.0 root.1.0 root.1.1)
+            let root = placed (λ (p : Id × ℕ). Q p × (is p ≡ true)) (filter is c.places) was.at (passing Q is c.places names) named in
+            subst (IsKept c) (stand_apart a c valid root.0 id was.at root.1.0 was.there) (root_kept root.0 was.at root.1.0 root.1.1)
       ]

@@ -28,9 +28,9 @@ use Rattle.limit_laws.proofs.Copies.Followed.{moved_own}
 use Rattle.limit_laws.proofs.Copies.Led.{HasLed, KeepsLed, StaysLed}
 use Rattle.limit_laws.proofs.Copies.Moves.{abort_next, begin_next, call_next, core_call, event_new, none_next, none_plain}
 use Rattle.limit_laws.proofs.Copies.Quiet.{place_done, still_granted}
-use Rattle.limit_laws.proofs.Copies.Seals.{led_sealed, seal_seals, sealed_to, tidy_sealed}
-use Rattle.limit_laws.proofs.Copies.Steps.{IsNext, NewIn, barrier_new, led_next, tidy_next}
-use Rattle.limit_laws.proofs.Copies.Tidy.{KeepsTidy, StaysTidy}
+use Rattle.limit_laws.proofs.Copies.Seals.{led_sealed, referring_sealed, seal_seals, sealed_to}
+use Rattle.limit_laws.proofs.Copies.Steps.{IsNext, NewIn, barrier_new, led_next, referring_next}
+use Rattle.limit_laws.proofs.Copies.References.{KeepsReferences, StaysReferring}
 use Rattle.limit_laws.proofs.Events.Kinds.{IsNoFlip, own_of_transaction}
 use Rattle.limit_laws.proofs.Progress.Scans.{no_flips}
 
@@ -38,10 +38,10 @@ use Rattle.limit_laws.proofs.Progress.Scans.{no_flips}
 abbrev pub said_of : Core → Event → Account
 said_of e event = account_after (account e.history) (record { event = event; reply = granted_by e event })
 
--- What an event leaves of what is kept and what is tidy.
+-- What an event leaves of what is kept, and of the references of gray objects.
 pub record Stays (K : Id → Type 0) (g : Graph) (a b : Account) (e f : Core) (s n : State) : Type 0 where
   pub led : StaysLed K g b e f n
-  pub tidy : KeepsTidy g a e s → StaysTidy g b e f s n
+  pub referring : KeepsReferences g a e s → StaysReferring g b e f s n
 
 -- Where its records move objects, what it makes stable, and which transactions it seals.
 pub record IsMoved (e : Core) (event : Event) : Type 0 where
@@ -111,10 +111,10 @@ module _ (K : Id → Type 0) (g : Graph) (closed : (z y : Id) (i : ℕ) → K z 
   led : HasLed K g (account e.history) e valid
   led = record { closed = closed; numbers = numbers_begun e.history; heard = heard_in e.history; ordered = ordered; led = keeps }
 
-  -- What is kept, and what is tidy.
+  -- What is kept, and to what gray objects refer.
 
   next_stays : (b : Account) (f : Core) → IsNext K (account e.history) b e f valid.behind n → Stays K g (account e.history) b e f valid.behind n
-  next_stays b f next = record { led = led_next K g a b e f valid n next led; tidy = tidy_next K g a b e f valid n next led }
+  next_stays b f next = record { led = led_next K g a b e f valid n next led; referring = referring_next K g a b e f valid n next led }
 
   none_stays : (event : Event) → IsOfNone event → BeginsNone (granted_by e event) → after_all valid.behind (event_records e event) ≡ Some n → Stays K g (account e.history) (said_of e event) e (done e event) valid.behind n
   none_stays event is begins follows = next_stays (said_of e event) (done e event) (none_next K g e valid n event (said_of e event) is begins (still_granted e event is) led follows)
@@ -132,7 +132,7 @@ module _ (K : Id → Type 0) (g : Graph) (closed : (z y : Id) (i : ℕ) → K z 
       let to = sealed_to e valid n s (length a.sealed + 1) t.0 t.1 ordered space follows in
       record {
         led = led_sealed K g a (said_of e (Seal s)) e (done e (Seal s)) valid n s t.0 t.1 ordered to led;
-        tidy = tidy_sealed K g a (said_of e (Seal s)) e (done e (Seal s)) valid n s t.0 t.1 ordered to led;
+        referring = referring_sealed K g a (said_of e (Seal s)) e (done e (Seal s)) valid n s t.0 t.1 ordered to led;
       }
   granted_stays event may begins follows =
       subst (λ (b : Account). Stays K g (account e.history) b e (done e event) valid.behind n) (sym (call_account (next_number e) e.g0 a event tt))

@@ -32,9 +32,9 @@ use Rattle.core_laws.proofs.Run.Events.{step_reached}
 use Rattle.core_laws.proofs.Step.Events.{may_go}
 use Rattle.core_laws.proofs.Step.Sound.{reached_agrees, sound_valid}
 use Rattle.core_laws.specs.Valid.{IsReached, IsValid}
-use Rattle.limit_laws.specs.Copies.{IsIdle, copied_since, sealed_graph}
+use Rattle.limit_laws.specs.Copies.{copied_since, sealed_graph}
 use Rattle.limit_laws.specs.Progress.{BeganNone, BeginsNone}
-use Rattle.limit_laws.proofs.Copies.Begun.{IsBegun, begun_graph, begun_kept, begun_led, flip_begins, unfailed}
+use Rattle.limit_laws.proofs.Copies.Begun.{IsBegun, begun_graph, begun_kept, begun_led, begun_refers, flip_begins, unfailed}
 use Rattle.limit_laws.proofs.Copies.Closed.{IsClosed, closed_first, closed_next}
 use Rattle.limit_laws.proofs.Copies.Counted.{IsCounted, counted_first, counted_next}
 use Rattle.limit_laws.proofs.Copies.Followed.{more_kept, same_left}
@@ -44,7 +44,7 @@ use Rattle.limit_laws.proofs.Copies.Led.{KeepsLed}
 use Rattle.limit_laws.proofs.Copies.Own.{own_all}
 use Rattle.limit_laws.proofs.Copies.Quiet.{IsStill}
 use Rattle.limit_laws.proofs.Copies.Scans.{AreKept}
-use Rattle.limit_laws.proofs.Copies.Tidy.{GraysHave, KeepsTidy, StaysTidy}
+use Rattle.limit_laws.proofs.Copies.References.{GraysRefer, KeepsReferences, StaysReferring}
 use Rattle.limit_laws.proofs.Events.Appended.{all_done}
 use Rattle.limit_laws.proofs.Events.Steps.{IsDone, granted as is_granted, refused, step_done}
 use Rattle.limit_laws.proofs.Runs.{run_entries, since_run}
@@ -62,21 +62,21 @@ pub record IsFollowed (c e : Core) : Type 0 where
   pub ts : List Transaction  -- that were sealed since
   pub since : (account e.history).sealed ≡ (account c.history).sealed ++ ts
   pub counted : IsCounted (moved_by_all (placing c) more).places ts e
-  pub tidy : IsIdle c → KeepsTidy (sealed_graph c) (account e.history) e (reached_agrees e reached).behind
-  pub closed : IsIdle c → IsClosed (sealed_graph c) (moved_by_all (placing c) more).places e (reached_agrees e reached).behind
+  pub referring : KeepsReferences (sealed_graph c) (account e.history) e (reached_agrees e reached).behind
+  pub closed : IsClosed (sealed_graph c) (moved_by_all (placing c) more).places e (reached_agrees e reached).behind
 
 -- An entry changes nothing of a core but its history.
 
 led_entry : (K : Id → Type 0) (g : Graph) (b : Account) (x : Core) (s : State) (event : Event) (r : Reply) → KeepsLed K g b x s → KeepsLed K g b (with_entry x event r) s
 led_entry K g b x s event r led = record { rest = led.rest; leads = led.leads; seen = led.seen }
 
-tidy_entry : (g : Graph) (b : Account) (x : Core) (s : State) (event : Event) (r : Reply) → KeepsTidy g b x s → KeepsTidy g b (with_entry x event r) s
-tidy_entry g b x s event r tidy = record { grays = tidy.grays; black = tidy.black }
+referring_entry : (g : Graph) (b : Account) (x : Core) (s : State) (event : Event) (r : Reply) → KeepsReferences g b x s → KeepsReferences g b (with_entry x event r) s
+referring_entry g b x s event r keeps = record { sealed = keeps.sealed; seen = keeps.seen }
 
 stays_entry : (K : Id → Type 0) (g : Graph) (a b : Account) (e x : Core) (s n : State) (event : Event) (r : Reply) → Stays K g a b e x s n → Stays K g a b e (with_entry x event r) s n
 stays_entry K g a b e x s n event r stays = record {
   led = record { rest = stays.led.rest; led = led_entry K g b x n event r stays.led.led };
-  tidy = λ before. let after = stays.tidy before in record { grays = after.grays; tidy = tidy_entry g b x n event r after.tidy };
+  referring = λ before. let after = stays.referring before in record { before = after.before; later = referring_entry g b x n event r after.later };
 }
 
 closed_entry : (g : Graph) (copied : Places) (x : Core) (s : State) (event : Event) (r : Reply) → IsClosed g copied x s → IsClosed g copied (with_entry x event r) s
@@ -102,10 +102,12 @@ led_still K g a b e s still led = record {
       (ap (λ ss. slice_get (fields (run (serial e.g0 ss) t).graph z) i) (sym still.sealed) ∙ refers) left;
 }
 
-tidy_still : (g : Graph) (a b : Account) (e : Core) (s : State) → IsStill a b → KeepsTidy g a e s → KeepsTidy g b e s
-tidy_still g a b e s still tidy = record {
-  grays = subst (λ ss. GraysHave g (serial e.g0 ss) e s) (sym still.sealed) tidy.grays;
-  black = λ k run_is r t z at active lock there. tidy.black k run_is r t z at (ap (λ x. x r) (sym still.active) ∙ active) (subst (λ ss. Contains (locks_of (serial e.g0 ss) t) (z, Exclusive)) still.sealed lock) there;
+referring_still : (g : Graph) (a b : Account) (e : Core) (s : State) → IsStill a b → KeepsReferences g a e s → KeepsReferences g b e s
+referring_still g a b e s still keeps = record {
+  sealed = subst (λ ss. GraysRefer g (serial e.g0 ss) e s) (sym still.sealed) keeps.sealed;
+  seen = λ k run_is r t z y at i active lock there gray refers left.
+      ap (λ ss. slice_get (fields (run (serial e.g0 ss) t).graph z) i) still.sealed
+      ∙ keeps.seen k run_is r t z y at i (ap (λ x. x r) (sym still.active) ∙ active) (subst (λ ss. Contains (locks_of (serial e.g0 ss) t) (z, Exclusive)) still.sealed lock) there gray refers left;
 }
 
 -- Steps.
@@ -141,10 +143,10 @@ module _ (c e f : Core) (event : Event) (r : Reply) (b : IsFollowed c e) (there 
         ts = b.ts;
         since = still.sealed ∙ b.since;
         counted = subst (IsCounted M.places b.ts) (sym is) (counted_entry M.places b.ts e event r b.counted);
-        tidy = λ idle.
-            subst (KeepsTidy g (account f.history) f) (sym same)
-            (subst (λ (x : Core). KeepsTidy g (account f.history) x before) (sym is) (tidy_entry g (account f.history) e before event r (tidy_still g (account e.history) (account f.history) e before still (b.tidy idle))));
-        closed = λ idle. subst (IsClosed g M.places f) (sym same) (subst (λ (x : Core). IsClosed g M.places x before) (sym is) (closed_entry g M.places e before event r (b.closed idle)));
+        referring =
+            subst (KeepsReferences g (account f.history) f) (sym same)
+            (subst (λ (x : Core). KeepsReferences g (account f.history) x before) (sym is) (referring_entry g (account f.history) e before event r (referring_still g (account e.history) (account f.history) e before still b.referring)));
+        closed = subst (IsClosed g M.places f) (sym same) (subst (λ (x : Core). IsClosed g M.places x before) (sym is) (closed_entry g M.places e before event r b.closed));
       }
 
   -- an event that is granted
@@ -192,8 +194,8 @@ module _ (c e f : Core) (event : Event) (r : Reply) (b : IsFollowed c e) (there 
     remains : f.remaining ≡ (moved_by_all (placing e) (event_records e event)).remaining
     remains = ap (λ (x : Core). x.remaining) is ∙ moves.remaining
 
-    tidied : IsIdle c → StaysTidy (sealed_graph c) (account f.history) e f valid.behind (reached_agrees f there).behind
-    tidied idle = stays.tidy (subst (KeepsTidy g (account e.history) e) same (b.tidy idle))
+    refers : StaysReferring (sealed_graph c) (account f.history) e f valid.behind (reached_agrees f there).behind
+    refers = stays.referring (subst (KeepsReferences g (account e.history) e) same b.referring)
 
     follow_granted : IsFollowed c f
     follow_granted = record {
@@ -211,11 +213,10 @@ module _ (c e f : Core) (event : Event) (r : Reply) (b : IsFollowed c e) (there 
           ∙ ap (λ (ts : List Transaction). ts ++ moves.seals.ts) b.since
           ∙ append_assoc (account c.history).sealed b.ts moves.seals.ts;
       counted = subst (λ (p : Placing). IsCounted p.places (b.ts ++ moves.seals.ts) f) (sym split) (counted_next e f M.places b.ts _ _ rs moves.plain moves.more stands remains moves.seals b.counted);
-      tidy = λ idle. (tidied idle).tidy;
-      closed = λ idle.
+      referring = refers.later;
+      closed =
           subst (λ (p : Placing). IsClosed g p.places f n) (sym split)
-          (closed_next g _ e f (reached_agrees f there) before M.places rs moves.plain follows own moves.more stands remains stays.led.rest
-          (subst (GraysHave g (sealed_graph f) e) (sym same) (tidied idle).grays) (b.closed idle));
+          (closed_next g _ e f (reached_agrees f there) before M.places rs moves.plain follows own moves.more stands remains stays.led.rest (subst (GraysRefer g (sealed_graph f) e) (sym same) refers.before) b.closed);
     }
 
 follow_done : (c e f : Core) (event : Event) (r : Reply) (b : IsFollowed c e) (there : IsReached f) → account f.history ≡ account_after (account e.history) (record { event = event; reply = r }) → BeginsNone r
@@ -249,11 +250,8 @@ follow_flip c f reached begun =
       ts = [];
       since = begun.sealed ∙ sym (append-nil (account c.history).sealed);
       counted = subst (λ (p : Placing). IsCounted p.places [] f) begun.placed (counted_first f);
-      tidy = λ idle. record {
-        grays = λ k run_is z at there gray. ap (λ (x : Graph). fields x z) same;
-        black = λ k run_is r t z at active lock there. absurd (cc (sym (ap (λ x. x r) begun.active ∙ idle r) ∙ active));
-      };
-      closed = λ idle. subst (λ (p : Placing). IsClosed g p.places f h.behind) begun.placed (closed_first g _ f h same);
+      referring = begun_refers c f reached begun;
+      closed = subst (λ (p : Placing). IsClosed g p.places f h.behind) begun.placed (closed_first g _ f h same);
     }
 
 -- what holds behind a flip and the events of sessions

@@ -17,7 +17,7 @@ use Rattle.graph_model.specs.Locking.{Exclusive, Lock, locks_of}
 use Rattle.graph_model.specs.Transaction.{Transaction, run, serial}
 use Rattle.commit_order.specs.Heard.{Heard, heard_in}
 use Rattle.commit_order.specs.SerialOrder.{numbers_begun}
-use Rattle.commit_order.proofs.LockingLaws.{exclusive_or_not, fields-run, locks_of-other, runs_alike}
+use Rattle.commit_order.proofs.LockingLaws.{exclusive_or_not, fields-run, runs_alike}
 use Rattle.commit_order.proofs.OrderLaws.{IsOrdered}
 use Rattle.heap_spaces.specs.Collection.{Collection}
 use Rattle.log_records.specs.declared.Record.{Record}
@@ -46,8 +46,8 @@ use Rattle.limit_laws.proofs.Copies.Counted.{Seals, all_named}
 use Rattle.limit_laws.proofs.Copies.Disturbed.{own_apart, some_none}
 use Rattle.limit_laws.proofs.Copies.Running.{IsPlaced}
 use Rattle.limit_laws.proofs.Copies.Led.{HasLed, StaysLed}
-use Rattle.limit_laws.proofs.Copies.Steps.{not_made, true_false}
-use Rattle.limit_laws.proofs.Copies.Tidy.{GraysHave, KeepsTidy, StaysTidy}
+use Rattle.limit_laws.proofs.Copies.Steps.{not_made}
+use Rattle.limit_laws.proofs.Copies.References.{GraysRefer, KeepsReferences, StaysReferring}
 
 -- What a seal leaves of a core: the same collection, the current objects and those that it made stable.
 pub record IsSealedTo (a b : Account) (e f : Core) (s n : State) (session : ℕ) (t : Transaction) : Type 0 where
@@ -87,7 +87,6 @@ module _ (K : Id → Type 0) (g : Graph) (a b : Account) (e f : Core) (h : Agree
     active_before : a.active r ≡ Some u
     lock : Contains (locks_of (serial e.g0 a.sealed) u) (z, Exclusive)
     sees : (at : ℕ) → address_of e.places z ≡ Some at → fields (run (serial f.g0 b.sealed) u).graph z ≡ fields (run (serial e.g0 a.sealed) u).graph z
-    others : z.t ≢ t.number
 
   saw_before : (r : ℕ) (u : Transaction) (z : Id) → b.active r ≡ Some u → Contains (locks_of (serial f.g0 b.sealed) u) (z, Exclusive) → SawBefore r u z
   saw_before r u z now lock =
@@ -100,7 +99,6 @@ module _ (K : Id → Type 0) (g : Graph) (a b : Account) (e f : Core) (h : Agree
         active_before = also.1;
         lock = held;
         sees = λ at there. ap (λ (x : Graph). fields (run x u).graph z) to.graph ∙ sym (alike.views.objects z (others_current z at there) (λ mine. beside.apart z Exclusive Exclusive mine held refl));
-        others = locks_of-other before u t.number z Exclusive o.closed differ (o.unused session t active) held;
       }
 
   pub led_sealed : StaysLed K g b e f n
@@ -123,23 +121,24 @@ module _ (K : Id → Type 0) (g : Graph) (a b : Account) (e f : Core) (h : Agree
     };
   }
 
-  -- of a core that is tidy, gray objects too
-  gray_fields : KeepsTidy g a e h.behind → GraysHave g (serial f.g0 b.sealed) e h.behind
-  gray_fields tidy k run_is z at there gray =
-      free_fields z (others_current z at there) (λ lock. true_false gray (tidy.black k run_is session t z at active lock there)) ∙ tidy.grays k run_is z at there gray
+  -- gray objects still refer to what remains, whether it locked them or not
+  grays_refer : KeepsReferences g a e h.behind → GraysRefer g (serial f.g0 b.sealed) e h.behind
+  grays_refer keeps k run_is z y at i there gray refers left = elim (exclusive_or_not (locks_of before t) z) [
+    | inl lock ↦ ap (λ (x : Graph). slice_get (fields x z) i) to.graph ∙ keeps.seen k run_is session t z y at i active lock there gray refers left
+    | inr free ↦ ap (λ (vs : List Val). slice_get vs i) (free_fields z (others_current z at there) free) ∙ keeps.sealed k run_is z y at i there gray refers left
+  ]
 
-  pub tidy_sealed : KeepsTidy g a e h.behind → StaysTidy g b e f h.behind n
-  tidy_sealed tidy = record {
-    grays = gray_fields tidy;
-    tidy = record {
-      grays = λ k run_is z at there gray. let was = sym to.collection ∙ run_is in gray_fields tidy k was z at (to.gray k was z at there gray) gray;
-      black = λ k run_is r u z at now lock there.
+  pub referring_sealed : KeepsReferences g a e h.behind → StaysReferring g b e f h.behind n
+  referring_sealed keeps = record {
+    before = grays_refer keeps;
+    later = record {
+      sealed = λ k run_is z y at i there gray refers left.
+          let was = sym to.collection ∙ run_is in grays_refer keeps k was z y at i (to.gray k was z at there gray) gray refers (still_left y left);
+      seen = λ k run_is r u z y at i now lock there gray refers left.
           let was = sym to.collection ∙ run_is in
+          let old = to.gray k was z at there gray in
           let saw = saw_before r u z now lock in
-          elim (to.places z at there) [
-            | inl old ↦ tidy.black k was r u z at saw.active_before saw.lock old
-            | inr made ↦ absurd (saw.others made)
-          ];
+          ap (λ (vs : List Val). slice_get vs i) (saw.sees at old) ∙ keeps.seen k was r u z y at i saw.active_before saw.lock old gray refers (still_left y left);
     };
   }
 

@@ -28,7 +28,7 @@ use Rattle.core_laws.proofs.Step.Goes.{writing_of}
 use Rattle.core_laws.specs.Valid.{Agrees}
 use Rattle.limit_laws.proofs.Copies.Disturbed.{kept_some, some_none}
 use Rattle.limit_laws.proofs.Copies.Led.{HasLed, StaysLed, page_new}
-use Rattle.limit_laws.proofs.Copies.Tidy.{KeepsTidy, StaysTidy}
+use Rattle.limit_laws.proofs.Copies.References.{KeepsReferences, StaysReferring}
 use Rattle.limit_laws.proofs.Events.Kinds.{IsNoFlip}
 use Rattle.limit_laws.proofs.Progress.Black.{black_after_all}
 
@@ -124,23 +124,31 @@ module _ (K : Id → Type 0) (g : Graph) (a b : Account) (e f : Core) (h : Agree
     };
   }
 
-  pub tidy_next : KeepsTidy g a e h.behind → StaysTidy g b e f h.behind n
-  tidy_next tidy = record {
-    grays = λ k run_is z at there gray. same_fields z ∙ tidy.grays k run_is z at there gray;
-    tidy = record {
-      grays = λ k run_is z at there gray.
-          same_fields z ∙ elim (next.places z at there) [
-            | inl old ↦ let was = was_gray z at old k run_is gray in tidy.grays was.0 was.1 z at old was.2
-            | inr new ↦ has.led.rest z new.1
+  -- what it saw there it still sees
+  still_seen : KeepsReferences g a e h.behind → (k : Collection) → n.collection ≡ Some k → (r : ℕ) (t : Transaction) (z y : Id) (at i : ℕ) → b.active r ≡ Some t → Contains (locks_of (serial f.g0 b.sealed) t) (z, Exclusive)
+      → address_of f.places z ≡ Some at → contains k.gray at ≡ true → slice_get (fields g z) i ≡ Some (Ref y) → is_some (address_of f.remaining y) ≡ true → slice_get (fields (run (serial f.g0 b.sealed) t).graph z) i ≡ Some (Ref y)
+  still_seen keeps k run_is r t z y at i active lock there gray refers left =
+      elim (next.locks r t z at active (subst (λ (x : Graph). Contains (locks_of x t) (z, Exclusive)) next.graph lock) there) [
+        | inl black ↦ absurd (true_false gray (black k run_is))
+        | inr held ↦ elim (next.places z at there) [
+          | inl old ↦
+              let was = was_gray z at old k run_is gray in
+              ap (λ (vs : List Val). slice_get vs i) (sym (held.sees ∙ ap (λ (x : Graph). fields (run x t).graph z) (sym next.graph)))
+              ∙ keeps.seen was.0 was.1 held.session held.transaction z y at i held.active held.lock old was.2 refers (next.fewer y left)
+          | inr new ↦ absurd (held_stood z _ held new.1)
+        ]
+      ]
+
+  pub referring_next : KeepsReferences g a e h.behind → StaysReferring g b e f h.behind n
+  referring_next keeps = record {
+    before = λ k run_is z y at i there gray refers left. ap (λ (vs : List Val). slice_get vs i) (same_fields z) ∙ keeps.sealed k run_is z y at i there gray refers left;
+    later = record {
+      sealed = λ k run_is z y at i there gray refers left.
+          ap (λ (vs : List Val). slice_get vs i) (same_fields z) ∙ elim (next.places z at there) [
+            | inl old ↦ let was = was_gray z at old k run_is gray in keeps.sealed was.0 was.1 z y at i old was.2 refers (next.fewer y left)
+            | inr new ↦ ap (λ (vs : List Val). slice_get vs i) (has.led.rest z new.1) ∙ refers
           ];
-      black = λ k run_is r t z at active lock there.
-          elim (next.locks r t z at active (subst (λ (x : Graph). Contains (locks_of x t) (z, Exclusive)) next.graph lock) there) [
-            | inl black ↦ black k run_is
-            | inr held ↦ elim (next.places z at there) [
-              | inl old ↦ stays_black z at old (λ j is. tidy.black j is held.session held.transaction z at held.active held.lock old) k run_is
-              | inr new ↦ absurd (held_stood z _ held new.1)
-            ]
-          ];
+      seen = still_seen keeps;
     };
   }
 

@@ -40,7 +40,7 @@ run_still e d (event ∷ events) reached of run =
 -- What an undisturbed collection copies is just what is reached.
 pub undisturbed_law : UndisturbedTheorem
 undisturbed_law c d events objects words used reached idle flips run of none is =
-    let all = exact_law c d events objects words used reached idle flips (AllByRecursion-map IsOfNone IsOfSession events of_none of) run none is in
+    let all = exact_law c c d [] events objects words used reached idle tt refl flips (AllByRecursion-map IsOfNone IsOfSession events of_none of) run none is in
     let begun = flip_begins c objects words reached flips in
     let sealed = run_still (after c Flip) d events begun.reached of run ∙ begun.sealed in
     let nothing : sealed_since c d ≡ [] =
