@@ -13,7 +13,7 @@ use Rattle.heap_model.specs.Collecting.{copied_in, next_page, scan_reply, scan_r
 use Rattle.heap_model.specs.Core.{Core, IsStep, answer, core_refusal, event_records, granted_by, ground, own_records}
 use Rattle.core_laws.specs.Valid.{IsReached}
 use Rattle.core_laws.proofs.Collecting.Few.{pause_law}
-use Rattle.limit_laws.proofs.Copies.Exact.{exact_law, used_law}
+use Rattle.limit_laws.proofs.Copies.Exact.{exact_law}
 use Rattle.limit_laws.proofs.Copies.Garbage.{no_garbage_law}
 use Rattle.heap_core.specs.Collects.{CollectsAsTold}
 
@@ -50,8 +50,7 @@ told_of_scan d next answered reached step = record {
       let most = pause_law d Scan reached (λ same. absurd (cc same)) in
       omega (arith, most, told d page objects words (answered_scan d next answered page objects words step is));
   within = λ c idle way. no_garbage_law idle.first c d idle.events way.events way.objects way.words idle.reached idle.idle idle.sessions idle.run way.flipped way.sessions way.run way.alone;
-  used = λ c used way is. used_law c d way.events way.objects way.words used way.reached way.flipped way.sessions way.run way.alone (answered_end d next answered used step is);
-  exact = λ c used way idle is. exact_law c d way.events way.objects way.words used way.reached idle way.flipped way.sessions way.run way.alone (answered_end d next answered used step is);
+  exact = λ c used idle way is. exact_law idle.first c d idle.events way.events way.objects way.words used idle.reached idle.idle idle.sessions idle.run way.flipped way.sessions way.run way.alone (answered_end d next answered used step is);
 }
 
 -- the same of a step whose event is a scan

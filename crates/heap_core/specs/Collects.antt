@@ -11,12 +11,11 @@ use Rattle.graph_model.specs.History.{IsOfSession}
 use Rattle.graph_words.specs.Places.{address_of}
 use Rattle.heap_model.specs.Core.{Core, IsRun, after, answer}
 use Rattle.core_laws.specs.Valid.{IsReached}
-use Rattle.limit_laws.specs.Copies.{AreUsed, CopiesJust, IsIdle, copied_since, sealed_graph}
+use Rattle.limit_laws.specs.Copies.{CopiesJust, IsIdle, copied_since, sealed_graph}
 use Rattle.limit_laws.specs.Progress.{BeganNone}
 
 -- A collection began in c, and events of sessions have led from there to d, with no other collection begun.
 pub record IsUnderWay (c d : Core) : Type 0 where
-  pub reached : IsReached c
   pub objects : ℕ
   pub words : ℕ
   pub flipped : answer c Flip ≡ reply.Flipped objects words
@@ -34,11 +33,10 @@ pub record BeganIdle (c : Core) : Type 0 where
   pub sessions : AllByRecursion IsOfSession events
   pub run : IsRun first events c
 
--- A scan of d is answered so. It copied few objects. What the collection that is under way has copied before it was reached at the flip, whichever
--- transactions were active then. Where the scan ends it, all that is in use is what it has copied and what became stable since; and where none was active
--- at the flip, just what was reached then has been copied.
+-- A scan of d is answered so. It copied few objects. What the collection that is under way has copied was reached at its flip from the root, in the graph
+-- that the sealed transactions had left then, whichever were active; and where the scan ends it, just that has been copied, and all that is in use is
+-- the copies and what became stable since.
 pub record CollectsAsTold (d : Core) (answered : Reply) : Type 0 where
   pub few : (page objects words : ℕ) → answered ≡ reply.Scanned page objects words → objects ≤ 576
   pub within : (c : Core) → BeganIdle c → IsUnderWay c d → (id : Id) → is_some (address_of (copied_since c d) id) ≡ true → Reached (sealed_graph c) id
-  pub used : (c : Core) (used : ℕ) → IsUnderWay c d → answered ≡ reply.Collected used → AreUsed c d used
-  pub exact : (c : Core) (used : ℕ) → IsUnderWay c d → IsIdle c → answered ≡ reply.Collected used → CopiesJust c d used
+  pub exact : (c : Core) (used : ℕ) → BeganIdle c → IsUnderWay c d → answered ≡ reply.Collected used → CopiesJust c d used
