@@ -9,7 +9,7 @@ use Rattle.heap_engine.proofs.Tables.{idle, told_undo, inside_of}
 use Rattle.heap_engine.proofs.Room.{turned_below}
 use Rattle.heap_engine.proofs.SessionsLeft.{IsLeft, left_first, left_more, left_same, left_last}
 use Rattle.heap_engine.proofs.engine.Engine.committed_words.Goals as goal
-use Rattle.heap_engine.proofs.engine.Engine.committed_words.Goals.{then-active, else-active}
+use Rattle.heap_engine.proofs.engine.Engine.committed_words.Goals.{then-active+in_ok-take_back, else-active}
 
 pub take_back-requires : goal.take_back-requires
 take_back-requires c =
@@ -20,10 +20,10 @@ take_back-requires c =
     turned_below (length (words_of c.loop-session.words)) c.undo.result.now (undo_if o) is inside
 
 pub loop-session-init : goal.loop-session-init
-loop-session-init c = left_first c.args.self.now.table (cached c.args.self.now.cache).words (words_of c.of.result) (c.of.ensures ∙ c.as_slice.ensures.words)
+loop-session-init c = left_first c.args.self.now.table (cached c.args.self.now.cache).words (words_of c.of-words.result) (c.of-words.ensures ∙ c.as_slice.ensures.words)
 
-pub of-requires : goal.of-requires
-of-requires c = omega (arith, ap length c.as_slice.ensures.words, c.args.self.now.few)
+pub of-words-requires : goal.of-words-requires
+of-words-requires c = omega (arith, ap length c.as_slice.ensures.words, c.args.self.now.few)
 
 pub loop-session-preserved : goal.loop-session-preserved
 loop-session-preserved c =
@@ -31,13 +31,13 @@ loop-session-preserved c =
     let q = c.loop-session.session in
     let o = transaction_of s.table q in
     elim c.if-active.branch [
-      | then-active w ↦
+      | then-active+in_ok-take_back w ↦
           let is = told_undo o w.undo.result.now (c.active.ensures.0 w.if-active.true) w.undo.ensures in
-          let now = w.in_ok-take_back.ensures ∙ ap (λ (us : List UndoEntry). taken_back us (words_of c.loop-session.words)) is in
+          let now = ap words_of w.words-is ∙ w.in_ok-take_back.ensures ∙ ap (λ (us : List UndoEntry). taken_back us (words_of c.loop-session.words)) is in
           subst (λ (ws : List ℕ). IsLeft s.table (cached s.cache).words (q + 1) ws) (sym now) (left_more s.table (cached s.cache).words q (words_of c.loop-session.words) c.loop-session.invariant)
       | else-active w ↦
           let none = idle o c.active.result c.active.ensures w.if-active.false in
-          subst (λ (ws : List ℕ). IsLeft s.table (cached s.cache).words (q + 1) ws) (sym w.words-is) (left_same s.table (cached s.cache).words q (words_of c.loop-session.words) none c.loop-session.invariant)
+          subst (λ (ws : List ℕ). IsLeft s.table (cached s.cache).words (q + 1) ws) (sym (ap words_of w.words-is)) (left_same s.table (cached s.cache).words q (words_of c.loop-session.words) none c.loop-session.invariant)
     ]
 
 pub returns : goal.returns
