@@ -122,16 +122,16 @@ fn make_room(history: &mut History, engine: &Engine, event: Event) -> Result<(),
 
 /// The text of the graph that is seen from the root object on, which stands at this word address.
 fn print(alloc: Global, mut words: CommittedWords<'_>, root: u32) -> Result<Vec<u8>, GraphError>
-    ensures text { (name : ℕ → Id) (g : Graph) → IsSeenAs name (words_of words) root g → IfOk result (λ text. text.items ≡ canon_text (canon g)) }
-    ensures error { (name : ℕ → Id) (g : Graph) → IsSeenAs name (words_of words) root g → IfErr result (λ e. e ≡ GraphError.NoMemory) }
+    ensures text { (name : ℕ → Id) (g : Graph) → IsSeenAs name (words_of words.entry) root g → IfOk result (λ text. text.items ≡ canon_text (canon g)) }
+    ensures error { (name : ℕ → Id) (g : Graph) → IsSeenAs name (words_of words.entry) root g → IfErr result (λ e. e ≡ GraphError.NoMemory) }
 {
     Ok(graph_print::canon_text(alloc, &mut words, root)?)
 }
 
 /// How many objects that graph has.
 fn count(alloc: Global, mut words: CommittedWords<'_>, root: u32) -> Result<u64, GraphError>
-    ensures count { (name : ℕ → Id) (g : Graph) → IsSeenAs name (words_of words) root g → IfOk result (λ count. count ≡ length (canon g)) }
-    ensures error { (name : ℕ → Id) (g : Graph) → IsSeenAs name (words_of words) root g → IfErr result (λ e. e ≡ GraphError.NoMemory) }
+    ensures count { (name : ℕ → Id) (g : Graph) → IsSeenAs name (words_of words.entry) root g → IfOk result (λ count. count ≡ length (canon g)) }
+    ensures error { (name : ℕ → Id) (g : Graph) → IsSeenAs name (words_of words.entry) root g → IfErr result (λ e. e ≡ GraphError.NoMemory) }
 {
     Ok(graph_print::canon_count(alloc, &mut words, root)?)
 }
