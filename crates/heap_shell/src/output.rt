@@ -1,6 +1,5 @@
 //! Standard output, watched on a terminal.
-ghost use Rattle.std.specs.Prelude.{◌≤◌, ◌<◌, length, IfOk};
-ghost use Rattle.heap_io.specs.Stream.{HasCause};
+ghost use Rattle.std.specs.Prelude.{◌≡◌, [], false, IsTrue};
 
 use heap_io::{Sink, SinkFailed, StdSink};
 use std::io::{IsTerminal, Stdout};
@@ -34,6 +33,14 @@ impl<'a> Sink for Output<'a> {
 
     fn put(&mut self, piece: &[u8]) -> Result<usize, SinkFailed> {
         self.sink.put(piece)
+    }
+
+    // Who reads it wants all of it.
+    fn discards(&self) -> bool
+        ensures told { IsTrue result → ¬ IsTrue false }
+        ensures value { result ≡ false }
+    {
+        self.sink.discards()
     }
 
     fn show_progress(&self, done: u32, all: u32) {
