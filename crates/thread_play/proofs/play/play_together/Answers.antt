@@ -1,11 +1,19 @@
 use Rattle.std.proofs.Common.{Err, length, sym, ◌∙◌, subst, arith}
 use Rattle.heap_core.specs.HeapState.{history_of}
+use Rattle.shared_heap.specs.Follows.{Follows}
+use Rattle.shared_heap.proofs.FollowsLaws.{follows_itself}
 use Rattle.turn_lock.specs.Passes.{mine_of}
 use Rattle.turn_lock.specs.Turning.{EachOnce, places, times, total}
 use Rattle.thread_play.specs.Worked.{IsWorked}
 use Rattle.thread_play.proofs.Sending.{are_workers, labels_at}
 use Rattle.thread_play.proofs.Working.{each_back, all_back, worked, nothing_worked}
 use Rattle.thread_play.proofs.play.play_together.Goals as goal
+
+pub returns-in-Err-clause-follows : goal.returns-in-Err-clause-follows
+returns-in-Err-clause-follows g c = follows_itself c.args.heap
+
+pub returns-in-Err-new-clause-follows : goal.returns-in-Err-new-clause-follows
+returns-in-Err-new-clause-follows g c = subst (λ heap. Follows c.args.heap heap) (sym c.in-Err-new.ensures.err) (follows_itself c.args.heap)
 
 pub returns-in-Err-clause-worked : goal.returns-in-Err-clause-worked
 returns-in-Err-clause-worked g c = nothing_worked c.args.tries c.args.lines.now (history_of c.args.heap) c.in-Err.e c.requires.tries
