@@ -2,8 +2,31 @@
 use committed_words::CommittedWords;
 use log_machine::UndoEntry;
 use object_layout::Words;
+use std::alloc::AllocError;
 use std::process::Abort;
 use std::test::Fail;
+
+/// Takes back two writes of one field, the newer one last, and one of another between them.
+fn take_back_three(rt: &impl Abort, words: &mut CommittedWords<'_>) -> Result<(), AllocError> {
+    assert!(rt; words.size() > 5);
+    words.take_back(&[
+        UndoEntry {
+            object: 0,
+            field: 1,
+            was: 53,
+        },
+        UndoEntry {
+            object: 0,
+            field: 3,
+            was: 33,
+        },
+        UndoEntry {
+            object: 0,
+            field: 1,
+            was: 57,
+        },
+    ])
+}
 
 /// Compares the words at these addresses.
 fn same_words(rt: &impl Abort, found: &mut CommittedWords<'_>, want: &[(u32, u64)]) {
@@ -18,13 +41,7 @@ fn before_images_are_laid_over_words(rt: HostRuntime) -> Result<(), Fail> {
     let words = [17, 0, 29, 61, 41, 49];
     let mut committed = CommittedWords::of(rt.alloc(), &words);
     same_words(&rt, &mut committed, &[(0, 17), (2, 29), (3, 61), (5, 49)]);
-    let entry = |field, was| UndoEntry {
-        object: 0,
-        field,
-        was,
-    };
-    // The newest stands last, and is taken back first.
-    committed.take_back(&[entry(1, 53), entry(3, 33), entry(1, 57)])?;
+    take_back_three(&rt, &mut committed)?;
     same_words(
         &rt,
         &mut committed,
