@@ -64,6 +64,7 @@ fn two_sessions_and_a_collection_beside_each_other(rt: HostRuntime) -> Result<()
     let mut heap = play(&rt, alloc, heap, BESIDE);
     assert!(rt; !heap.history().iter().any(|entry| is_refused(&entry)));
     assert!(rt; heap.commits() == 3 && heap.history().len() == 8 + 12 + 5);
+    assert!(rt; heap.failed().is_none());
     let Ok(text) = heap.graph(alloc) else {
         panic!(rt; "no graph")
     };
