@@ -94,10 +94,10 @@ def list_of(count):
 
 
 class Peer:
-    def __init__(self, room, name, source, library, dump):
-        self.name, self.program, self.dump = name, room / source, dump
-        work = TOP / "bench/peers"
-        made = ["gcc", "-O2", "-o", self.program, work / "work.c", work / f"{source}.c", f"-l{library}"]
+    def __init__(self, room, name, sources, library, dump):
+        self.name, self.program, self.dump = name, room / sources[0], dump
+        files = [TOP / f"bench/peers/{it}.c" for it in ["work", *sources]]
+        made = ["gcc", "-O2", "-o", self.program, *files, f"-l{library}"]
         self.is_there = subprocess.run(made, stderr=subprocess.DEVNULL, check=False).returncode == 0
 
     def made(self, folder, *words):
@@ -122,9 +122,9 @@ class Peer:
 def peers(room):
     """The peers whose libraries this system has."""
     for words in (
-        ("SQLite", "sqlite", "sqlite3", ["sqlite3", "sqlite.db", ".dump"]),
-        ("LMDB", "lmdb", "lmdb", ["mdb_dump", "."]),
-        ("Berkeley DB", "berkeley", "db", ["db_dump", "berkeley.db"]),
+        ("SQLite", ["sqlite"], "sqlite3", ["sqlite3", "sqlite.db", ".dump"]),
+        ("LMDB", ["lmdb", "values"], "lmdb", ["mdb_dump", "."]),
+        ("Berkeley DB", ["berkeley", "values"], "db", ["db_dump", "berkeley.db"]),
     ):
         peer = Peer(room, *words)
         if peer.is_there:

@@ -1,10 +1,10 @@
-/* Berkeley DB: a record of a B-tree for each object, and one for each field of the root. In memory means that its log is. */
+/* Berkeley DB: a store of values, in a B-tree. In memory means that its log is. */
 #include "store.h"
+#include "values.h"
 #include <db.h>
 #include <string.h>
 
 enum { CACHE_BYTES = 64 << 20, LOG_BYTES = 32 << 20 };
-#define ROOT_KEY (UINT64_MAX - ROOT_FIELDS)
 
 static DB_ENV *env;
 static DB *db;
@@ -48,33 +48,17 @@ static DBT of_bytes(const void *bytes, size_t size) {
     return it;
 }
 
-static void put(uint64_t key, const void *bytes, size_t size) {
+void value_put(uint64_t key, const void *bytes, size_t size) {
     DBT k = of_bytes(&key, sizeof key), v = of_bytes(bytes, size);
     check(db->put(db, txn, &k, &v, 0));
 }
 
-static void get(uint64_t key, void *bytes, size_t size) {
+void value_get(uint64_t key, void *bytes, size_t size) {
     DBT k = of_bytes(&key, sizeof key), v = of_bytes(bytes, size);
     check(db->get(db, txn, &k, &v, 0));
 }
 
-uint64_t store_root(unsigned field) {
-    uint64_t id;
-    get(ROOT_KEY + field, &id, sizeof id);
-    return id;
-}
-
-void store_set_root(unsigned field, uint64_t id) { put(ROOT_KEY + field, &id, sizeof id); }
-
-struct object store_get(uint64_t id) {
-    struct object found;
-    get(id, &found, sizeof found);
-    return found;
-}
-
-void store_add(uint64_t id, const struct object *object) { put(id, object, sizeof *object); }
-
-void store_remove(uint64_t id) {
-    DBT k = of_bytes(&id, sizeof id);
+void value_remove(uint64_t key) {
+    DBT k = of_bytes(&key, sizeof key);
     check(db->del(db, txn, &k, 0));
 }

@@ -1,10 +1,10 @@
-/* LMDB: a value for each object, and one for each field of the root, whose keys are the numbers behind all objects. */
+/* LMDB: a store of values. */
 #include "store.h"
+#include "values.h"
 #include <lmdb.h>
 #include <string.h>
 
 #define MAP_BYTES ((size_t)1 << 30)
-#define ROOT_KEY (UINT64_MAX - ROOT_FIELDS)
 
 static MDB_env *env;
 static MDB_txn *txn;
@@ -29,34 +29,18 @@ void store_begin(void) { check(mdb_txn_begin(env, 0, 0, &txn)); }
 void store_commit(void) { check(mdb_txn_commit(txn)); }
 void store_abort(void) { mdb_txn_abort(txn); }
 
-static void put(uint64_t key, const void *bytes, size_t size) {
+void value_put(uint64_t key, const void *bytes, size_t size) {
     MDB_val k = {sizeof key, &key}, v = {size, (void *)bytes};
     check(mdb_put(txn, dbi, &k, &v, 0));
 }
 
-static void get(uint64_t key, void *bytes, size_t size) {
+void value_get(uint64_t key, void *bytes, size_t size) {
     MDB_val k = {sizeof key, &key}, v;
     check(mdb_get(txn, dbi, &k, &v));
     memcpy(bytes, v.mv_data, size);
 }
 
-uint64_t store_root(unsigned field) {
-    uint64_t id;
-    get(ROOT_KEY + field, &id, sizeof id);
-    return id;
-}
-
-void store_set_root(unsigned field, uint64_t id) { put(ROOT_KEY + field, &id, sizeof id); }
-
-struct object store_get(uint64_t id) {
-    struct object found;
-    get(id, &found, sizeof found);
-    return found;
-}
-
-void store_add(uint64_t id, const struct object *object) { put(id, object, sizeof *object); }
-
-void store_remove(uint64_t id) {
-    MDB_val k = {sizeof id, &id};
+void value_remove(uint64_t key) {
+    MDB_val k = {sizeof key, &key};
     check(mdb_del(txn, dbi, &k, 0));
 }
