@@ -13,6 +13,7 @@ Loads and texts are measured in processor time and work in a folder in memory (/
 while the program syncs each commit. Durable commits are measured by the clock, in a folder of TMPDIR. With --quick the program is that which is
 compiled with nothing proved; it has checks at each step, so its ratios say little. It judges nothing.
 """
+import collections
 import itertools
 import os
 import pathlib
@@ -31,6 +32,10 @@ PAGES = 64
 BATCH = 1_000  # objects that one transaction makes
 
 
+# the seconds that a processor spent in a program, and in the kernel for it
+Spent = collections.namedtuple("Spent", "program kernel")
+
+
 def run(words, folder, script=""):
     """What a run prints. Its input and output are files: a pipe would wake its reader at each line."""
     (folder / "input").write_text(script)
@@ -40,11 +45,11 @@ def run(words, folder, script=""):
 
 
 def spent(words, folder, script=""):
-    """The seconds of processor time of a run, and what it printed."""
+    """The processor time of a run, and what it printed."""
     before = resource.getrusage(resource.RUSAGE_CHILDREN)
     printed = run(words, folder, script)
     after = resource.getrusage(resource.RUSAGE_CHILDREN)
-    return after.ru_utime + after.ru_stime - before.ru_utime - before.ru_stime, printed
+    return Spent(after.ru_utime - before.ru_utime, after.ru_stime - before.ru_stime), printed
 
 
 class OfHeap:
@@ -58,10 +63,10 @@ class OfHeap:
     def load(self, folder, count):
         # (a round takes some 150 bytes of the log)
         self.make(folder, PAGES, 65_536 + 400 * count)
-        seconds, printed = spent([PROGRAM, "load", 1, count], folder)
+        times, printed = spent([PROGRAM, "load", 1, count], folder)
         summary = dict(line.rsplit(" ", 1) for line in printed.splitlines())
         self.events = int(summary["events"])
-        return seconds, int(summary["objects"])
+        return times, int(summary["objects"])
 
     def commits(self, folder, count):
         self.make(folder, 1, 65_536 + 40 * count)
@@ -106,8 +111,8 @@ class Peer:
         return spent([self.program, words[0], folder, *words[1:]], folder)
 
     def load(self, folder, count):
-        seconds, printed = self.made(folder, "load", 1, count)
-        return seconds, int(printed.split()[1])
+        times, printed = self.made(folder, "load", 1, count)
+        return times, int(printed.split()[1])
 
     def commits(self, folder, count):
         return float(self.made(folder, "commits", count)[1])
@@ -150,9 +155,11 @@ def bench_loads(all_peers, folder, count, rounds):
         row = [peer.load(folder, count) for peer in all_peers]
         if len({objects for _, objects in row}) != 1:
             sys.exit(f"peers: a load left other objects in one than in another: {row}")
-        rows.append([seconds for seconds, _ in row])
-    heap = all_peers[0]
-    tell(f"a load of {count} rounds, {heap.events} events", all_peers, rows, "of the processor, each commit written and synced")
+        rows.append([times for times, _ in row])
+    what = f"a load of {count} rounds, {all_peers[0].events} events"
+    tell(what, all_peers, [[sum(it) for it in row] for row in rows], "of the processor, each commit written and synced")
+    # The peers keep nothing, so what the kernel does for the heap's writes and syncs has no like there.
+    tell(what, all_peers, [[it.program for it in row] for row in rows], "of the processor outside of the kernel")
 
 
 def bench_commits(all_peers, folder, count, rounds):
@@ -164,7 +171,7 @@ def bench_texts(all_peers, room, count, rounds):
     able = [it for it in all_peers if it.name == "the heap" or shutil.which(it.dump[0])]
     for peer in able:
         peer.fill(room / f"text of {peer.name}", count)
-    rows = [[peer.text(room / f"text of {peer.name}")[0] for peer in able] for _ in range(rounds)]
+    rows = [[sum(peer.text(room / f"text of {peer.name}")[0]) for peer in able] for _ in range(rounds)]
     tell(f"the text of {count} objects", able, rows, "of the processor, opening and all")
 
 

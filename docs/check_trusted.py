@@ -20,7 +20,7 @@ import sys
 TOP = os.path.dirname(os.path.dirname(os.path.realpath(__file__)))
 PAGE = "docs/GUARANTEE.md"
 # the calls whose clauses are the theorems: where each stands, and its clauses with a row of their own
-RUN, BOX = ("crates/heap_program/src/dispatch.rt", "run"), ("crates/black_box/src/one_run.rt", "play_then_graph")
+RUN, BOX = ("crates/thread_program/src/program.rt", "run"), ("crates/black_box/src/one_run.rt", "play_then_graph")
 TOKEN = re.compile(r"[^\s(){}\[\],;]+")
 USE = re.compile(r"^(?:pub )?use ([\w.]+)\.\{(.*)\}$")
 ALIAS = re.compile(r"^(?:pub )?use ([\w.]+) as (\w+)$")

@@ -1,5 +1,5 @@
 #!/bin/sh
-# Plays each example and compares its output and exit status, and then what README.md and the pages here quote of them.
+# Plays each example and compares its output and exit status, and then what README.md, docs/LIBRARY.md and the pages here quote.
 # It is no part of the gate.
 #
 #     examples/check.sh [--quick]
@@ -122,6 +122,7 @@ printed basics/in_use
 printed basics/full_heap
 printed damage/spoiled
 printed crashes/every_stop
+printed sessions/threads
 printed collections/beside
 printed collections/cut_off
 printed basics/refused
@@ -156,6 +157,7 @@ made basics/list.dot "$top/tools/graph_to_dot" <"$examples/basics/list.out"
 quotes README.md basics/first.out --notes
 quotes README.md crashes/every_stop.out
 quotes README.md ../clients/python/first.py --from "def put() -> None:"
+quotes docs/LIBRARY.md ../crates/thread_tests/src/bank.rt
 quotes examples/README.md basics/stored.out
 quotes examples/README.md basics/in_use.out
 quotes examples/README.md basics/full_heap.out
@@ -165,6 +167,7 @@ quotes examples/README.md crashes/stopped_twice.out
 quotes examples/README.md sessions/conflict.out --from "1 begin -> begun 2"
 quotes examples/README.md sessions/early_read.out
 quotes examples/README.md sessions/losers_stopped_twice.out --from "1 begin -> begun 2"
+quotes examples/README.md sessions/threads.out
 quotes examples/README.md basics/list.out --from "1 begin -> begun 3"
 quotes examples/README.md basics/cycle.out --from "graph 3"
 quotes examples/README.md collections/beside.out

@@ -1,3 +1,4 @@
 mod History
 mod Runs
 mod TurnLaws
+mod Workers

@@ -54,7 +54,7 @@ made_run c d made (inr cut) =
     (run_step c (after_events c it.before) d it.before it.event cut.0 (whole_run c it.before) (inr (it.cut, it.reached)))
 
 -- a run that made no heap ended so
-made_none : {D : Type 0} (g : Ghosts D) (s : Super) (old new : D) (result : Status) → IsUnmade g s old new result → MakesNone result
+pub made_none : {D : Type 0} (g : Ghosts D) (s : Super) (old new : D) (result : Status) → IsUnmade g s old new result → MakesNone result
 made_none g s old new status.Done unmade = unmade
 made_none g s old new status.NoMemory unmade = tt
 made_none g s old new status.Usage unmade = unmade

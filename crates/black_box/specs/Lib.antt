@@ -1,3 +1,4 @@
 pub mod Stores
 pub mod Tales
 pub mod Told
+pub mod Workers

@@ -3,7 +3,9 @@
 #![tactic(auto)]
 
 mod one_run;
+mod threads;
 mod turns;
 
 pub use one_run::play_then_graph;
+pub use threads::threads_then_graph;
 pub use turns::{Turn, plays_then_graph};

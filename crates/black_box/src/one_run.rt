@@ -10,13 +10,24 @@ ghost use Rattle.script_text.specs.declared.line.Line.{Line};
 
 use disk_model::Disk;
 use heap_io::{Sink, Source};
-use heap_program::{Status, run};
+use heap_program::Status;
+use heap_workers::Gate;
 use std::alloc::Global;
+use std::sync::Wait;
+use std::thread::Threads;
+use thread_program::run;
 
 /// Runs the program with the words `play` on the script that `source` gives, and writes to `lines`. However that ends, at whichever call the disk
 /// failed or stopped, the disk is restarted as one of the images that a crash may leave of it, and the program runs with the words `graph`
 /// and writes to `text`. Gives both statuses and the disk.
-pub fn play_then_graph<D: Disk, S: Source, K: Sink>(
+pub fn play_then_graph<
+    D: Disk + Send,
+    S: Source,
+    K: Sink,
+    G: Gate + Sync,
+    R: Threads + Wait + Sync,
+>(
+    rt: &R,
     alloc: Global,
     play: &[String],
     graph: &[String],
@@ -24,6 +35,7 @@ pub fn play_then_graph<D: Disk, S: Source, K: Sink>(
     source: &mut S,
     lines: &mut K,
     text: &mut K,
+    gate: &G,
 ) -> (Status, Status, D)
     // Of a play on a new heap, and a graph that was printed: the play made no heap and wrote nothing, or there is one history of both.
     ensures one_history { IsTrue D.tells → Only (D.bytes disk) (D.may_leave disk) → IsTrue S.tells → IsTrue K.tells
@@ -32,8 +44,8 @@ pub fn play_then_graph<D: Disk, S: Source, K: Sink>(
         ⊎ ((read : List Line) × (script (S.left source.old) ≡ Ok read)
         × (kept : Graph) × TellsRun new_graph read result.0 (K.written lines.old) (K.written lines.new) kept × (K.written text.new ≡ K.written text.old ++ text_of kept)) }
 {
-    let (played, mut disk) = run(alloc, play, disk, source, lines);
+    let (played, mut disk) = run(rt, alloc, play, disk, source, lines, gate);
     disk.restart();
-    let (printed, disk) = run(alloc, graph, disk, source, text);
+    let (printed, disk) = run(rt, alloc, graph, disk, source, text, gate);
     (played, printed, disk)
 }

@@ -12,8 +12,12 @@ ghost use Rattle.script_text.specs.declared.line.Line.{Line};
 
 use disk_model::Disk;
 use heap_io::{Sink, Source};
-use heap_program::{Status, run};
+use heap_program::Status;
+use heap_workers::Gate;
 use std::alloc::Global;
+use std::sync::Wait;
+use std::thread::Threads;
+use thread_program::run;
 
 /// What a play reads, and where it writes.
 #[derive(Drop)]
@@ -27,33 +31,43 @@ pub struct Turn<S: Drop, K: Drop> {
 }
 
 /// Runs the program with the words `play` on the heap that is there, and restarts the disk however that ends.
-fn play_turn<D: Disk, S: Source + Drop, K: Sink + Drop>(
-    alloc: Global,
-    play: &[String],
-    disk: D,
-    turn: &mut Turn<S, K>,
-) -> D
+fn play_turn<
+    D: Disk + Send,
+    S: Source + Drop,
+    K: Sink + Drop,
+    G: Gate + Sync,
+    R: Threads + Wait + Sync,
+>(rt: &R, alloc: Global, play: &[String], disk: D, turn: &mut Turn<S, K>, gate: &G) -> D
     ensures tells { IsTrue D.tells → IsTrue S.tells → IsTrue K.tells → command (map string_bytes play.now) ≡ Some (asked.Play None None)
         → (begins : Graph) → Stores D.Disk begins disk → (kept : Graph) × Stores D.Disk kept result × TellsTurn S.left K.written begins turn.old turn.new kept }
 {
-    let (status, mut disk) = run(alloc, play, disk, &mut turn.source, &mut turn.sink);
+    let (status, mut disk) = run(
+        rt,
+        alloc,
+        play,
+        disk,
+        &mut turn.source,
+        &mut turn.sink,
+        gate,
+    );
     turn.status = Some(status);
     disk.restart();
     disk
 }
 
 /// Makes these plays, one after another.
-fn play_turns<D: Disk, S: Source + Drop, K: Sink + Drop>(
-    alloc: Global,
-    play: &[String],
-    mut disk: D,
-    turns: &mut [Turn<S, K>],
-) -> D
+fn play_turns<
+    D: Disk + Send,
+    S: Source + Drop,
+    K: Sink + Drop,
+    G: Gate + Sync,
+    R: Threads + Wait + Sync,
+>(rt: &R, alloc: Global, play: &[String], mut disk: D, turns: &mut [Turn<S, K>], gate: &G) -> D
     ensures tell { IsTrue D.tells → IsTrue S.tells → IsTrue K.tells → command (map string_bytes play.now) ≡ Some (asked.Play None None)
         → (begins : Graph) → Stores D.Disk begins disk → (kept : Graph) × Stores D.Disk kept result × TellTurns S.left K.written begins turns.old turns.new kept }
 {
     for turn in turns.iter_mut() {
-        disk = play_turn(alloc, play, disk, turn);
+        disk = play_turn(rt, alloc, play, disk, turn, gate);
     }
     disk
 }
@@ -61,7 +75,14 @@ fn play_turns<D: Disk, S: Source + Drop, K: Sink + Drop>(
 /// Runs the program with the words `fresh`, on the first turn's script, and then with the words `play` on that of each other turn. Behind each run the
 /// disk is restarted, as any of the images that a crash may leave of it. Then the program runs with the words `graph` and writes to `text`. Gives
 /// the status of that run and the disk.
-pub fn plays_then_graph<D: Disk, S: Source + Drop, K: Sink + Drop>(
+pub fn plays_then_graph<
+    D: Disk + Send,
+    S: Source + Drop,
+    K: Sink + Drop,
+    G: Gate + Sync,
+    R: Threads + Wait + Sync,
+>(
+    rt: &R,
     alloc: Global,
     fresh: &[String],
     play: &[String],
@@ -70,6 +91,7 @@ pub fn plays_then_graph<D: Disk, S: Source + Drop, K: Sink + Drop>(
     first: &mut Turn<S, K>,
     turns: &mut [Turn<S, K>],
     text: &mut K,
+    gate: &G,
 ) -> (Status, D)
     // Of a play on a new heap, plays on what each left, and a graph that was printed: the first made no heap and wrote nothing, or one
     // history of all of them was told.
@@ -82,10 +104,18 @@ pub fn plays_then_graph<D: Disk, S: Source + Drop, K: Sink + Drop>(
         × (made : Graph) × TellsRun new_graph read status (K.written first.old.sink) (K.written first.new.sink) made
         × (kept : Graph) × TellTurns S.left K.written made turns.old turns.new kept × (K.written text.new ≡ K.written text.old ++ text_of kept))) }
 {
-    let (status, mut disk) = run(alloc, fresh, disk, &mut first.source, &mut first.sink);
+    let (status, mut disk) = run(
+        rt,
+        alloc,
+        fresh,
+        disk,
+        &mut first.source,
+        &mut first.sink,
+        gate,
+    );
     first.status = Some(status);
     disk.restart();
-    let disk = play_turns(alloc, play, disk, turns);
-    let (printed, disk) = run(alloc, graph, disk, &mut first.source, text);
+    let disk = play_turns(rt, alloc, play, disk, turns, gate);
+    let (printed, disk) = run(rt, alloc, graph, disk, &mut first.source, text, gate);
     (printed, disk)
 }

@@ -7,7 +7,7 @@ use crate::narrow::{field, handle, number};
 use graph_model::Event;
 
 /// An event whose numbers are ordinary, without its session.
-#[derive(Clone, Copy, Debug, PartialEq, Eq)]
+#[derive(Clone, Copy, Debug)]
 pub enum BriefEvent {
     Begin,
     Root { h: u8 },

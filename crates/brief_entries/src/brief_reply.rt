@@ -6,7 +6,7 @@ use crate::narrow::number;
 use graph_model::{Refusal, Reply};
 
 /// Why an event was refused, where that tells at most one number.
-#[derive(Clone, Copy, Debug, PartialEq, Eq)]
+#[derive(Clone, Copy, Debug)]
 pub enum BriefRefusal {
     Failed { entry: u32 },
     AlreadyActive,
@@ -23,7 +23,7 @@ pub enum BriefRefusal {
 }
 
 /// What an event was answered, where that is not the number in a field and tells at most two others.
-#[derive(Clone, Copy, Debug, PartialEq, Eq)]
+#[derive(Clone, Copy, Debug)]
 pub enum BriefReply {
     Begun { n: u32 },
     Done,

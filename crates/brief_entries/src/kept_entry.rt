@@ -12,8 +12,9 @@ use crate::brief_reply::BriefReply;
 use crate::narrow::{field, handle, number};
 use graph_model::{Entry, Event, Refusal, Reply};
 
-/// An entry in 24 bytes, where its numbers are ordinary, or the place at which it is kept whole. The session is 0 for an event that is of none.
-#[derive(Clone, Copy, Debug, PartialEq, Eq)]
+/// An entry in 24 bytes, where its numbers are ordinary, or the place at which it is kept whole. The session means nothing
+/// for an event that is of none, so two forms of one entry may differ.
+#[derive(Clone, Copy, Debug)]
 pub enum KeptEntry {
     /// A number that was put into a field.
     Wrote {

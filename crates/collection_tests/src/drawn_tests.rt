@@ -9,7 +9,7 @@ use std::str;
 use std::test::Fail;
 
 /// The command that plays on a new heap of sixty-four pages a space.
-const FRESH: &str = "heap play --fresh 64";
+pub const FRESH: &str = "heap play --fresh 64";
 
 /// The command that makes the same with a short log.
 const FORMAT: &str = "heap format 64 65536 1";
@@ -125,7 +125,7 @@ impl Drawn {
 }
 
 /// A script of which so many lines are drawn by a seed.
-fn draw_script(alloc: Global, seed: u64, lines: usize) -> Result<String, AllocError> {
+pub fn draw_script(alloc: Global, seed: u64, lines: usize) -> Result<String, AllocError> {
     let mut drawn = Drawn::new(alloc, seed)?;
     for s in 1..=SESSIONS {
         drawn.begin(s)?;

@@ -5,6 +5,8 @@
 #[cfg(test)]
 mod drawn_tests;
 #[cfg(test)]
+mod exact_tests;
+#[cfg(test)]
 mod kept_tests;
 #[cfg(test)]
 mod playing;

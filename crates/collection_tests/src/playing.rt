@@ -1,7 +1,8 @@
 //! How the tests play a script.
-use disk_model::{MemoryDisk, Pick};
+use command_words::{Command, CommandError, read_command};
+use disk_model::{Disk, MemoryDisk, Pick};
 use heap_io::{MemorySink, MemorySource};
-use heap_program::{Status, run};
+use heap_program::{Status, run_alone};
 use std::alloc::{AllocError, Global};
 use std::fmt::Debug;
 use std::process::Abort;
@@ -55,6 +56,20 @@ pub fn new_image(alloc: Global, line: &str) -> Result<Vec<u8>, AllocError> {
     image_of(alloc, line, "", vec![in alloc; 0u8; IMAGE_BYTES]?)
 }
 
+/// Runs the program alone, on a command line that is no `threads` command.
+fn run_words<D: Disk + Drop>(
+    alloc: Global,
+    words: &[String],
+    disk: D,
+    source: &mut MemorySource,
+    sink: &mut MemorySink,
+) -> Result<(Status, D), AllocError> {
+    match read_command(alloc, words) {
+        Ok(Command::Threads { .. }) | Err(CommandError::NoMemory) => Err(AllocError),
+        _ => Ok(run_alone(alloc, words, disk, source, sink)),
+    }
+}
+
 /// Plays a script by a command on a disk.
 pub fn play_on(
     alloc: Global,
@@ -65,7 +80,7 @@ pub fn play_on(
     let words = words_of(alloc, line)?;
     let mut source = MemorySource::of(script.as_bytes().to_vec(alloc)?, Vec::new(alloc));
     let mut sink = MemorySink::of(alloc, SINK_BYTES, Vec::new(alloc))?;
-    let (status, disk) = run(alloc, &words, disk, &mut source, &mut sink);
+    let (status, disk) = run_words(alloc, &words, disk, &mut source, &mut sink)?;
     let output = sink.bytes().to_vec(alloc)?;
     Ok((Played { status, output }, disk))
 }

@@ -1,6 +1,6 @@
 -- Each command that words spell is within the limits of the table.
 use Rattle.std.proofs.Common.{◌≡◌, ◌∙◌, ◌<◌, ◌≤◌, ◌^◌, ℕ, true, false, List, [], ◌∷◌, Option, Some, None, refl, sym, ap, subst, codes, arith}
-use Rattle.std.specs.Prelude.{IfSome, find, option_and_then, option_map, pos, slice_get}
+use Rattle.std.specs.Prelude.{IfSome, find, option_and_then, option_map, pos, slice_get, unwrap_or}
 use Rattle.std.specs.List.{AllByRecursion}
 use Rattle.std.specs.Option.{option_map_or}
 use Rattle.std.specs.Str.{bytes_eq}
@@ -21,13 +21,13 @@ use Rattle.clap.specs.declared.builder.value_parser.ValueParser.TheVariants as v
 use Rattle.clap.proofs.CallerReads.{signed_reads}
 use Rattle.clap.proofs.ValueTestLemmas.{accepts-Accepts}
 use Rattle.clap.proofs.WalkLemmas.{both}
-use Rattle.command_words.specs.Command.{command, command_of, given_in, given_of, load_of, number_in, parsed_number, parsed_numbers, play_of, stop_of, without_fault}
+use Rattle.command_words.specs.Command.{command, command_of, given_in, given_of, load_of, number_in, parsed_number, parsed_numbers, play_of, stop_of, threads_of, without_fault}
 use Rattle.command_words.proofs.NumberLaws.{number_fits, parses}
 use Rattle.command_words.specs.Limits.{IsPages, IsStop, IsWithin}
 use Rattle.command_words.proofs.RowLaws.{IsPlainRule, Passes, found, level_good, neither}
 use Rattle.command_words.specs.Table.{program}
 use Rattle.command_words.specs.declared.commands.Command.{Command}
-use Rattle.command_words.specs.declared.commands.Command.TheVariants.{Format, Graph, Load, Play}
+use Rattle.command_words.specs.declared.commands.Command.TheVariants.{Format, Graph, Load, Play, Threads}
 
 -- ---- the number in a row
 
@@ -140,6 +140,34 @@ play_within s fresh name plain letters are_pages words none c e =
               (given_is_in 64 (rows_after s.rules [] words) (codes "again") m d),
         )
 
+tries_within : (c : List Rule) (rows : List Row) (a : Rule) (number : Option ℕ) → IsNumber c (codes "tries") 1 1000000 a → AllByRecursion (Passes c) rows → number_in 32 rows (codes "tries") ≡ number
+    → (1 ≤ unwrap_or number 1000) × (unwrap_or number 1000 ≤ 1000000)
+tries_within c rows a None is all e = (omega arith, omega arith)
+tries_within c rows a (Some n) is all e = number_within c rows (codes "tries") 1 1000000 n a is (omega arith) all e
+
+threads_within : (s : Shape) (fresh tries : Rule) → s.name ≡ codes "threads" → AllByRecursion (IsPlainRule s.rules) s.rules → ((x : ℕ) → arg_by_short s.rules x ≡ None)
+    → IsNumber s.rules (codes "fresh") 1 16384 fresh → IsNumber s.rules (codes "tries") 1 1000000 tries → SpellsWithin s
+threads_within s fresh tries name plain letters are_pages are_tries words none c e =
+    go (given_in 32 rows (codes "fresh")) (given_in 32 rows (codes "tries")) refl refl (ap (λ (t : Text). command_of t rows) (sym name) ∙ e)
+  where
+    rows : List Row
+    rows = rows_after s.rules [] words
+
+    all : AllByRecursion (Passes s.rules) (rows_after s.rules [] words)
+    all = level_good s plain letters words none
+
+    go : (p n : Option (Option ℕ)) → given_in 32 (rows_after s.rules [] words) (codes "fresh") ≡ p → given_in 32 (rows_after s.rules [] words) (codes "tries") ≡ n → threads_of p n ≡ Some c → IsWithin c
+    go None n a b is = cc
+    go (Some p) None a b is = cc
+    go (Some p) (Some n) a b is =
+        let same : Threads p (unwrap_or n 1000) ≡ c = cc in
+        let within = tries_within s.rules (rows_after s.rules [] words) tries n are_tries all (given_is_in 32 (rows_after s.rules [] words) (codes "tries") n b) in
+        subst IsWithin same (
+          pages_within s.rules (rows_after s.rules [] words) (codes "fresh") fresh p are_pages all (given_is_in 32 (rows_after s.rules [] words) (codes "fresh") p a),
+          within.0,
+          within.1,
+        )
+
 graph_within : (s : Shape) → s.name ≡ codes "graph" → SpellsWithin s
 graph_within s name words none c e =
     let spelled : command_of (codes "graph") (rows_after s.rules [] words) ≡ Some c = ap (λ (t : Text). command_of t (rows_after s.rules [] words)) (sym name) ∙ e in
@@ -184,12 +212,17 @@ all_within = (
         (record { own = refl; some_value = refl; set = refl; no_default = refl }, (record { own = refl; some_value = refl; set = refl; no_default = refl }, (record { own = refl; some_value = refl; set = refl; no_default = refl }, tt)))
         (λ x. refl) (refl, refl),
     (
-      graph_within _ refl,
+      threads_within _ _ _ refl
+          (record { own = refl; some_value = refl; set = refl; no_default = refl }, (record { own = refl; some_value = refl; set = refl; no_default = refl }, tt))
+          (λ x. refl) (refl, refl) (refl, refl),
       (
-        load_within _ _ _ _ refl
-            (record { own = refl; some_value = refl; set = refl; no_default = refl }, (record { own = refl; some_value = refl; set = refl; no_default = refl }, (record { own = refl; some_value = refl; set = refl; no_default = refl }, tt)))
-            (λ x. refl) (refl, refl) (refl, refl) (refl, refl),
-        tt,
+        graph_within _ refl,
+        (
+          load_within _ _ _ _ refl
+              (record { own = refl; some_value = refl; set = refl; no_default = refl }, (record { own = refl; some_value = refl; set = refl; no_default = refl }, (record { own = refl; some_value = refl; set = refl; no_default = refl }, tt)))
+              (λ x. refl) (refl, refl) (refl, refl) (refl, refl),
+          tt,
+        ),
       ),
     ),
   ),

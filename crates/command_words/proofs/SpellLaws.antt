@@ -1,6 +1,6 @@
 -- Words spell a command just where the parser finds no fault, and an option that is given is read.
 use Rattle.std.proofs.Common.{◌≡◌, ◌∙◌, ◌&&◌, ◌<◌, ◌^◌, not, ℕ, Bool, true, false, List, [], ◌∷◌, Option, Some, None, refl, sym, ap, codes, arith}
-use Rattle.std.specs.Prelude.{find, is_some, nat_lt, option_and_then, option_map, pos, slice_get}
+use Rattle.std.specs.Prelude.{find, is_some, nat_lt, option_and_then, option_map, pos, slice_get, unwrap_or}
 use Rattle.std.specs.List.{AllByRecursion, list_any}
 use Rattle.std.specs.Option.{option_map_or}
 use Rattle.std.specs.Str.{bytes_eq}
@@ -23,12 +23,12 @@ use Rattle.clap.specs.declared.builder.value_parser.ValueParser.TheVariants as v
 use Rattle.clap.proofs.CallerReads.{signed_reads}
 use Rattle.clap.proofs.ValueTestLemmas.{accepts-Accepts}
 use Rattle.clap.proofs.WalkLemmas.{both}
-use Rattle.command_words.specs.Command.{IsTaken, command, command_of, given_in, given_of, load_of, number_in, parsed_number, parsed_numbers, play_of, stop_of, without_fault}
+use Rattle.command_words.specs.Command.{IsTaken, command, command_of, given_in, given_of, load_of, number_in, parsed_number, parsed_numbers, play_of, stop_of, threads_of, without_fault}
 use Rattle.command_words.proofs.NumberLaws.{parses, parses_not}
 use Rattle.command_words.proofs.RowLaws.{HasValue, IsPlainRule, Passes, found, level_good, neither}
 use Rattle.command_words.specs.Table.{program}
 use Rattle.command_words.specs.declared.commands.Command.{Command}
-use Rattle.command_words.specs.declared.commands.Command.TheVariants.{Format, Graph, Load, Play}
+use Rattle.command_words.specs.declared.commands.Command.TheVariants.{Format, Graph, Load, Play, Threads}
 
 -- ---- what is given is read
 
@@ -162,6 +162,17 @@ play_spells s fresh stop again name plain letters are_pages is_stop is_again wor
           ∙ ap (λ o. play_of (Some p.0) (Some n.0) o) m.1,
     )
 
+threads_spells : (s : Shape) (fresh tries : Rule) → s.name ≡ codes "threads" → AllByRecursion (IsPlainRule s.rules) s.rules → ((x : ℕ) → arg_by_short s.rules x ≡ None)
+    → IsNumber s.rules (codes "fresh") 32 fresh → IsNumber s.rules (codes "tries") 32 tries → Spells s
+threads_spells s fresh tries name plain letters are_pages are_tries words none =
+    let rows = rows_after s.rules [] words in
+    let all = level_good s plain letters words none in
+    let p = given_read s.rules rows (codes "fresh") 32 fresh are_pages all in
+    let n = given_read s.rules rows (codes "tries") 32 tries are_tries all in (
+      Threads p.0 (unwrap_or n.0 1000),
+      ap (λ (t : Text). command_of t rows) name ∙ ap (λ o. threads_of o (given_in 32 rows (codes "tries"))) p.1 ∙ ap (λ o. threads_of (Some p.0) o) n.1,
+    )
+
 graph_spells : (s : Shape) → s.name ≡ codes "graph" → Spells s
 graph_spells s name words none = (Graph, ap (λ (t : Text). command_of t (rows_after s.rules [] words)) name)
 
@@ -202,16 +213,21 @@ all_spell = (
         (record { own = refl; some_value = refl; set = refl; no_default = refl }, (record { own = refl; some_value = refl; set = refl; no_default = refl }, (record { own = refl; some_value = refl; set = refl; no_default = refl }, tt)))
         (λ x. refl) (refl, signed_number 1 16384 (omega arith)) (refl, unsigned_number) (refl, unsigned_number),
     (
-      graph_spells _ refl,
+      threads_spells _ _ _ refl
+          (record { own = refl; some_value = refl; set = refl; no_default = refl }, (record { own = refl; some_value = refl; set = refl; no_default = refl }, tt))
+          (λ x. refl) (refl, signed_number 1 16384 (omega arith)) (refl, signed_number 1 1000000 (omega arith)),
       (
-        load_spells _ _ _ _ refl refl
-            (record { own = refl; some_value = refl; set = refl; no_default = refl }, (record { own = refl; some_value = refl; set = refl; no_default = refl }, (record { own = refl; some_value = refl; set = refl; no_default = refl }, tt)))
-            (λ x. refl) (refl, signed_number 0 2147483647 (omega arith)) (refl, signed_number 0 100000 (omega arith)) (refl, signed_number 1 16384 (omega arith))
-            (λ rows whole.
-            let first = or_parts (not (is_given (codes "seed") rows)) _ whole in
-            let second = or_parts (not (is_given (codes "count") rows)) _ first.1 in
-            (given _ first.0, given _ second.0)),
-        tt,
+        graph_spells _ refl,
+        (
+          load_spells _ _ _ _ refl refl
+              (record { own = refl; some_value = refl; set = refl; no_default = refl }, (record { own = refl; some_value = refl; set = refl; no_default = refl }, (record { own = refl; some_value = refl; set = refl; no_default = refl }, tt)))
+              (λ x. refl) (refl, signed_number 0 2147483647 (omega arith)) (refl, signed_number 0 100000 (omega arith)) (refl, signed_number 1 16384 (omega arith))
+              (λ rows whole.
+              let first = or_parts (not (is_given (codes "seed") rows)) _ whole in
+              let second = or_parts (not (is_given (codes "count") rows)) _ first.1 in
+              (given _ first.0, given _ second.0)),
+          tt,
+        ),
       ),
     ),
   ),

@@ -1,5 +1,5 @@
 -- The command that the words of the command line spell: the parser's matches over the table of commands, and what is read off them.
-use Rattle.std.specs.Prelude.{◌≡◌, ℕ, ◌^◌, ◌&&◌, nat_lt, List, [], ◌∷◌, Option, None, Some, option_map, option_and_then, bytes_eq, codes, if◌then◌else◌}
+use Rattle.std.specs.Prelude.{◌≡◌, ℕ, ◌^◌, ◌&&◌, nat_lt, List, [], ◌∷◌, Option, None, Some, option_map, option_and_then, unwrap_or, bytes_eq, codes, if◌then◌else◌}
 use Rattle.std.specs.Str.Parse.{digits_value, without_leading_plus}
 use Rattle.clap.specs.Kinds.{Kinds}
 use Rattle.clap.specs.ValueTests.{is_numeral}
@@ -10,7 +10,7 @@ use Rattle.clap.specs.declared.error.kind.ErrorKind.{ErrorKind}
 use Rattle.clap.specs.declared.error.kind.ErrorKind.TheVariants as kind
 use Rattle.command_words.specs.Table.{program}
 use Rattle.command_words.specs.declared.commands.Command.{Command}
-use Rattle.command_words.specs.declared.commands.Command.TheVariants.{Format, Play, Graph, Load}
+use Rattle.command_words.specs.declared.commands.Command.TheVariants.{Format, Play, Threads, Graph, Load}
 use Rattle.command_words.specs.declared.commands.CommandError.{CommandError}
 use Rattle.command_words.specs.declared.commands.CommandError.TheVariants.{NoMemory, Usage}
 use Rattle.command_words.specs.declared.commands.Numbers.{Numbers}
@@ -54,6 +54,14 @@ play_of _ _ _ = None
 abbrev pub play_in : List Row → Option Command
 play_in rows = play_of (given_in 32 rows (codes "fresh")) (given_in 64 rows (codes "stop")) (given_in 64 rows (codes "again"))
 
+-- where nothing else is given, an event that is answered busy is made 1,000 times
+abbrev pub threads_of : Option (Option ℕ) → Option (Option ℕ) → Option Command
+threads_of (Some fresh) (Some tries) = Some (Threads fresh (unwrap_or tries 1000))
+threads_of _ _ = None
+
+abbrev pub threads_in : List Row → Option Command
+threads_in rows = threads_of (given_in 32 rows (codes "fresh")) (given_in 32 rows (codes "tries"))
+
 abbrev pub load_of : Option ℕ → Option ℕ → Option (Option ℕ) → Option Command
 load_of (Some seed) (Some count) (Some fresh) = Some (Load seed count fresh)
 load_of _ _ _ = None
@@ -66,8 +74,9 @@ abbrev pub command_of : Text → List Row → Option Command
 command_of name rows =
     if bytes_eq name (codes "format") then option_map (λ numbers. Format numbers) (numbers_in rows)
     else (if bytes_eq name (codes "play") then play_in rows
+    else (if bytes_eq name (codes "threads") then threads_in rows
     else (if bytes_eq name (codes "graph") then Some Graph
-    else (if bytes_eq name (codes "load") then load_in rows else None)))
+    else (if bytes_eq name (codes "load") then load_in rows else None))))
 
 -- what an error of the parser is to the program
 abbrev pub error_of : ErrorKind → CommandError

@@ -1,7 +1,7 @@
 -- What the numbers of a command keep to.
 use Rattle.std.specs.Prelude.{ℕ, ◌<◌, ◌≤◌, ◌^◌, IfSome, ⊤}
 use Rattle.command_words.specs.declared.commands.Command.{Command}
-use Rattle.command_words.specs.declared.commands.Command.TheVariants.{Format, Play, Graph, Load}
+use Rattle.command_words.specs.declared.commands.Command.TheVariants.{Format, Play, Threads, Graph, Load}
 use Rattle.command_words.specs.declared.commands.Numbers.{Numbers}
 use Rattle.command_words.specs.declared.commands.Stop.{Stop}
 
@@ -23,5 +23,6 @@ IsStop stop = (stop.after < 2 ^ 64) × IfSome stop.again (λ again. again < 2 ^ 
 abbrev pub IsWithin : Command → Type 0
 IsWithin (Format numbers) = AreNumbers numbers
 IsWithin (Play fresh stop) = IfSome fresh IsPages × IfSome stop IsStop
+IsWithin (Threads fresh tries) = IfSome fresh IsPages × (1 ≤ tries) × (tries ≤ 1000000)
 IsWithin Graph = ⊤
 IsWithin (Load seed count fresh) = (seed < 2 ^ 31) × (count ≤ 100000) × IfSome fresh IsPages

@@ -38,6 +38,12 @@ play_row = row (codes "play") (
     ∷ option (codes "again") any_number
     ∷ [])
 
+abbrev pub threads_row : Shape
+threads_row = row (codes "threads") (
+    option (codes "fresh") (between 1 16384)
+    ∷ option (codes "tries") (between 1 1000000)
+    ∷ [])
+
 abbrev pub graph_row : Shape
 graph_row = row (codes "graph") []
 
@@ -58,5 +64,5 @@ program = record {
     disable_version_flag = true;
     subcommand_required = true;
   };
-  subs = format_row ∷ play_row ∷ graph_row ∷ load_row ∷ [];
+  subs = format_row ∷ play_row ∷ threads_row ∷ graph_row ∷ load_row ∷ [];
 }

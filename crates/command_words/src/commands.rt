@@ -13,6 +13,13 @@ pub enum Command {
         /// How the disk stops, if it is to stop.
         stop: Option<Stop>,
     },
+    /// Play the script of standard input with a worker for each session, one for collections and one that forces and flushes.
+    Threads {
+        /// How many pages each space of a heap has that is made for this run alone, if one is; from 1 to 16384.
+        fresh: Option<u32>,
+        /// How often an event is made in all that is answered busy; from 1 to 1000000.
+        tries: u32,
+    },
     /// Print the graph that is reached from the root.
     Graph,
     /// Make a load from a number, play it, and print what came of it.

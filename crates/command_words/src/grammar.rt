@@ -2,7 +2,7 @@
 ghost use Rattle.std.specs.Prelude.{◌≡◌, IfOk, Some, false};
 ghost use Rattle.clap.specs.Words.{app_of, rule_of, shape_of};
 ghost use Rattle.clap.specs.declared.builder.command.Command.TheViews.{out-Command};
-ghost use Rattle.command_words.specs.Table.{argument, between, format_row, load_row, option, play_row, program};
+ghost use Rattle.command_words.specs.Table.{argument, between, format_row, load_row, option, play_row, program, threads_row};
 
 use clap::builder::ValueParser;
 use clap::{Arg, Command, value_parser};
@@ -56,6 +56,16 @@ fn play_command<'a>(alloc: Global) -> Result<Command<'a>, AllocError>
         .arg(option(alloc, "again", value_parser!(u64)))
 }
 
+fn threads_command<'a>(alloc: Global) -> Result<Command<'a>, AllocError>
+    ensures row { IfOk result (λ c. shape_of c ≡ threads_row) }
+    ensures local { IfOk result (λ c. (out-Command c).has_globals ≡ false) }
+{
+    let tries = value_parser!(u32).range(1..=1_000_000);
+    Command::new(alloc, "threads")
+        .arg(option(alloc, "fresh", pages()))?
+        .arg(option(alloc, "tries", tries))
+}
+
 fn load_command<'a>(alloc: Global) -> Result<Command<'a>, AllocError>
     ensures row { IfOk result (λ c. shape_of c ≡ load_row) }
     ensures local { IfOk result (λ c. (out-Command c).has_globals ≡ false) }
@@ -79,6 +89,7 @@ pub(crate) fn program<'a>(alloc: Global) -> Result<Command<'a>, AllocError>
         .subcommand_required(true)
         .subcommand(format_command(alloc)?)?
         .subcommand(play_command(alloc)?)?
+        .subcommand(threads_command(alloc)?)?
         .subcommand(Command::new(alloc, "graph"))?
         .subcommand(load_command(alloc)?)
 }

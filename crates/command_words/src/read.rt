@@ -1,7 +1,7 @@
 //! Reading a command off the matches of the words.
 ghost use Rattle.std.specs.Prelude.{◌≡◌, Err, IfOk, None, OnOk, Some, map, string_bytes};
 ghost use Rattle.clap.specs.Words.{found_of, kind_of, rows_of};
-ghost use Rattle.command_words.specs.Command.{IsTaken, command, command_of, error_of, given_in, load_in, number_in, numbers_in, play_in, stop_of};
+ghost use Rattle.command_words.specs.Command.{IsTaken, command, command_of, error_of, given_in, load_in, number_in, numbers_in, play_in, stop_of, threads_in};
 ghost use Rattle.command_words.specs.Limits.{IsWithin};
 
 use crate::commands::{Command, CommandError, Numbers, Stop};
@@ -9,6 +9,9 @@ use crate::grammar::program;
 use clap::ArgMatches;
 use clap::error::ErrorKind;
 use std::alloc::{AllocError, Global};
+
+/// How often an event is made that is answered busy, where the words don't say it.
+const TRIES: u32 = 1000;
 
 impl From<AllocError> for CommandError {
     ghost use Rattle.command_words.specs.declared.commands.CommandError.TheVariants.{NoMemory};
@@ -88,6 +91,15 @@ fn read_play(play: &ArgMatches) -> Option<Command>
     })
 }
 
+fn read_threads(threads: &ArgMatches) -> Option<Command>
+    ensures { result ≡ threads_in (rows_of (found_of threads.now)) }
+{
+    Some(Command::Threads {
+        fresh: given_u32(threads, "fresh")?,
+        tries: given_u32(threads, "tries")?.unwrap_or(TRIES),
+    })
+}
+
 fn read_load(load: &ArgMatches) -> Option<Command>
     ensures { result ≡ load_in (rows_of (found_of load.now)) }
 {
@@ -105,6 +117,7 @@ fn read_matches(name: &str, found: &ArgMatches) -> Option<Command>
     match name {
         "format" => Some(Command::Format(read_numbers(found)?)),
         "play" => read_play(found),
+        "threads" => read_threads(found),
         "graph" => Some(Command::Graph),
         "load" => read_load(found),
         _ => None,

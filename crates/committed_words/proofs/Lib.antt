@@ -1,1 +1,2 @@
 pub mod LaidOver
+pub mod TakenBack

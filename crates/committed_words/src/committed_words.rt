@@ -1,5 +1,5 @@
 //! Before-images that are laid over the words of a heap.
-ghost use Rattle.std.specs.Prelude.{◌≡◌, ◌<◌, ◌^◌, OnOk, length, reverse, slice_set};
+ghost use Rattle.std.specs.Prelude.{◌≡◌, ◌<◌, ◌^◌, ℕ, OnErr, OnOk, length, reverse, slice_set, take};
 ghost use Rattle.std.specs.List.{AllByRecursion};
 ghost use Rattle.log_machine.specs.declared.UndoEntry.{UndoEntry};
 ghost use Rattle.log_machine.specs.Machine.{field_at, taken_back, with_word};
@@ -35,10 +35,12 @@ impl<'a> CommittedWords<'a> {
         }
     }
 
-    /// Takes these writes back, of which the newest stands last: it goes first.
+    /// Takes these writes back, of which the newest stands last: it goes first. Where memory is refused, some of the newest of them
+    /// are taken back, and nothing else.
     pub fn take_back(&mut self, undo: &[UndoEntry]) -> Result<(), AllocError>
         requires { AllByRecursion (λ (u : UndoEntry). field_at u.object u.field < length (words_of self.old)) undo.now }
-        ensures { OnOk result (words_of self.new ≡ taken_back (reverse undo.now) (words_of self.old)) }
+        ensures ok { OnOk result (words_of self.new ≡ taken_back (reverse undo.now) (words_of self.old)) }
+        ensures err { OnErr result ((n : ℕ) × (n < length undo.now) × (words_of self.new ≡ taken_back (take n (reverse undo.now)) (words_of self.old))) }
     {
         for entry in undo.iter().rev() {
             self.put(entry.object, entry.field, entry.was)?;
@@ -49,7 +51,8 @@ impl<'a> CommittedWords<'a> {
     // Lays one word over a field of the object at a word address.
     fn put(&mut self, object: u32, field: u16, word: u64) -> Result<(), AllocError>
         requires { field_at object field < length (words_of self.old) }
-        ensures { OnOk result (words_of self.new ≡ with_word (words_of self.old) object field word) }
+        ensures ok { OnOk result (words_of self.new ≡ with_word (words_of self.old) object field word) }
+        ensures err { OnErr result (words_of self.new ≡ words_of self.old) }
     {
         let address = object + FIELDS_AT + u32::from(field);
         self.before_images.insert(address, word)?;

@@ -1,39 +1,101 @@
 -- What a step answers a scan is true of the collection that is under way.
-use Rattle.std.proofs.Common.{◌≡◌, ℕ, List, length, Option, None, Some, ⊎_elim, inl, inr, sym, ◌∙◌, subst, arith}
+use Rattle.std.proofs.Common.{◌≡◌, ◌≤◌, ℕ, List, [], ◌∷◌, ◌++◌, length, drop, Option, None, Some, ⊎_elim, inl, inr, refl, sym, ap, ◌∙◌, subst, arith, append_assoc}
+use Rattle.std.specs.List.{AllByRecursion}
+use Rattle.std.proofs.Math.Seq.{drop-append_seam}
+use Rattle.std.proofs.lemmas.List.{drop_all}
 use Rattle.graph_model.specs.declared.event.Event.{Event}
-use Rattle.graph_model.specs.declared.event.Event.TheVariants.{Scan}
+use Rattle.graph_model.specs.declared.event.Event.TheVariants.{Flip, Scan}
+use Rattle.graph_model.specs.declared.reply.Entry.{Entry}
 use Rattle.graph_model.specs.declared.reply.Refusal.{Refusal}
 use Rattle.graph_model.specs.declared.reply.Reply.{Reply}
 use Rattle.graph_model.specs.declared.reply.Reply.TheVariants as reply
+use Rattle.graph_model.specs.History.{IsOfSession}
 use Rattle.graph_model.specs.Plain.{reply_of}
 use Rattle.heap_spaces.specs.Collection.{Collection}
 use Rattle.log_records.specs.declared.Record.{Record}
 use Rattle.log_machine.specs.Machine.{State}
-use Rattle.heap_model.specs.Collecting.{copied_in, next_page, scan_reply, scan_reply_in}
-use Rattle.heap_model.specs.Core.{Core, IsStep, answer, core_refusal, event_records, granted_by, ground, own_records}
+use Rattle.log_machine.proofs.ListLaws.{AllByRecursion-append}
+use Rattle.heap_model.specs.Collecting.{copied_in, next_page, scan_reply, scan_reply_in, words_copied}
+use Rattle.heap_model.specs.Core.{Core, IsRun, IsStep, after, after_refusal, all_records, answer, core_refusal, event_records, granted_by, ground, own_records}
+use Rattle.heap_model.proofs.Run.Calls.{after_history}
 use Rattle.core_laws.specs.Valid.{IsReached}
+use Rattle.core_laws.specs.Unseen.{since}
 use Rattle.core_laws.proofs.Collecting.Few.{pause_law}
+use Rattle.limit_laws.specs.Progress.{BeganNone, BeginsNone}
 use Rattle.limit_laws.proofs.Copies.Exact.{exact_law}
 use Rattle.limit_laws.proofs.Copies.Garbage.{no_garbage_law}
+use Rattle.limit_laws.proofs.Events.Appended.{all_done}
+use Rattle.limit_laws.proofs.Runs.{run_entries, run_history, since_run}
 use Rattle.heap_core.specs.Collects.{CollectsAsTold}
 
--- a scan that is answered so was not refused
-granted : (o : Option Refusal) (r : Reply) (page objects words : ℕ) → reply_of o r ≡ reply.Scanned page objects words → r ≡ reply.Scanned page objects words
-granted None r page objects words is = is
-granted (Some why) r page objects words is = absurd (cc is)
+-- What a scan appends.
 
-counted_in : (s : State) (records : List Record) (o : Option Collection) (next : Option ℕ) (page objects words : ℕ) → scan_reply_in s records o next ≡ reply.Scanned page objects words → objects ≡ length (copied_in records)
-counted_in s records None next page objects words is = absurd (cc is)
-counted_in s records (Some k) None page objects words is = absurd (cc is)
-counted_in s records (Some k) (Some p) page objects words is = cc is
+abbrev appended_by : (d : Core) → Option Refusal → List Record
+appended_by d o = drop (length (all_records d)) (all_records (after_refusal o d Scan))
 
-counted : (o : Option State) (records : List Record) (page objects words : ℕ) → scan_reply o records ≡ reply.Scanned page objects words → objects ≡ length (copied_in records)
-counted None records page objects words is = absurd (cc is)
-counted (Some s) records page objects words is = counted_in s records s.collection (next_page s.collection) page objects words is
+-- one that is granted appends its records
+appended_granted : (d : Core) → appended_by d None ≡ event_records d Scan
+appended_granted d = ap (drop (length (all_records d))) (all_done d Scan) ∙ drop-append_seam (all_records d) (event_records d Scan)
 
--- what it copied are the copies of its records
-told : (d : Core) (page objects words : ℕ) → answer d Scan ≡ reply.Scanned page objects words → objects ≡ length (copied_in (event_records d Scan))
-told d page objects words is = counted (ground d).state (own_records d Scan) page objects words (granted (core_refusal d Scan) (granted_by d Scan) page objects words is)
+-- and one that is refused none
+appended_refused : (d : Core) (why : Refusal) → appended_by d (Some why) ≡ []
+appended_refused d why = drop_all (length (all_records d)) (all_records d) (omega arith)
+
+few_of : (d : Core) (o : Option Refusal) → length (copied_in (event_records d Scan)) ≤ 576 → length (copied_in (appended_by d o)) ≤ 576
+few_of d None most = subst (λ (l : List Record). length (copied_in l) ≤ 576) (sym (appended_granted d)) most
+few_of d (Some why) most = subst (λ (l : List Record). length (copied_in l) ≤ 576) (sym (appended_refused d why)) (omega arith)
+
+-- What it is answered.
+
+abbrev AreTold : ℕ → ℕ → List Record → Type 0
+AreTold objects words records = (objects ≡ length (copied_in records)) × (words ≡ words_copied records)
+
+told_in : (s : State) (records : List Record) (o : Option Collection) (next : Option ℕ) (page objects words : ℕ) → scan_reply_in s records o next ≡ reply.Scanned page objects words → AreTold objects words records
+told_in s records None next page objects words is = absurd (cc is)
+told_in s records (Some k) None page objects words is = absurd (cc is)
+told_in s records (Some k) (Some p) page objects words is = (cc is, cc is)
+
+told_by : (o : Option State) (records : List Record) (page objects words : ℕ) → scan_reply o records ≡ reply.Scanned page objects words → AreTold objects words records
+told_by None records page objects words is = absurd (cc is)
+told_by (Some s) records page objects words is = told_in s records s.collection (next_page s.collection) page objects words is
+
+-- an answer that tells what was copied is that of a scan that was granted
+told_of : (d : Core) (o : Option Refusal) (page objects words : ℕ) → reply_of o (granted_by d Scan) ≡ reply.Scanned page objects words → AreTold objects words (appended_by d o)
+told_of d None page objects words is =
+    subst (AreTold objects words) (sym (appended_granted d)) (told_by (ground d).state (own_records d Scan) page objects words is)
+told_of d (Some why) page objects words is = absurd (cc is)
+
+begins_in : (s : State) (records : List Record) (o : Option Collection) (next : Option ℕ) → BeginsNone (scan_reply_in s records o next)
+begins_in s records None next = tt
+begins_in s records (Some k) None = tt
+begins_in s records (Some k) (Some p) = tt
+
+begins_by : (o : Option State) (records : List Record) → BeginsNone (scan_reply o records)
+begins_by None records = tt
+begins_by (Some s) records = begins_in s records s.collection (next_page s.collection)
+
+-- it never says that a collection began
+begins_none : (d : Core) (o : Option Refusal) → BeginsNone (reply_of o (granted_by d Scan))
+begins_none d None = begins_by (ground d).state (own_records d Scan)
+begins_none d (Some why) = tt
+
+-- A run with a scan behind it.
+
+run_scan : (c d : Core) (events : List Event) → IsRun c events d → IsRun c (events ++ Scan ∷ []) (after d Scan)
+run_scan c d [] run = (answer c Scan, after c Scan, inl (refl, refl), ap (λ (x : Core). after x Scan) run)
+run_scan c d (event ∷ events) run = (run.0, run.1, run.2, run_scan run.1 d events run.3)
+
+-- no other collection begins in it
+alone_scan : (c d : Core) (events : List Event) → IsRun c events d → BeganNone c d → BeganNone c (after d Scan)
+alone_scan c d events run alone =
+    let entry : Entry = record { event = Scan; reply = answer d Scan } in
+    let added = run_entries c d events run in
+    let all : (after d Scan).history ≡ c.history ++ (added ++ entry ∷ []) =
+    after_history d Scan ∙ ap (λ (h : List Entry). h ++ entry ∷ []) (run_history c d events run) ∙ append_assoc c.history added (entry ∷ []) in
+    let since_is : since c (after d Scan) ≡ added ++ entry ∷ [] = ap (drop (length c.history)) all ∙ drop-append_seam c.history (added ++ entry ∷ []) in
+    let before : AllByRecursion (λ (e : Entry). BeginsNone e.reply) added = subst (AllByRecursion (λ (e : Entry). BeginsNone e.reply)) (since_run c d events run) alone in
+    subst (AllByRecursion (λ (e : Entry). BeginsNone e.reply)) (sym since_is)
+    (AllByRecursion-append (λ (e : Entry). BeginsNone e.reply) added (entry ∷ []) before (begins_none d (core_refusal d Scan), tt))
 
 -- the step's answer is the core's, or says that the disk cut it short
 answered_scan : (d next : Core) (answered : Reply) (page objects words : ℕ) → IsStep d Scan answered next → answered ≡ reply.Scanned page objects words → answer d Scan ≡ reply.Scanned page objects words
@@ -46,10 +108,13 @@ answered_end d next answered used (inr (cut, rest)) is = ⊎_elim (λ told. absu
 
 told_of_scan : (d next : Core) (answered : Reply) → IsReached d → IsStep d Scan answered next → CollectsAsTold d answered
 told_of_scan d next answered reached step = record {
-  few = λ page objects words is.
-      let most = pause_law d Scan reached (λ same. absurd (cc same)) in
-      omega (arith, most, told d page objects words (answered_scan d next answered page objects words step is));
-  within = λ c idle way. no_garbage_law idle.first c d idle.events way.events way.objects way.words idle.reached idle.idle idle.sessions idle.run way.flipped way.sessions way.run way.alone;
+  few = few_of d (core_refusal d Scan) (pause_law d Scan reached (λ same. absurd (cc same)));
+  told = λ page objects words is. told_of d (core_refusal d Scan) page objects words (answered_scan d next answered page objects words step is);
+  within = λ c idle way. (
+    no_garbage_law idle.first c d idle.events way.events way.objects way.words idle.reached idle.idle idle.sessions idle.run way.flipped way.sessions way.run way.alone,
+    no_garbage_law idle.first c (after d Scan) idle.events (way.events ++ Scan ∷ []) way.objects way.words idle.reached idle.idle idle.sessions idle.run way.flipped
+        (AllByRecursion-append IsOfSession way.events (Scan ∷ []) way.sessions (tt, tt)) (run_scan (after c Flip) d way.events way.run) (alone_scan (after c Flip) d way.events way.run way.alone),
+  );
   exact = λ c used idle way is. exact_law idle.first c d idle.events way.events way.objects way.words used idle.reached idle.idle idle.sessions idle.run way.flipped way.sessions way.run way.alone (answered_end d next answered used step is);
 }
 

@@ -1,20 +1,23 @@
 -- What the answer to a scan says of the collection that is under way.
-use Rattle.std.specs.Prelude.{◌≡◌, ℕ, ◌≤◌, List, true, is_some}
+use Rattle.std.specs.Prelude.{◌≡◌, ℕ, ◌≤◌, List, length, true, is_some}
 use Rattle.std.specs.List.{AllByRecursion}
 use Rattle.graph_model.specs.declared.event.Event.{Event}
-use Rattle.graph_model.specs.declared.event.Event.TheVariants.{Flip}
+use Rattle.graph_model.specs.declared.event.Event.TheVariants.{Flip, Scan}
 use Rattle.graph_model.specs.declared.id.Id.{Id}
 use Rattle.graph_model.specs.declared.reply.Reply.{Reply}
 use Rattle.graph_model.specs.declared.reply.Reply.TheVariants as reply
 use Rattle.graph_model.specs.Canon.{Reached}
 use Rattle.graph_model.specs.History.{IsOfSession}
 use Rattle.graph_words.specs.Places.{address_of}
+use Rattle.log_records.specs.declared.Record.{Record}
+use Rattle.heap_model.specs.Collecting.{copied_in, words_copied}
 use Rattle.heap_model.specs.Core.{Core, IsRun, after, answer}
 use Rattle.core_laws.specs.Valid.{IsReached}
+use Rattle.limit_laws.specs.Bytes.{appended}
 use Rattle.limit_laws.specs.Copies.{CopiesJust, IsIdle, copied_since, sealed_graph}
 use Rattle.limit_laws.specs.Progress.{BeganNone}
 
--- A collection began in c, and events of sessions have led from there to d, with no other collection begun.
+-- A collection began in c, and events of sessions have led from there to d, with no other collection begun. It may have ended by then.
 pub record IsUnderWay (c d : Core) : Type 0 where
   pub objects : ℕ
   pub words : ℕ
@@ -33,10 +36,19 @@ pub record BeganIdle (c : Core) : Type 0 where
   pub sessions : AllByRecursion IsOfSession events
   pub run : IsRun first events c
 
--- A scan of d is answered so. It copied few objects. What the collection that is under way has copied was reached at its flip from the root, in the graph
--- that the sealed transactions had left then, whichever were active; and where the scan ends it, just that has been copied, and all that is in use is
--- the copies and what became stable since.
+-- the records that a scan appends
+abbrev pub scanned : Core → List Record
+scanned d = appended d (after d Scan)
+
+-- All that a collection that began in c has copied up to d was reached at its flip.
+abbrev pub CopiesNoGarbage : Core → Core → Type 0
+CopiesNoGarbage c d = (id : Id) → is_some (address_of (copied_since c d) id) ≡ true → Reached (sealed_graph c) id
+
+-- A scan of d is answered so. It copied at most 576 objects, and the answer tells how many, and of how many words. What a collection that began since the
+-- opening has copied, before this scan and with it, was reached at its flip from the root, in the graph that the sealed transactions had left then,
+-- whichever were active; and where the scan ends it, just that has been copied, and all that is in use is the copies and what became stable since.
 pub record CollectsAsTold (d : Core) (answered : Reply) : Type 0 where
-  pub few : (page objects words : ℕ) → answered ≡ reply.Scanned page objects words → objects ≤ 576
-  pub within : (c : Core) → BeganIdle c → IsUnderWay c d → (id : Id) → is_some (address_of (copied_since c d) id) ≡ true → Reached (sealed_graph c) id
+  pub few : length (copied_in (scanned d)) ≤ 576
+  pub told : (page objects words : ℕ) → answered ≡ reply.Scanned page objects words → (objects ≡ length (copied_in (scanned d))) × (words ≡ words_copied (scanned d))
+  pub within : (c : Core) → BeganIdle c → IsUnderWay c d → CopiesNoGarbage c d × CopiesNoGarbage c (after d Scan)
   pub exact : (c : Core) (used : ℕ) → BeganIdle c → IsUnderWay c d → answered ≡ reply.Collected used → CopiesJust c d used

@@ -235,7 +235,7 @@ impl<D: Disk> Heap<D> {
         ensures passes { IsTrue D.tells → (c : Core) → IsCore c self.old → IsReached c → IfOk result (λ reply. Passes (calls c event) (D.passed self.old.disk) (D.passed self.new.disk) (reply_device reply)) }
         // An event that makes no write or sync leaves the disk alone, and does not read it either.
         ensures still { (c : Core) → IsCore c self.old → IsReached c → calls c event ≡ 0 → self.new.disk ≡ self.old.disk }
-        // A scan copies few objects, and a collection just what was reached at its flip, whichever transactions were active then.
+        // A scan copies at most 576 objects, and a collection that began since the opening just what was reached at its flip, whichever transactions were active then.
         ensures collects { (c : Core) → IsCore c self.old → IsReached c → event ≡ Scan → IfOk result (λ reply. CollectsAsTold c reply) }
         // When memory runs out, transactions can still be ended and commits forced.
         ensures memory { (c : Core) → IsCore c self.old → IsReached c → (account c.history).failed ≡ None → TakesNoMemory c event → IsOk result }

@@ -2,7 +2,8 @@
 use Rattle.std.specs.Prelude.{ℕ, List}
 use Rattle.graph_model.specs.declared.reply.Entry.{Entry}
 
--- The entries, oldest first, and for how many more there is room.
+-- The entries, oldest first, for how many more there is room, and how many are kept whole.
 pub record Recorded : Type 0 where
   pub entries : List Entry
   pub room : ℕ
+  pub whole : ℕ

@@ -15,8 +15,8 @@ use graph_model::{Entry, Event, Reply};
 use std::alloc::{AllocError, Global};
 use std::marker::Model;
 
-/// The entries since the heap was opened, oldest first. Clauses see them, and for how many more there is room. An entry takes 24 bytes, and one with a
-/// number that is not ordinary 96.
+/// The entries since the heap was opened, oldest first. Clauses see them, for how many more there is room, and how many are kept whole. An entry takes
+/// 24 bytes, and one with a number that is not ordinary is kept whole and takes 96.
 #[derive(Debug, Drop)]
 pub struct History {
     alloc: Global,
@@ -37,7 +37,7 @@ impl Model for History {
 
     ghost Value = { Recorded };
 
-    ghost view = { λ history. record { entries = entries_in history.whole.items history.kept.items; room = history.room } };
+    ghost view = { λ history. record { entries = entries_in history.whole.items history.kept.items; room = history.room; whole = vec_len history.whole } };
 
     ghost invariant = { λ history. IsKept history.whole.items history.kept.items history.durable × (history.room + vec_len history.kept ≤ vec_capacity history.kept) × (history.room + vec_len history.whole ≤ vec_capacity history.whole) };
 }
@@ -74,7 +74,9 @@ fn greatest_durable(durable: u64, reply: Reply) -> u64
 impl History {
     /// Nothing has happened. It takes no memory.
     pub fn new(alloc: Global) -> History
-        ensures { result.entries ≡ [] }
+        ensures entries { result.entries ≡ [] }
+        ensures room { result.room ≡ 0 }
+        ensures whole { result.whole ≡ 0 }
     {
         History {
             alloc,
@@ -90,6 +92,7 @@ impl History {
         ensures same { self.new.entries ≡ self.old.entries }
         ensures room { OnOk result (entries ≤ self.new.room) }
         ensures more { self.old.room ≤ self.new.room }
+        ensures whole { self.new.whole ≡ self.old.whole }
         ensures err { OnErr result (self.new ≡ self.old) }
     {
         self.kept.reserve(entries)?;
@@ -98,11 +101,13 @@ impl History {
         Ok(())
     }
 
-    /// Adds an event and its reply, for which there is room. It takes no memory.
+    /// Adds an event and its reply, for which there is room. It takes no memory, and keeps none but an entry that is not ordinary whole.
     pub fn push(&mut self, event: Event, reply: Reply)
         requires { 0 < self.old.room }
         ensures entries { self.new.entries ≡ self.old.entries ++ record { event = event; reply = reply } ∷ [] }
         ensures room { self.new.room + 1 ≡ self.old.room }
+        ensures brief { IsOrdinary (record { event = event; reply = reply }) → self.new.whole ≡ self.old.whole }
+        ensures few { self.new.whole ≤ self.old.whole + 1 }
     {
         self.durable = greatest_durable(self.durable, reply);
         let kept = keep(&mut self.whole, Entry { event, reply });

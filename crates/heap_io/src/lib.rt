@@ -7,6 +7,7 @@ mod reading;
 mod sink;
 mod source;
 mod standard;
+mod watched;
 mod writing;
 
 pub use memory_sink::MemorySink;
@@ -15,4 +16,5 @@ pub use reading::{TakeAllError, take_all};
 pub use sink::{Discard, Sink, SinkFailed};
 pub use source::{Source, SourceFailed};
 pub use standard::{StdSink, StdSource};
+pub use watched::WatchedSink;
 pub use writing::put_all;

@@ -1,7 +1,8 @@
 //! Readers and writers of std, such as standard input and output. Clauses speak of their bytes where std tells them,
 //! which it doesn't for the standard ones.
-ghost use Rattle.std.specs.Prelude.{◌≡◌, ◌<◌, ◌≤◌, [], false, length, IfOk};
+ghost use Rattle.std.specs.Prelude.{◌≡◌, ◌<◌, ◌≤◌, [], false, length, is_err, IfOk, if◌then◌else◌};
 ghost use Rattle.std.specs.Io.KnownBytes.{ReadConsumes, WriteAppends};
+ghost use Rattle.counts.specs.Count.{raised};
 ghost use Rattle.heap_io.specs.Stream.{HasCause};
 
 use crate::{Sink, SinkFailed, Source, SourceFailed};
@@ -47,8 +48,9 @@ impl<R: Read> Source for StdSource<R> {
         ensures within { IfOk result (λ n. n ≤ length into.old) }
         ensures cause { HasCause self.old.faults self.new.faults result }
 
-        // It takes what the reader gives.
+        // It takes what the reader gives, and each fault is an error that was answered.
         ensures read { ReadConsumes self.old.unread self.new.unread result into.new }
+        ensures faults { self.new.faults ≡ (if is_err result then raised self.old.faults else self.old.faults) }
     {
         match self.reader.read(into) {
             Ok(count) => Ok(count),
@@ -100,8 +102,9 @@ impl<W: Write> Sink for StdSink<W> {
         ensures some { IfOk result (λ n. 0 < length piece.now → 0 < n) }
         ensures cause { HasCause self.old.faults self.new.faults result }
 
-        // What it says it put, the writer was given.
+        // What it says it put, the writer was given, and each fault is an error that was answered.
         ensures wrote { WriteAppends self.old.held self.new.held result piece.now }
+        ensures faults { self.new.faults ≡ (if is_err result then raised self.old.faults else self.old.faults) }
     {
         match self.writer.write(piece) {
             Ok(count) if count > 0 || piece.is_empty() => Ok(count),

@@ -148,6 +148,7 @@ pub unread_ends : (which : Command) (words : Option Command) (e : CommandError) 
 unread_ends which words asking.Usage by is usage by_is = let none : words ≡ None = usage refl in cc
 unread_ends (asked.Format n) words asking.NoMemory by is usage by_is = rw by_is tt
 unread_ends (asked.Play fresh stop) words asking.NoMemory by is usage by_is = rw by_is tt
+unread_ends (asked.Threads fresh tries) words asking.NoMemory by is usage by_is = rw by_is tt
 unread_ends asked.Graph words asking.NoMemory by is usage by_is = rw by_is tt
 unread_ends (asked.Load seed count fresh) words asking.NoMemory by is usage by_is = rw by_is tt
 

@@ -1,9 +1,10 @@
 pub mod Behind
 pub mod Causes
-mod CommandLaws
+pub mod CommandLaws
 pub mod CoreSteps
 pub mod Counts
 pub mod Lines
+pub mod Limits
 mod LoadRuns
 mod RoundsLaws
 pub mod NextRun
@@ -11,7 +12,7 @@ mod PlayAborts
 pub mod PlayCore
 mod PlayEnding
 mod PlayEnds
-mod PlayEvent
+pub mod PlayEvent
 mod PlayFaults
 pub mod PlayFuse
 pub mod PlayLaws
@@ -24,8 +25,8 @@ pub mod PrintedImage
 pub mod Ready
 pub mod RefusalLaws
 pub mod Reopened
-mod RunLaws
+pub mod RunLaws
 pub mod Statuses
 pub mod StepsLaws
-mod WordFaults
+pub mod WordFaults
 pub mod Written

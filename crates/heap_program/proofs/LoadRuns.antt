@@ -22,6 +22,7 @@ use Rattle.heap_program.specs.declared.play.Halt.TheVariants as halt
 use Rattle.heap_program.specs.declared.status.Status.{Status}
 use Rattle.heap_program.specs.declared.status.Status.TheVariants as status
 use Rattle.heap_program.proofs.CoreSteps.{all_playable}
+use Rattle.heap_program.proofs.Limits.{limits_law}
 use Rattle.heap_program.specs.Headline.{IsOpened, IsOfDisk}
 use Rattle.heap_program.specs.Load.{WritesSummary, SummarizesSome, core_summary, summary_text}
 use Rattle.heap_program.specs.Output.{WroteText, status_after}
@@ -76,12 +77,13 @@ module _ {D : Type 0} {g : Ghosts D} (c : Core) (seed count : ℕ) (heap : Heap 
       subst (λ (l : List Event). IsRun c l plays.core) (sym same) plays.run
 
 -- On any disk its summary was written, or a first part of it.
-pub summarizes : {D : Type 0} {g : Ghosts D} (c : Core) → IsOpened c → (seed count : ℕ) (heap : Heap D g) (told : Bool) (before after : List ℕ) (plays : PlaysCore c (all_events None c (events (load_lines seed count))) heap told before after (Ok tt))
+pub summarizes : {D : Type 0} {g : Ghosts D} (c : Core) → IsRunning c → c.history ≡ [] → IsOpened c → (seed count : ℕ) → count ≤ 100000 → (heap : Heap D g) (told : Bool) (before after : List ℕ) (plays : PlaysCore c (all_events None c (events (load_lines seed count))) heap told before after (Ok tt))
     (r : Result (Unit {0}) WriteError) (from to : List ℕ) → WroteText r from (summary_text (core_summary seed count plays.core)) to → SummarizesSome seed count (status_after r) from to
-summarizes c opened seed count heap told before after plays r from to wrote = inr (record {
+summarizes c running nothing opened seed count few heap told before after plays r from to wrote = inr (record {
   first = c;
   opened = opened;
   core = plays.core;
   run = whole_run c seed count heap told before after plays;
+  limits = limits_law c running.reached nothing (all_events None c (events (load_lines seed count))) (all_playable None c (load_lines seed count) (load_is seed count few)).sessions plays.core;
   written = (wrote_summary r from _ to wrote).printed;
 })

@@ -45,6 +45,8 @@ use Rattle.heap_program.proofs.Ready.{AreReady}
 use Rattle.heap_program.specs.StatusOf.{halt_status}
 use Rattle.heap_program.proofs.Causes.{disk_rose}
 use Rattle.heap_program.proofs.Counts.{counted-sum, counted_mono}
+use Rattle.heap_program.proofs.Limits.{limits_law}
+use Rattle.heap_program.specs.Limits.{KeepsLimits}
 use Rattle.heap_core.proofs.StepsLaws.{heap_leaves}
 use Rattle.heap_program.proofs.Behind.{HasImages, played_behind}
 use Rattle.heap_program.proofs.Lines as lines
@@ -75,6 +77,9 @@ module _ {D : Type 0} {g : Ghosts D} (s : Super) (c : Core) (running : IsRunning
 
   replies : replies_of_commits core.history ≡ serial_replies core.g0 (commits core.history)
   replies = replies_law core run_reached.1
+
+  pub limits : KeepsLimits c made core
+  limits = limits_law c running.reached new_history made (ready_front c made plays.behind ready).sessions core
 
   -- what a crash leaves now
   pub kept : (image : List ℕ) → g.may_leave new.disk image → IsCommitPrefix core image
@@ -151,7 +156,7 @@ module _ {D : Type 0} {g : Ghosts D} (s : Super) (c : Core) (running : IsRunning
 
   -- the events that were made, as a run tells them
   abbrev pub events_made : (stop : Option ℕ) (at_opening : ℕ) (by : Status) → (by ≡ status.Done → HasMade stop c made plays.behind core) → StopsInPlace stop at_opening c made core → MakesEvents stop at_opening c events by
-  events_made stop at_opening by done stops = record { made = made; behind = plays.behind; parts = plays.parts; core = core; last = last_made; done = λ is. inl (done is); in_place = stops }
+  events_made stop at_opening by done stops = record { made = made; behind = plays.behind; parts = plays.parts; core = core; last = last_made; limits = limits; done = λ is. inl (done is); in_place = stops }
 
   -- The disk that was handed in, at the start and at the end, what a crash left of it, and how many calls it has let through.
   module _ {B : Type 0} (h : Ghosts B) (start final : B) (stop : Option Stop) (at_opening : ℕ) (keeps : KeepsThroughout h (stop_after stop) at_opening c made core start final)

@@ -35,7 +35,7 @@ use Rattle.heap_core.proofs.StepsLaws.{one_steps}
 use Rattle.heap_program.proofs.Lines.{nothing_since, one_since, part_since}
 
 -- a reply that tells no fault of the disk
-sound_device : (reply : Reply) → IsSoundReply reply → (reply_device reply ≡ Ok tt) × (ended_by reply ≡ Ok tt)
+pub sound_device : (reply : Reply) → IsSoundReply reply → (reply_device reply ≡ Ok tt) × (ended_by reply ≡ Ok tt)
 sound_device (Refused DiskFault) sound = absurd sound
 sound_device (Refused Stopped) sound = absurd sound
 sound_device reply sound = (refl, refl)

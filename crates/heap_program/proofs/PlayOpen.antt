@@ -33,6 +33,7 @@ use Rattle.heap_program.specs.Headline.{lasting, IsOpened, made_super, end_text,
 use Rattle.heap_program.specs.Causes.{Unharmed}
 use Rattle.heap_program.specs.Output.{Recovers, WroteRecovered, WroteNothing}
 use Rattle.heap_program.proofs.Counts.{counted_mono}
+use Rattle.heap_program.proofs.Limits.{limits_law}
 use Rattle.heap_program.proofs.PlayFaults.{none_cut}
 use Rattle.heap_program.proofs.Reopened.{recovered_only, outside_memory}
 use Rattle.heap_program.proofs.Lines.{some_writes, all_writes, lines_more}
@@ -165,7 +166,7 @@ module _ {D : Type 0} (g : Ghosts D) {bytes : List ℕ} (stored : IsStored bytes
       let early = λ (done : by ≡ Done). open_not_done e (sym is ∙ done) in
       let calls = unopened_calls (stop_after stop) n (g.passed start) (g.passed final) (Unharmed g start final) e by is outside same harm in
       record {
-        run = record { made = []; behind = events; parts = refl; core = c; last = inl refl; done = λ done. absurd (early done); in_place = none_in_place (stop_after stop) n c };
+        run = record { made = []; behind = events; parts = refl; core = c; last = inl refl; limits = limits_law c stored_running.reached refl [] tt c; done = λ done. absurd (early done); in_place = none_in_place (stop_after stop) n c };
         exact = λ u. exact_unopened (stop_after stop) n c;
         disk = record {
           opened = final;
@@ -245,7 +246,7 @@ module _ {D : Type 0} (g : Ghosts D) {bytes : List ℕ} (stored : IsStored bytes
         let through : min stop.after (n + 0) ≡ stop.after = omega arith in
         let more = counted_mono stop.after n (g.passed start) (omega arith) in
         record {
-          run = record { made = []; behind = events; parts = refl; core = c; last = inl refl; done = λ done. inr (less, refl); in_place = none_in_place (Some stop.after) n c };
+          run = record { made = []; behind = events; parts = refl; core = c; last = inl refl; limits = limits_law c stored_running.reached refl [] tt c; done = λ done. inr (less, refl); in_place = none_in_place (Some stop.after) n c };
           exact = λ u. inr (inr (less, refl));
           disk = record {
             opened = stopped;

@@ -28,7 +28,8 @@ use Rattle.heap_program.specs.declared.play.Halt.{Halt}
 use Rattle.heap_program.specs.declared.play.Halt.TheVariants as halt
 use Rattle.heap_program.specs.declared.status.Status.{Status}
 use Rattle.heap_program.specs.declared.status.Status.TheVariants as status
-use Rattle.heap_program.proofs.CoreSteps.{made_limits, all_playable}
+use Rattle.heap_program.proofs.CoreSteps.{made_limits, made_reached, all_playable}
+use Rattle.heap_program.proofs.Limits.{limits_law}
 use Rattle.heap_program.specs.Headline.{made_super, made_core, graph_text, end_text, recovered_line, HasMade, EndsByDisk, IsOfDisk, PrintsRun, PrintsSome, Writes}
 use Rattle.heap_program.specs.Output.{WroteText, WroteGraph, WroteAgain, status_after}
 use Rattle.heap_program.specs.Play.{EndsAs, IsCutBy, MadeAll, PlaysCore, Wrote, WroteFront, lines_text}
@@ -62,6 +63,7 @@ prints_unplayed n script by before after (inr again) =
       parts = refl;
       core = c;
       run = refl;
+      limits = limits_law c (made_reached 1 [] limits) refl [] tt c;
       last = inl refl;
       done = λ is. inr ((λ none. cc), refl);
       failed = λ is. inr (inr refl);
@@ -94,11 +96,12 @@ module _ {D : Type 0} {g : Ghosts D} {from : Super → List (List Record) → Pa
   abbrev core : Core
   core = plays.core
 
+  sessions : AllByRecursion IsOfSession plays.made
+  sessions = of_session_front plays.made plays.behind (subst (AllByRecursion IsOfSession) plays.parts (all_playable stop c script is_script).sessions)
+
   -- the core that was reached
   pub reached : IsReached core
-  reached =
-      let sessions = (all_playable stop c script is_script).sessions in
-      run_reached c core plays.made new.running.reached (of_session_front plays.made plays.behind (subst (AllByRecursion IsOfSession) plays.parts sessions)) plays.run
+  reached = run_reached c core plays.made new.running.reached sessions plays.run
 
   wrote : Wrote result before core.history after
   wrote = all_since result c.history core.history before after new.nothing (plays.written tells)
@@ -115,6 +118,7 @@ module _ {D : Type 0} {g : Ghosts D} {from : Super → List (List Record) → Pa
     parts = plays.parts;
     core = core;
     run = plays.run;
+    limits = limits_law c new.running.reached new.nothing plays.made sessions core;
     last = last_event c plays.made plays.behind core result plays.ends;
     done = λ is. inl (done is);
     failed = failed;
@@ -195,6 +199,7 @@ prints_script read stop script by before after is implies (inr run) = inr (
     parts = run.parts;
     core = run.core;
     run = run.run;
+    limits = run.limits;
     last = run.last;
     done = run.done;
     failed = run.failed;

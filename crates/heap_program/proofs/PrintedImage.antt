@@ -43,7 +43,7 @@ whole_count c image reached none prefix =
     omega (arith, forced, some, held, same)
 
 -- its image stands for just that
-whole_prefix : (c : Core) (image : List ℕ) → IsReached c → c.pending ≡ [] → IsCommitPrefix c image → StandsFor (serial c.g0 (take (length (sealed c.history)) (commits c.history))) (c.before + length (sealed c.history)) image
+pub whole_prefix : (c : Core) (image : List ℕ) → IsReached c → c.pending ≡ [] → IsCommitPrefix c image → StandsFor (serial c.g0 (take (length (sealed c.history)) (commits c.history))) (c.before + length (sealed c.history)) image
 whole_prefix c image reached none prefix =
     subst (λ (k : ℕ). StandsFor (serial c.g0 (take k (commits c.history))) (c.before + k) image) (whole_count c image reached none prefix) prefix.1.stands
 

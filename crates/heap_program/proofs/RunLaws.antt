@@ -95,7 +95,7 @@ module _ {D : Type 0} (g : Ghosts D) (disk : D) (only : Only (g.bytes disk) (g.m
   unread s (status.Damaged at) input = absurd input
   unread s (status.TooSmall size need) input = absurd input
 
-  unmade : (pages : ℕ) (by : Status) (told : Bool) (before : List ℕ) → IsInputError by → IsNotMade g (made_super pages) disk disk by told before before
+  pub unmade : (pages : ℕ) (by : Status) (told : Bool) (before : List ℕ) → IsInputError by → IsNotMade g (made_super pages) disk disk by told before before
   unmade pages by told before input = record {
     reason = unread (made_super pages) by input;
     nothing = λ t. refl;

@@ -27,6 +27,8 @@ abbrev pub makes : Command → Option Super
 makes (asked.Format n) = Some (heap_of n.pages n.log_bytes n.first)
 makes (asked.Play None stop) = None
 makes (asked.Play (Some pages) stop) = Some (made_super pages)
+makes (asked.Threads None tries) = None
+makes (asked.Threads (Some pages) tries) = Some (made_super pages)
 makes asked.Graph = None
 makes (asked.Load seed count None) = None
 makes (asked.Load seed count (Some pages)) = Some (made_super pages)
@@ -39,6 +41,7 @@ superblock_numbers s = record { pages = s.pages; log_bytes = s.log_bytes; first 
 abbrev pub restarts_of : Command → ℕ
 restarts_of (asked.Format n) = 0
 restarts_of (asked.Play fresh stop) = restarts_asked stop
+restarts_of (asked.Threads fresh tries) = 0
 restarts_of asked.Graph = 0
 restarts_of (asked.Load seed count fresh) = 0
 
@@ -46,12 +49,14 @@ restarts_of (asked.Load seed count fresh) = 0
 abbrev pub CanRun : Command → ℕ → List ℕ → Type 0
 CanRun (asked.Format n) extent image = image_size n.pages n.log_bytes ≤ extent
 CanRun (asked.Play fresh stop) extent image = CanPlay fresh extent image
+CanRun (asked.Threads fresh tries) extent image = CanPlay fresh extent image
 CanRun (asked.Load seed count fresh) extent image = CanPlay fresh extent image
 CanRun asked.Graph extent image = (s : Super) × (batches : List (List Record)) × (stored : Pages) × IsShaped s batches stored image
 
 -- A command that reads a script.
 abbrev pub IsPlay : Command → Type 0
 IsPlay (asked.Play fresh stop) = Unit {0}
+IsPlay (asked.Threads fresh tries) = Unit {0}
 IsPlay command = ⊥
 
 -- The statuses with which a command ends that was read.
@@ -60,6 +65,8 @@ IsEndOf (asked.Format n) (status.TooSmall size need) = Unit {0}
 IsEndOf (asked.Format n) s = IsEndOfPlay s
 IsEndOf (asked.Play fresh stop) status.Usage = ⊥
 IsEndOf (asked.Play fresh stop) s = Unit {0}
+IsEndOf (asked.Threads fresh tries) status.Usage = ⊥
+IsEndOf (asked.Threads fresh tries) s = Unit {0}
 IsEndOf asked.Graph s = IsOpenedEnd s
 IsEndOf (asked.Load seed count fresh) (status.TooSmall size need) = Unit {0}
 IsEndOf (asked.Load seed count fresh) s = IsOpenedEnd s

@@ -41,6 +41,7 @@ use Rattle.heap_program.specs.declared.status.Status.{Status}
 use Rattle.heap_program.specs.declared.status.Status.TheVariants as status
 use Rattle.heap_program.specs.Play.{lines_text, WroteFront, WroteLines, MadeAll, IsCutBy}
 use Rattle.heap_core.specs.Steps.{AreSteps}
+use Rattle.heap_program.specs.Limits.{KeepsLimits}
 use Rattle.heap_program.specs.Steps.{Step}
 use Rattle.heap_program.specs.Stored.{IsStored, stored_core, stored_calls}
 
@@ -174,6 +175,7 @@ pub record PrintsRun (from : Super → List (List Record) → Pages → (ℕ →
   pub parts : all_events stop first (events lines) ≡ made ++ behind
   pub core : Core
   pub run : IsRun first made core
+  pub limits : KeepsLimits first made core
   -- no event follows one that the disk cut short
   pub last : MadeAll first made core ⊎ ((reply : Reply) × IsCutBy reply first made core)
   -- all events were made, or it stopped in one of them or in the opening
@@ -205,6 +207,7 @@ pub record MakesEvents (stop : Option ℕ) (at_opening : ℕ) (c : Core) (events
   pub parts : events ≡ made ++ behind
   pub core : Core
   pub last : MadeAll c made core ⊎ ((reply : Reply) × IsCutBy reply c made core)
+  pub limits : KeepsLimits c made core
   pub done : result ≡ status.Done → HasMade stop c made behind core ⊎ StopsOpening stop at_opening made
   pub in_place : StopsInPlace stop at_opening c made core
 

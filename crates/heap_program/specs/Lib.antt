@@ -2,6 +2,7 @@ pub mod Causes
 pub mod Commands
 pub mod CrashSafe
 pub mod Headline
+pub mod Limits
 pub mod Load
 pub mod Output
 pub mod Play

@@ -18,6 +18,7 @@ use Rattle.heap_program.specs.declared.status.Status.TheVariants as status
 use Rattle.heap_program.specs.declared.summary.Summary.{Summary}
 use Rattle.heap_program.specs.Commands.{WritesText}
 use Rattle.heap_program.specs.Headline.{made_super, made_core, IsOfDisk, IsOpened, IsFormatted, IsNotMade, IsNotBegun, IsPlayed}
+use Rattle.heap_program.specs.Limits.{KeepsLimits}
 use Rattle.heap_program.specs.Play.{WroteFront}
 use Rattle.heap_program.specs.Stored.{IsStored, stored_core, stored_calls}
 
@@ -83,6 +84,7 @@ pub record SummarizesRun (seed count : ℕ) (result : Status) (before after : Li
   pub opened : IsOpened first
   pub core : Core
   pub run : IsRun first (all_events None first (events (load_lines seed count))) core
+  pub limits : KeepsLimits first (all_events None first (events (load_lines seed count))) core
   pub written : WritesText result (summary_text (core_summary seed count core)) before after
 
 -- A run that isn't done wrote nothing, or it wrote that.

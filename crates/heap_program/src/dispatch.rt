@@ -1,4 +1,4 @@
-//! The program's one call: from the words of its command line and a script to the printed graph.
+//! All commands but `threads`: from the words of the command line and a script to the printed graph.
 ghost use Rattle.std.specs.Prelude.{◌≡◌, ◌≢◌, ◌⊎◌, ℕ, ◌<◌, ◌≤◌, [], List, Bool, None, Some, Ok, Err, Option, map, string_bytes, IsTrue};
 ghost use Rattle.counts.specs.Count.{Rose};
 ghost use Rattle.disk_model.specs.Disk.{Only};
@@ -36,15 +36,17 @@ use disk_model::Disk;
 use heap_io::{Sink, Source};
 use std::alloc::Global;
 
-/// Does what the words of the command line say: makes a heap on `disk`, plays the script that `source` gives, or a load, on a new heap or on the
+/// Does what the words of the command line say, which are no `threads` command: makes a heap on `disk`, plays the script that `source` gives, or a load, on a new heap or on the
 /// one that is there, or opens it; and writes the replies and the graph, or a summary, to `sink`.
-pub fn run<D: Disk, S: Source, K: Sink>(
+pub fn run_alone<D: Disk, S: Source, K: Sink>(
     alloc: Global,
     words: &[String],
     disk: D,
     source: &mut S,
     sink: &mut K,
 ) -> (Status, D)
+    requires alone { (fresh : Option ℕ) (tries : ℕ) → command (map string_bytes words.now) ≢ Some (asked.Threads fresh tries) }
+
     // Which words are a command.
     ensures usage { result.0 ≡ Status.Usage → command (map string_bytes words.now) ≡ None }
     ensures usage_told { command (map string_bytes words.now) ≡ None → (result.0 ≡ Status.Usage) ⊎ (result.0 ≡ Status.NoMemory) }
@@ -135,6 +137,8 @@ pub fn run<D: Disk, S: Source, K: Sink>(
     match command {
         Command::Format(numbers) => run_format(alloc, numbers, disk, sink),
         Command::Play { fresh, stop } => run_play(alloc, fresh, stop, disk, source, sink),
+        // It is asked that these are not the words.
+        Command::Threads { .. } => unreachable!(),
         Command::Graph => run_graph(alloc, disk, sink),
         Command::Load { seed, count, fresh } => run_load(alloc, seed, count, fresh, disk, sink),
     }

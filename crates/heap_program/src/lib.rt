@@ -1,5 +1,5 @@
-//! The stable heap's one call, `run`: it makes a heap on a disk, plays a script of transactions on it, answers each event, and prints
-//! the graph that is reached from the root. The program over it is `heap_shell`.
+//! The stable heap's commands but `threads`, as one call, `run_alone`: it makes a heap on a disk, plays a script of transactions on it, answers each
+//! event, and prints the graph that is reached from the root. The call of all commands is `run` of `thread_program`.
 #![tactic(auto)]
 
 mod again;
@@ -13,7 +13,8 @@ mod rounds;
 mod status;
 mod summary;
 
-pub use dispatch::run;
-pub use output::WriteError;
+pub use dispatch::run_alone;
+pub use output::{WriteError, write_graph, write_line};
 pub use play::{Halt, play_ending, play_line};
-pub use status::Status;
+pub use playing::{FIRST, LOG_BYTES, read_input};
+pub use status::{Status, status_after};

@@ -30,10 +30,10 @@ use script_text::{Line, MOST_BYTES, read_script};
 use std::alloc::Global;
 
 /// The bytes of the log of a heap that is made afresh.
-pub(crate) const LOG_BYTES: u32 = 1_048_576;
+pub const LOG_BYTES: u32 = 1_048_576;
 
 /// The number of its first transaction.
-pub(crate) const FIRST: u32 = 1;
+pub const FIRST: u32 = 1;
 
 /// Plays the script that `source` gives, on a heap that is made afresh with `fresh` pages in each space, or on the one that is there.
 pub fn run_play<D: Disk, S: Source, K: Sink>(
@@ -123,7 +123,7 @@ fn play_script<D: Disk, K: Sink>(
 }
 
 /// The script, read to its end.
-fn read_input<S: Source>(alloc: Global, source: &mut S) -> Result<Vec<Line>, Status>
+pub fn read_input<S: Source>(alloc: Global, source: &mut S) -> Result<Vec<Line>, Status>
     ensures status { IfErr result IsInputError }
     ensures cause { StreamCause (S.faults source.old) (S.faults source.new) (result ≡ Err Status.ReadFault) }
     ensures script { IfOk result (λ lines. (bytes : List ℕ) × (script bytes ≡ Ok lines.items) × (IsTrue S.tells → bytes ≡ S.left source.old)) }

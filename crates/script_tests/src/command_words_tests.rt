@@ -31,6 +31,10 @@ fn load(seed: u32, count: u32, fresh: Option<u32>) -> Command {
     Command::Load { seed, count, fresh }
 }
 
+fn threads(fresh: Option<u32>, tries: u32) -> Command {
+    Command::Threads { fresh, tries }
+}
+
 fn stop(after: u64, again: Option<u64>) -> Option<Stop> {
     Some(Stop { after, again })
 }
@@ -68,6 +72,13 @@ fn commands_are_read(rt: HostRuntime) -> Result<(), Fail> {
             play(Some(2), stop(4, Some(never))),
         ),
         ("graph", Command::Graph),
+        ("threads", threads(None, 1000)),
+        ("threads --tries 1", threads(None, 1)),
+        (
+            "threads --tries=1000000 --fresh 16384",
+            threads(Some(16384), 1_000_000),
+        ),
+        ("threads --fresh 1", threads(Some(1), 1000)),
         ("load 1 2", load(1, 2, None)),
         ("load 0 0 --fresh 1", load(0, 0, Some(1))),
         (
@@ -118,7 +129,16 @@ fn other_words_are_refused(rt: HostRuntime) -> Result<(), Fail> {
         "graph x",
         "graph --fresh 1",
         "graph graph",
-        "threads",
+        "threads x",
+        "threads --tries",
+        "threads --tries 0",
+        "threads --tries 1000001",
+        "threads --tries -1",
+        "threads --tries 1 --tries 1",
+        "threads --fresh 0",
+        "threads --fresh 16385",
+        "threads --stop 1",
+        "thread",
         "load",
         "load 1",
         "load 1 2 3",

@@ -1,8 +1,8 @@
 //! Loads: what they print, that equal ones print the same, and how they end on disks and sinks that fail.
-use crate::run_tests::{PICKS, Played, expect_played, make_disk, play_on, words_of};
+use crate::run_tests::{PICKS, Played, expect_played, make_disk, play_on, run_words, words_of};
 use disk_model::{Disk, FuseDisk, MemoryDisk, Pick};
 use heap_io::{MemorySink, MemorySource};
-use heap_program::{Status, run};
+use heap_program::Status;
 use std::alloc::{AllocError, Global};
 use std::process::Abort;
 use std::test::Fail;
@@ -94,13 +94,8 @@ fn load_stopped(
     let words = words_of(alloc, "heap load 1 2")?;
     let mut source = MemorySource::of(Vec::new(alloc), Vec::new(alloc));
     let mut sink = MemorySink::of(alloc, SMALL_SINK, Vec::new(alloc))?;
-    let (status, fuse) = run(
-        alloc,
-        &words,
-        FuseDisk::new(disk, passes),
-        &mut source,
-        &mut sink,
-    );
+    let fuse = FuseDisk::new(disk, passes);
+    let (status, fuse) = run_words(alloc, &words, fuse, &mut source, &mut sink)?;
     let mut disk = fuse.into_inner();
     disk.restart();
     let output = sink.bytes().to_vec(alloc)?;

@@ -1,7 +1,8 @@
 //! The program over memory: what a script prints, on disks that stop or fail and streams that fail.
-use disk_model::{MemoryDisk, Pick};
+use command_words::{Command, CommandError, read_command};
+use disk_model::{Disk, MemoryDisk, Pick};
 use heap_io::{MemorySink, MemorySource};
-use heap_program::{Status, run};
+use heap_program::{Status, run_alone};
 use std::alloc::{AllocError, Global};
 use std::fmt::Debug;
 use std::process::Abort;
@@ -46,6 +47,20 @@ pub fn make_disk(alloc: Global, bytes: usize, pick: Pick) -> Result<MemoryDisk, 
     )
 }
 
+/// Runs the program alone, on a command line that is no `threads` command.
+pub fn run_words<D: Disk + Drop>(
+    alloc: Global,
+    words: &[String],
+    disk: D,
+    source: &mut MemorySource,
+    sink: &mut MemorySink,
+) -> Result<(Status, D), AllocError> {
+    match read_command(alloc, words) {
+        Ok(Command::Threads { .. }) | Err(CommandError::NoMemory) => Err(AllocError),
+        _ => Ok(run_alone(alloc, words, disk, source, sink)),
+    }
+}
+
 /// Plays a script on a disk of memory, with streams whose listed calls fail.
 pub fn play_on(
     alloc: Global,
@@ -57,7 +72,7 @@ pub fn play_on(
     let words = words_of(alloc, line)?;
     let mut source = MemorySource::of(script.to_vec(alloc)?, fails.0);
     let mut sink = MemorySink::of(alloc, SINK_BYTES, fails.1)?;
-    let (status, disk) = run(alloc, &words, disk, &mut source, &mut sink);
+    let (status, disk) = run_words(alloc, &words, disk, &mut source, &mut sink)?;
     let output = sink.bytes().to_vec(alloc)?;
     Ok((Played { status, output }, disk))
 }
@@ -690,7 +705,6 @@ fn other_words_are_no_command(rt: HostRuntime) -> Result<(), Fail> {
         "heap format 0 65536 1",
         "heap format 1 65536",
         "heap graph 1",
-        "heap threads",
         "heap load 1",
         "heap load 1 x",
         "heap load 1 2 3",

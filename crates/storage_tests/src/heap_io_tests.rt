@@ -1,7 +1,7 @@
 //! Streams whose calls fail, read to their end and written to, and a call of each standard one.
 use heap_io::{
     MemorySink, MemorySource, Sink, SinkFailed, Source, SourceFailed, StdSink, StdSource,
-    TakeAllError, put_all, take_all,
+    TakeAllError, WatchedSink, put_all, take_all,
 };
 use std::alloc::{AllocError, Global};
 use std::test::Fail;
@@ -81,4 +81,5 @@ fn the_standard_ones_answer(rt: HostRuntime) {
     assert_eq!(rt; StdSource::new(b"ab".as_slice()).take(&mut into), Ok(2));
     assert_eq!(rt; StdSource::new(rt.stdin()).take(&mut []), Ok(0));
     assert_eq!(rt; StdSink::new(rt.stdout()).put(b""), Ok(0));
+    assert_eq!(rt; WatchedSink::new(rt.stdout(), rt.stderr()).put(b""), Ok(0));
 }

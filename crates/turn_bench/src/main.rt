@@ -1,13 +1,20 @@
 //! Times the turns of `turn_lock` beside those of std's `Mutex`, round the same ledger, in one run.
 #![tactic(auto)]
 
+ghost use Rattle.std.specs.Prelude.{◌≡◌, ◌<◌, ◌≤◌, [], All, length};
+ghost use Rattle.turn_lock.specs.Passes.{first_of, mine_of, seen_of, IsPassOf, IsResting};
+
 use anyhow::Error;
-use std::alloc::Global;
-use std::env;
+use std::alloc::{AllocError, Global};
 use std::sync::{Mutex, Wait};
-use std::thread::{Threads, join};
+use std::thread::Threads;
 use std::time::{Clock, Duration, Instant};
-use turn_lock::ledger::{Ledger, post_four, post_two};
+use std::{env, thread};
+use turn_lock::ledger::{Ledger, post_all};
+use turn_lock::{Pass, TurnLock};
+
+// A label for each thread, which nothing looks at.
+const LABELS: [u32; 34] = [0; 34];
 
 // How often each is timed, in turn. The sum counts, so that a round in which the threads hardly met is one of several.
 const ROUNDS: u32 = 5;
@@ -21,19 +28,30 @@ fn numbers(alloc: Global, turns: u32) -> Result<Vec<u64>, Error> {
     Ok(all)
 }
 
-// One thread posts beside one that has nothing to post, so that both sides start the same threads.
+// Each pass gets a thread, which posts by it.
+fn post_each<R: Threads + Wait + Sync>(
+    rt: &R,
+    lock: &TurnLock<Ledger>,
+    passes: Vec<Pass<Ledger>>,
+    posts: &[u64],
+) -> Result<(), AllocError>
+    requires { All (λ p. IsPassOf lock.now p × IsResting p × (mine_of p ≡ []) × ((first_of lock.now).before ≤ length (seen_of p))) passes.items }
+{
+    thread::map_vec(rt, passes, &|pass| post_all(rt, lock, pass, posts))?;
+    Ok(())
+}
+
+// Each thread posts by a pass of its own.
 fn lock_turns<R: Threads + Wait + Sync>(
     rt: &R,
     alloc: Global,
-    threads: u32,
+    threads: usize,
     posts: &[u64],
-) -> bool {
-    let ledger = Ledger::new(alloc, 1);
-    match threads {
-        1 => post_two(rt, alloc, ledger, posts, &[]).is_ok(),
-        2 => post_two(rt, alloc, ledger, posts, posts).is_ok(),
-        _ => post_four(rt, alloc, ledger, ((posts, posts), (posts, posts))).is_ok(),
-    }
+) -> Result<Result<(), AllocError>, (AllocError, Ledger)>
+    requires { (0 < threads) × (threads ≤ 34) }
+{
+    let (lock, passes) = TurnLock::new(alloc, Ledger::new(alloc, 1), &LABELS[..threads])?;
+    Ok(post_each(rt, &lock, passes, posts))
 }
 
 fn mutex_posts<R: Wait>(rt: &R, ledger: &Mutex<Ledger>, posts: &[u64]) {
@@ -42,49 +60,34 @@ fn mutex_posts<R: Wait>(rt: &R, ledger: &Mutex<Ledger>, posts: &[u64]) {
     }
 }
 
-fn mutex_two<R: Threads + Wait + Sync>(
+fn mutex_turns<R: Threads + Wait + Sync>(
     rt: &R,
-    ledger: &Mutex<Ledger>,
-    first: &[u64],
-    second: &[u64],
-) {
-    join(
-        rt,
-        || mutex_posts(rt, ledger, first),
-        || mutex_posts(rt, ledger, second),
-    );
-}
-
-fn mutex_turns<R: Threads + Wait + Sync>(rt: &R, alloc: Global, threads: u32, posts: &[u64]) {
+    alloc: Global,
+    threads: usize,
+    posts: &[u64],
+) -> Result<(), Error> {
     let ledger = Mutex::new(Ledger::new(alloc, 1));
-    match threads {
-        1 => mutex_two(rt, &ledger, posts, &[]),
-        2 => mutex_two(rt, &ledger, posts, posts),
-        _ => {
-            join(
-                rt,
-                || mutex_two(rt, &ledger, posts, posts),
-                || mutex_two(rt, &ledger, posts, posts),
-            );
-        }
-    }
+    thread::map_indices(rt, alloc, threads, &|_| mutex_posts(rt, &ledger, posts))?;
+    Ok(())
 }
 
 // The time of all rounds, for the lock and for the mutex.
 fn measure<R: Threads + Wait + Clock + Sync>(
     rt: &R,
     alloc: Global,
-    threads: u32,
+    threads: usize,
     posts: &[u64],
-) -> Result<(Duration, Duration), Error> {
+) -> Result<(Duration, Duration), Error>
+    requires { (0 < threads) × (threads ≤ 34) }
+{
     let mut lock = Duration::ZERO;
     let mut mutex = Duration::ZERO;
     for _ in 0..ROUNDS {
         let start = Instant::now(rt)?;
-        lock_turns(rt, alloc, threads, posts);
+        lock_turns(rt, alloc, threads, posts).map_err(|e| e.0)??;
         lock = lock.saturating_add(start.elapsed(rt)?);
         let start = Instant::now(rt)?;
-        mutex_turns(rt, alloc, threads, posts);
+        mutex_turns(rt, alloc, threads, posts)?;
         mutex = mutex.saturating_add(start.elapsed(rt)?);
     }
     Ok((lock, mutex))
@@ -110,14 +113,14 @@ fn percent(part: u64, whole: u64) -> u64 {
 fn main(rt: HostRuntime) -> Result<(), Error> {
     let alloc = rt.alloc();
     let Some(word) = env::args(&rt)?.nth(1) else {
-        println!(rt; "turn_bench TURNS: turns a second with 1, 2 and 4 threads")?;
+        println!(rt; "turn_bench TURNS: turns a second with 1 to 34 threads")?;
         return Ok(());
     };
     let turns = word.parse::<u32>()?;
     let posts = numbers(alloc, turns)?;
-    for threads in [1u32, 2, 4] {
+    for threads in [1usize, 2, 4, 8, 16, 34] {
         let (lock, mutex) = measure(&rt, alloc, threads, posts.as_slice())?;
-        let all = u64::from(threads)
+        let all = (threads as u64)
             .saturating_mul(u64::from(turns))
             .saturating_mul(u64::from(ROUNDS));
         let (lock, mutex) = (rate(lock, all), rate(mutex, all));

@@ -14,6 +14,7 @@ returns c =
     let named : app_of c.subcommand_required.result ≡ settings (new_app (codes "heap")) = top_is ∙ ap settings c.new.ensures.app in
     let formats = c.in_ok-subcommand.ensures.shape (search rules) ∙ ap₂ with_subcommand named c.in_ok-format_command.ensures.row in
     let plays = c.in_ok-subcommand-2.ensures.shape (search rules) ∙ ap₂ with_subcommand formats c.in_ok-play_command.ensures.row in
+    let threads = c.in_ok-subcommand-3.ensures.shape (search rules) ∙ ap₂ with_subcommand plays c.in_ok-threads_command.ensures.row in
     let graph_is : shape_of c.new-2.result ≡ graph_row = ap (λ (a : App). a.top) c.new-2.ensures.app in
-    let graphs = c.in_ok-subcommand-3.ensures.shape (search rules) ∙ ap₂ with_subcommand plays graph_is in
-    IfOk-weaker c.subcommand-4.result _ _ (λ r h. h.shape (search rules) ∙ ap₂ with_subcommand graphs c.in_ok-load_command.ensures.row) c.subcommand-4.ensures
+    let graphs = c.in_ok-subcommand-4.ensures.shape (search rules) ∙ ap₂ with_subcommand threads graph_is in
+    IfOk-weaker c.subcommand-5.result _ _ (λ r h. h.shape (search rules) ∙ ap₂ with_subcommand graphs c.in_ok-load_command.ensures.row) c.subcommand-5.ensures

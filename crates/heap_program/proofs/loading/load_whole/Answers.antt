@@ -144,7 +144,7 @@ returns-in-Ok-play_load-clause-prints g c tells =
     let some = opened_core g.D.Disk.tells (g.D.Disk.bytes c.args.disk) c.in-Ok.heap c.in-Ok.ensures.opens c.in-Ok.ensures.sound in
     let plays = c.in-Ok-play_load.ensures.core some.0 some.2 some.1.running in
     let reached = load_reached some.0 c.args.seed c.args.count c.play_load.new.heap false [] [] c.requires.few some.1.running plays in
-    rw c.status_after-status.ensures (summarizes some.0 some.1.opened c.args.seed c.args.count c.play_load.new.heap false [] [] plays c.write_summary.result (k.written c.args.sink.now) (k.written c.write_summary.new.sink) (c.write_summary.ensures.wrote tells plays.core plays.is reached))
+    rw c.status_after-status.ensures (summarizes some.0 some.1.running some.1.nothing some.1.opened c.args.seed c.args.count c.requires.few c.play_load.new.heap false [] [] plays c.write_summary.result (k.written c.args.sink.now) (k.written c.write_summary.new.sink) (c.write_summary.ensures.wrote tells plays.core plays.is reached))
 
 pub returns-in-Err-play_load-clause-prints : goal.returns-in-Err-play_load-clause-prints
 returns-in-Err-play_load-clause-prints g c tells = rw c.from-in-Err-play_load.ensures (inl (halt_not_done c.in-Err-play_load.halt, refl))

@@ -21,8 +21,8 @@ overflow_add-address-2 c =
     let field = c.from.ensures in
     omega arith
 
-pub returns : goal.returns
-returns c =
+pub returns-clause-ok : goal.returns-clause-ok
+returns-clause-ok c =
     let s = c.args.self.now in
     let address : c.args.object + 2 + c.from.result ≡ field_at c.args.object c.args.field = omega (arith, c.from.ensures) in
     ap (λ es. laid_over s.words.now es) c.in_ok-insert.ensures.entries

@@ -63,7 +63,7 @@ returns-in-Ok-recover-clause-opens g c =
       found.3,
       λ born places gr stands.
           let is = opened_engine g.D.Disk found.0 found.1 found.2 gates born places gr c.in-Ok-recover.found c.new-engine.result c.recover.new.disk found.3 found.4 fresh c.in-Ok-recover.ensures.known (λ told p. refl) in
-          record { history = c.new-in-Ok-recover.ensures; before = c.commits-commits.ensures ∙ commits_found found.0 found.1 found.2 c.in-Ok-recover.found found.3 found.4; memory = remembers g.D.Disk _ c.new-engine.result c.recover.new.disk _ refl is; engine = λ none. is },
+          record { history = c.new-in-Ok-recover.ensures.entries; before = c.commits-commits.ensures ∙ commits_found found.0 found.1 found.2 c.in-Ok-recover.found found.3 found.4; memory = remembers g.D.Disk _ c.new-engine.result c.recover.new.disk _ refl is; engine = λ none. is },
     )
 
 pub returns-in-Ok-recover-clause-sound : goal.returns-in-Ok-recover-clause-sound
@@ -78,7 +78,7 @@ returns-in-Ok-recover-clause-sound g c tells =
       found.3,
       λ born places gr stands.
           let is = opened_engine g.D.Disk found.0 found.1 found.2 gates born places gr c.in-Ok-recover.found c.new-engine.result c.recover.new.disk found.3.log found.4 fresh c.in-Ok-recover.ensures.known (λ told. still) in
-          record { history = c.new-in-Ok-recover.ensures; before = c.commits-commits.ensures ∙ commits_found found.0 found.1 found.2 c.in-Ok-recover.found found.3.log found.4; memory = remembers g.D.Disk _ c.new-engine.result c.recover.new.disk _ refl is; engine = λ none. is },
+          record { history = c.new-in-Ok-recover.ensures.entries; before = c.commits-commits.ensures ∙ commits_found found.0 found.1 found.2 c.in-Ok-recover.found found.3.log found.4; memory = remembers g.D.Disk _ c.new-engine.result c.recover.new.disk _ refl is; engine = λ none. is },
     )
 
 pub returns-in-Err-clause-moments_not_heap : goal.returns-in-Err-clause-moments_not_heap
@@ -93,7 +93,7 @@ returns-in-Ok-recover-clause-found g c tells s batches stored shaped born places
     let gates = open_gates s.log_bytes (g.D.Disk.bytes c.args.disk) in
     let still = c.in-Ok-recover.ensures.gates tells s batches stored shaped in
     let is = opened_engine g.D.Disk s batches stored gates born places gr c.in-Ok-recover.found c.new-engine.result c.recover.new.disk shaped.log found fresh c.in-Ok-recover.ensures.known (λ told. still) in
-    record { history = c.new-in-Ok-recover.ensures; before = c.commits-commits.ensures ∙ commits_found s batches stored c.in-Ok-recover.found shaped.log found; memory = remembers g.D.Disk _ c.new-engine.result c.recover.new.disk _ refl is; engine = λ none. is }
+    record { history = c.new-in-Ok-recover.ensures.entries; before = c.commits-commits.ensures ∙ commits_found s batches stored c.in-Ok-recover.found shaped.log found; memory = remembers g.D.Disk _ c.new-engine.result c.recover.new.disk _ refl is; engine = λ none. is }
 
 pub returns-in-Ok-recover-clause-holds : goal.returns-in-Ok-recover-clause-holds
 returns-in-Ok-recover-clause-holds g c tells s batches stored legal only places gr stands =
@@ -166,4 +166,4 @@ pub invariant_of-result-clause-kept : goal.invariant_of-result-clause-kept
 invariant_of-result-clause-kept g c still =
     let m = memory c.new-engine.result in
     let none = kept_none m c.set_next.new.self.next (ap (λ (x : Memory). x.table) c.new-engine.ensures) (ap (λ (x : Memory). x.sealed) c.new-engine.ensures) in
-    omega (arith, none, ap (λ (l : List Entry). entries_kept m l) c.new-in-Ok-recover.ensures)
+    omega (arith, none, ap (λ (l : List Entry). entries_kept m l) c.new-in-Ok-recover.ensures.entries)

@@ -33,7 +33,7 @@ loop-session-preserved c =
     elim c.if-active.branch [
       | then-active+in_ok-take_back w ↦
           let is = told_undo o w.undo.result.now (c.active.ensures.0 w.if-active.true) w.undo.ensures in
-          let now = ap words_of w.words-is ∙ w.in_ok-take_back.ensures ∙ ap (λ (us : List UndoEntry). taken_back us (words_of c.loop-session.words)) is in
+          let now = ap words_of w.words-is ∙ w.in_ok-take_back.ensures.ok ∙ ap (λ (us : List UndoEntry). taken_back us (words_of c.loop-session.words)) is in
           subst (λ (ws : List ℕ). IsLeft s.table (cached s.cache).words (q + 1) ws) (sym now) (left_more s.table (cached s.cache).words q (words_of c.loop-session.words) c.loop-session.invariant)
       | else-active w ↦
           let none = idle o c.active.result c.active.ensures w.if-active.false in

@@ -13,7 +13,7 @@ use Rattle.heap_program.proofs.CommandLaws.{same_play, same_load, command_not_do
 use Rattle.heap_program.proofs.RefusalLaws.{alone_untouched}
 use Rattle.heap_program.proofs.RunLaws.{runs_safely, end_done}
 use Rattle.heap_program.proofs.WordFaults.{untouched_log}
-use Rattle.heap_program.proofs.dispatch.run.Goals as goal
+use Rattle.heap_program.proofs.dispatch.run_alone.Goals as goal
 
 pub returns-in-Err-clause-graph : goal.returns-in-Err-clause-graph
 returns-in-Err-clause-graph g c tells only is s batches stored shaped born places graph found =

@@ -1,0 +1,42 @@
+-- What a run of a script in threads and the graph behind it tell, in words of the plain model alone.
+use Rattle.std.specs.Prelude.{◌≡◌, ℕ, ◌≤◌, List, ◌++◌, length, take, IsOk, Result}
+use Rattle.std.specs.List.{AllByRecursion}
+use Rattle.std.specs.declared.alloc.AllocError.{AllocError}
+use Rattle.graph_model.specs.declared.reply.Entry.{Entry}
+use Rattle.graph_model.specs.Canon.{canon}
+use Rattle.graph_model.specs.Graph.{Graph}
+use Rattle.graph_model.specs.History.{sealed, commits, acknowledged}
+use Rattle.graph_model.specs.Transaction.{serial, serial_replies}
+use Rattle.commit_order.specs.Heard.{replies_of_commits}
+use Rattle.commit_order.specs.SerialOrder.{HasPlainReplies}
+use Rattle.script_text.specs.declared.line.Line.{Line}
+use Rattle.thread_play.specs.Worked.{IsWorked}
+use Rattle.heap_program.specs.Play.{lines_text, WroteFront}
+use Rattle.heap_program.specs.declared.status.Status.{Status}
+use Rattle.heap_program.specs.declared.status.Status.TheVariants.{Done}
+use Rattle.black_box.specs.Told.{EndsScript, events_of, text_of}
+
+-- A run that ended so told a history that goes on from a graph, and a crash left another graph of it.
+pub record TellsWorkers (begins : Graph) (tries : ℕ) (script : List Line) (status : Status) (before after : List ℕ) (left : Graph) : Type 0 where
+  pub history : List Entry
+  -- its entries are what the workers of the script sent, and then such as end what they left open
+  pub sent : List Entry
+  pub last : List Entry
+  pub parts : history ≡ sent ++ last
+  pub ends : AllByRecursion EndsScript (events_of last)
+  -- each worker sent all of its lines, or the beginning of that
+  pub end : Result (Unit {0}) AllocError
+  pub worked : IsWorked tries script 0 sent end
+  -- the run wrote nothing but a prefix of all lines and of the graph that they lead to
+  pub front : WroteFront before (lines_text history ++ text_of (serial begins (sealed history))) after
+  -- each call that was not refused had the reply of what its transaction saw, and each transaction a number that no object's name had
+  pub plain : HasPlainReplies begins history
+  -- each committed transaction had the replies that it has where the commits are run one after another
+  pub replies : replies_of_commits history ≡ serial_replies begins (commits history)
+  -- the graph that was left is that of the first commits, among them all that were acknowledged, up to the names of objects
+  pub count : ℕ
+  pub least : acknowledged history ≤ count
+  pub most : count ≤ length (commits history)
+  pub graph : canon left ≡ canon (serial begins (take count (commits history)))
+  -- a run that is done sent all, left all that was sealed, and wrote all lines and the graph
+  pub done : status ≡ Done → IsOk end × (count ≡ length (sealed history)) × (after ≡ before ++ (lines_text history ++ text_of (serial begins (sealed history))))

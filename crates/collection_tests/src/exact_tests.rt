@@ -1,0 +1,106 @@
+//! A collection tells as many objects and words as the graph has that the sealed transactions have left, whichever transactions are active.
+use crate::drawn_tests::{FRESH, draw_script};
+use crate::playing::{play, same};
+use crate::told::Told;
+use disk_model::Pick;
+use heap_program::Status;
+use std::alloc::{AllocError, Global};
+use std::process::Abort;
+use std::str;
+use std::test::Fail;
+
+/// More scans than end a collection.
+const SCANS: usize = 80;
+
+/// How much a collection copied, and how much was in use when it ended.
+#[derive(Clone, Copy, Debug, PartialEq, Eq)]
+struct Copied {
+    objects: usize,
+    words: usize,
+    used: usize,
+}
+
+impl Copied {
+    /// With what an answer tells: its last two numbers are of objects and of words.
+    fn with(self, told: &str) -> Option<Copied> {
+        let (before, words) = told.rsplit_once(' ')?;
+        let objects = before.rsplit_once(' ').map_or(before, |it| it.1);
+        Some(Copied {
+            objects: self.objects.saturating_add(objects.parse::<usize>().ok()?),
+            words: self.words.saturating_add(words.parse::<usize>().ok()?),
+            used: self.used,
+        })
+    }
+}
+
+/// What the last collection told, if it ended.
+fn last_collection(output: &str) -> Option<Copied> {
+    let (_, told) = output.rsplit_once("flip -> flipped ")?;
+    let mut copied = Copied {
+        objects: 0,
+        words: 0,
+        used: 0,
+    };
+    copied = copied.with(told.lines().next()?)?;
+    for line in told.lines() {
+        if let Some(scanned) = line.strip_prefix("scan -> scanned ") {
+            copied = copied.with(scanned)?;
+        }
+        if let Some(used) = line.strip_prefix("scan -> collected ") {
+            copied.used = used.parse::<usize>().ok()?;
+            return Some(copied);
+        }
+    }
+    None
+}
+
+/// The objects of a printed graph, and their words: two for each, and one for each field.
+fn graph_size(graph: &str) -> Copied {
+    let mut size = Copied {
+        objects: 0,
+        words: 0,
+        used: 0,
+    };
+    for row in graph.lines() {
+        if row.contains(':') {
+            size.objects = size.objects.saturating_add(1);
+            // (a row has its number before the fields)
+            let words = row.split_whitespace().count().saturating_add(1);
+            size.words = size.words.saturating_add(words);
+        }
+    }
+    size.used = size.words;
+    size
+}
+
+/// A drawn script, whose transactions are left active, and behind it one whole collection.
+fn collected_script(alloc: Global, seed: u64) -> Result<String, AllocError> {
+    let mut script = draw_script(alloc, seed, 160)?;
+    for _ in 0..SCANS {
+        script.push_str("scan\n")?;
+    }
+    script.push_str("flip\n")?;
+    for _ in 0..SCANS {
+        script.push_str("scan\n")?;
+    }
+    Ok(script)
+}
+
+fn check_exact(rt: &impl Abort, alloc: Global, seeds: (u64, u64)) -> Result<(), Fail> {
+    for seed in seeds.0..seeds.1 {
+        let script = collected_script(alloc, seed)?;
+        let told = Told::of(rt, alloc, script.as_str())?;
+        let played = play(alloc, FRESH, script.as_str(), Pick::Newest)?;
+        same(rt, (seed, played.status), (seed, Status::Done));
+        let graph = told.heap.text(told.heap.sealed())?;
+        let want = graph_size(str::from_utf8(&graph).unwrap_or(""));
+        let found = last_collection(str::from_utf8(&played.output).unwrap_or(""));
+        same(rt, (seed, found), (seed, Some(want)));
+    }
+    Ok(())
+}
+
+#[test]
+fn a_collection_copies_just_the_sealed_graph(rt: HostRuntime) -> Result<(), Fail> {
+    check_exact(&rt, rt.alloc(), (0, 20))
+}

@@ -1,0 +1,7 @@
+use Rattle.std.proofs.Common.{◌≡◌}
+use Rattle.shared_heap.specs.Shared.{IsPass}
+use Rattle.turn_lock.specs.Passes.{label_of}
+use Rattle.event_bench.proofs.play.Given as goal
+
+abbrev pub invariant-loop : goal.invariant-loop
+invariant-loop g l = record { pass : IsPass l.shared l.pass; label : label_of l.pass ≡ label_of l.fn.pass }

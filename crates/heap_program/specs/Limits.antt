@@ -1,0 +1,57 @@
+-- What each run of a heap that was just opened keeps to, whatever its disk: its ends never lack room, and a collection copies just what it has to, a
+-- little at a time.
+use Rattle.std.specs.Prelude.{◌≡◌, ◌≢◌, ◌⊎◌, ℕ, ◌≤◌, List, ◌∷◌, ◌++◌, length}
+use Rattle.graph_model.specs.declared.event.Event.{Event}
+use Rattle.graph_model.specs.declared.event.Event.TheVariants.{Flip, Scan}
+use Rattle.graph_model.specs.declared.reply.Reply.{Reply}
+use Rattle.graph_model.specs.declared.reply.Reply.TheVariants as reply
+use Rattle.graph_model.specs.History.{account}
+use Rattle.graph_model.specs.Plain.{refusal_of, reply_of}
+use Rattle.heap_model.specs.Collecting.{copied_in, words_copied}
+use Rattle.heap_model.specs.Core.{Core, IsCutShort, IsStep, IsRun, after, answer, granted_by}
+use Rattle.limit_laws.specs.Bytes.{appended}
+use Rattle.limit_laws.specs.Copies.{CopiesJust}
+use Rattle.limit_laws.specs.Progress.{BeganNone, GoesThrough}
+use Rattle.limit_laws.specs.Room.{IsEnd, nothing_to_end}
+use Rattle.heap_core.specs.Collects.{CopiesNoGarbage}
+
+-- A step of a run: the events before it led to c, there the next one was answered so, and those behind it led on to the last core.
+pub record IsStepIn (first : Core) (made : List Event) (last c : Core) (event : Event) (answered : Reply) : Type 0 where
+  pub before : List Event
+  pub behind : List Event
+  pub parts : made ≡ before ++ event ∷ behind
+  pub led : IsRun first before c
+  pub next : Core
+  pub step : IsStep c event answered next
+  pub leads : IsRun next behind last
+
+-- An end is answered as one that is done, unless the disk failed before, or the session has no transaction: never for want of room. A force may be
+-- cut short by the disk.
+abbrev pub EndsAsTold : Core → Event → Reply → Type 0
+EndsAsTold c event answered = (answered ≡ reply_of (refusal_of (account c.history).failed (nothing_to_end c event)) (granted_by c event)) ⊎ IsCutShort c event answered
+
+-- In a run of these events a collection began in c, and those behind its flip led to d, with no other begun.
+pub record IsUnderWayIn (first : Core) (events : List Event) (c d : Core) : Type 0 where
+  pub before : List Event
+  pub since : List Event
+  pub parts : events ≡ before ++ Flip ∷ since
+  pub led : IsRun first before c
+  pub objects : ℕ
+  pub words : ℕ
+  pub flipped : answer c Flip ≡ reply.Flipped objects words
+  pub leads : IsRun (after c Flip) since d
+  pub alone : BeganNone (after c Flip) d
+
+-- Events led from a core that was just opened to the last one, and each step of that run kept to this.
+pub record KeepsLimits (first : Core) (made : List Event) (last : Core) : Type 0 where
+  -- an abort, a force, and a seal that makes no object stable
+  pub ends : (c : Core) (event : Event) (answered : Reply) → IsStepIn first made last c event answered → IsEnd c event → EndsAsTold c event answered
+  -- all but a flip copy few objects, with the scan that comes before a field is read or written; the answer to a scan tells how many, and of how many words
+  pub few : (c : Core) (event : Event) (answered : Reply) → (here : IsStepIn first made last c event answered) → event ≢ Flip → length (copied_in (appended c here.next)) ≤ 576
+  pub told : (c : Core) (page objects words : ℕ) → (here : IsStepIn first made last c Scan (reply.Scanned page objects words)) → (objects ≡ length (copied_in (appended c here.next))) × (words ≡ words_copied (appended c here.next))
+  -- What a collection has copied was reached at its flip from the root, in the graph that the sealed transactions had left then, whichever were active;
+  pub within : (c d : Core) (events behind : List Event) → made ≡ events ++ behind → IsUnderWayIn first events c d → CopiesNoGarbage c d
+  -- where a scan ends it, just that has been copied, and all that is in use is the copies and what became stable since.
+  pub exact : (c d : Core) (used : ℕ) → (here : IsStepIn first made last d Scan (reply.Collected used)) → IsUnderWayIn first here.before c d → CopiesJust c d used
+  -- while no collection begins, scans go once through the pages
+  pub pages : (c d : Core) (before between behind : List Event) → made ≡ before ++ between ++ behind → IsRun first before c → IsRun c between d → BeganNone c d → GoesThrough c d

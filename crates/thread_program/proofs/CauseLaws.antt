@@ -1,0 +1,49 @@
+-- Why a heap has failed that workers have shared.
+use Rattle.std.proofs.Common.{◌≡◌, ◌≢◌, ◌⊎◌, inl, inr, ℕ, ◌+◌, ◌≤◌, List, [], ◌∷◌, ◌++◌, None, refl, sym, ap, ◌∙◌, arith, append-nil, append_assoc}
+use Rattle.std.specs.List.{AllByRecursion}
+use Rattle.disk_model.specs.declared.disk.Disk.{Ghosts}
+use Rattle.disk_model.specs.declared.disk.DiskError.TheVariants as device
+use Rattle.disk_model.proofs.KeepsLaws.{rose_since}
+use Rattle.graph_model.specs.declared.event.Event.{Event}
+use Rattle.graph_model.specs.declared.reply.Entry.{Entry}
+use Rattle.graph_model.specs.declared.reply.Refusal.TheVariants.{DiskFault, Stopped}
+use Rattle.graph_model.specs.declared.reply.Reply.{Reply}
+use Rattle.graph_model.specs.declared.reply.Reply.TheVariants.{Begun, Sealed, Aborted, Durable, Refused}
+use Rattle.graph_model.specs.History.{Account, account, account_after}
+use Rattle.graph_model.proofs.Runs.History.{account-append}
+use Rattle.heap_core.specs.declared.heap.Heap.{Heap}
+use Rattle.heap_core.specs.Causes.{reply_device}
+use Rattle.heap_core.specs.HeapState.{heap_disk}
+use Rattle.heap_program.specs.Causes.{DiskRose}
+use Rattle.heap_program.proofs.Causes.{disk_rose}
+use Rattle.shared_heap.specs.Follows.{IsCaused}
+
+-- What rose behind some calls has risen since before them, if it has not fallen.
+pub rose_from : (f s m n f' s' : ℕ) → f ≤ m → s ≤ n → m + n ≤ f' + s' → DiskRose m n f' s' → DiskRose f s f' s'
+rose_from f s m n f' s' fm sn kept up = rose_since (f + s) (m + n) (f' + s') (omega (arith, fm, sn)) kept up
+
+module _ {D : Type 0} {g : Ghosts D} (first now : Heap D g) where
+  abbrev rose : Type 0
+  rose = DiskRose (g.faults (heap_disk first)) (g.stops (heap_disk first)) (g.faults (heap_disk now)) (g.stops (heap_disk now))
+
+  -- an entry that tells a failure has its cause, and no other is a failure
+  one_caused : (a : Account) (event : Event) (reply : Reply) → IsCaused first now (record { event = event; reply = reply }) → a.failed ≡ None → ((account_after a (record { event = event; reply = reply })).failed ≡ None) ⊎ rose
+  one_caused a event (Refused DiskFault) caused unfailed = inr (disk_rose _ _ _ _ (reply_device (Refused DiskFault)) device.Failed caused refl)
+  one_caused a event (Refused Stopped) caused unfailed = inr (disk_rose _ _ _ _ (reply_device (Refused Stopped)) device.Stopped caused refl)
+  one_caused a event (Refused why) caused unfailed = inl unfailed
+  one_caused a event (Begun n) caused unfailed = inl unfailed
+  one_caused a event (Sealed n) caused unfailed = inl unfailed
+  one_caused a event Aborted caused unfailed = inl unfailed
+  one_caused a event (Durable n) caused unfailed = inl unfailed
+  one_caused a event reply caused unfailed = inl unfailed
+
+  -- So a history goes on to a failure only where a count of the disk's failures and stops rose.
+  pub failed_caused : (history since : List Entry) → AllByRecursion (IsCaused first now) since → (account history).failed ≡ None → (account (history ++ since)).failed ≢ None → rose
+  failed_caused history [] caused unfailed failed = absurd (failed (ap (λ (l : List Entry). (account l).failed) (append-nil history) ∙ unfailed))
+  failed_caused history (entry ∷ since) caused unfailed failed =
+      let same : history ++ entry ∷ since ≡ (history ++ entry ∷ []) ++ since = sym (append_assoc history (entry ∷ []) since) in
+      elim (one_caused (account history) entry.event entry.reply caused.0 unfailed) [
+        | inl still ↦ failed_caused (history ++ entry ∷ []) since caused.1 (ap (λ (a : Account). a.failed) (account-append history entry) ∙ still)
+            (λ none. failed (ap (λ (l : List Entry). (account l).failed) same ∙ none))
+        | inr up ↦ up
+      ]

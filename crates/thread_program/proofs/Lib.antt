@@ -1,0 +1,15 @@
+pub mod Again
+pub mod CauseLaws
+pub mod ChainLaws
+pub mod EndedLaws
+pub mod FormatLaws
+pub mod Front
+pub mod MadeLaws
+pub mod NextRun
+pub mod OpenedLaws
+pub mod PlayedLaws
+pub mod PrintsLaws
+pub mod SafeLaws
+pub mod TogetherLaws
+pub mod UnopenedLaws
+pub mod WrittenLaws

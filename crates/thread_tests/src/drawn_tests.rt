@@ -1,0 +1,60 @@
+//! Drawn scripts are played by threads, and what they made alone again: the same is written, and the same bytes are left.
+use crate::drawn::{SESSIONS, SHARED, draw_script};
+use crate::playing::{Played, count_lines, image_of, plays_again, run_well, same};
+use heap_program::Status;
+use std::alloc::Global;
+use std::process::Abort;
+use std::sync::Wait;
+use std::test::Fail;
+use std::thread::Threads;
+
+/// How many scripts a test draws: few enough for its minute. Code that is only tried is a hundred times slower.
+const SCRIPTS: u64 = 50;
+
+/// A session gives up soon where another one holds its object.
+const LINE: &str = "heap threads --tries 3";
+
+/// The run of a seed's script is done, and each of its sessions had a transaction.
+fn check_done(rt: &impl Abort, played: &Played, seed: u64) {
+    same(rt, (seed, played.status), (seed, Status::Done));
+    let begun = count_lines(played.text(), " begin -> begun ");
+    same(rt, (seed, SESSIONS as usize <= begun), (seed, true));
+}
+
+/// Plays the scripts of as many seeds from this one on.
+fn check_scripts<R: Threads + Wait + Abort + Sync>(
+    rt: &R,
+    alloc: Global,
+    first: u64,
+) -> Result<(), Fail> {
+    let image = image_of(rt, alloc, SHARED)?;
+    for place in 0..SCRIPTS {
+        let seed = first.wrapping_add(place);
+        let script = draw_script(alloc, seed)?;
+        let (played, left) = run_well(rt, alloc, LINE, script.as_str(), &image)?;
+        check_done(rt, &played, seed);
+        let again = plays_again(rt, alloc, &image, &played, &left)?;
+        same(rt, (seed, again), (seed, true));
+    }
+    Ok(())
+}
+
+#[test]
+fn what_drawn_scripts_made_is_played_again(rt: HostRuntime) -> Result<(), Fail> {
+    check_scripts(&rt, rt.alloc(), 0)
+}
+
+#[test]
+fn what_more_drawn_scripts_made_is_played_again(rt: HostRuntime) -> Result<(), Fail> {
+    check_scripts(&rt, rt.alloc(), 1000)
+}
+
+#[test]
+fn what_still_more_drawn_scripts_made_is_played_again(rt: HostRuntime) -> Result<(), Fail> {
+    check_scripts(&rt, rt.alloc(), 2000)
+}
+
+#[test]
+fn what_the_last_drawn_scripts_made_is_played_again(rt: HostRuntime) -> Result<(), Fail> {
+    check_scripts(&rt, rt.alloc(), 3000)
+}

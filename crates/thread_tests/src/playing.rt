@@ -1,0 +1,153 @@
+//! How the tests run the program on disks in memory, and play again what was printed.
+use disk_model::{MemoryDisk, Pick};
+use heap_io::{MemorySink, MemorySource};
+use heap_program::Status;
+use heap_workers::{Gate, OpenGate};
+use std::alloc::{AllocError, Global};
+use std::fmt::Debug;
+use std::process::Abort;
+use std::str;
+use std::sync::Wait;
+use std::thread::Threads;
+use thread_program::run;
+
+/// The command that makes the heap of the tests. Its log is short, since code that is only tried plays slowly on a large one.
+const FORMAT: &str = "heap format 4 65536 1";
+
+/// The bytes of its image.
+pub const IMAGE_BYTES: usize = 74_048;
+
+/// The bytes of the heap that `--fresh 1` makes.
+pub const FRESH_BYTES: usize = 1_050_752;
+
+const RECORD_BYTES: usize = 4_194_304;
+
+const SINK_BYTES: usize = 65_536;
+
+/// A commit of two objects below the root.
+pub const TWO_OBJECTS: &str =
+    "1 begin\n1 root 0\n1 new 1 1\n1 new 2 1\n1 link 0 0 1\n1 link 0 1 2\n1 commit\n";
+
+/// A run that is over: its status and what it wrote.
+#[derive(Drop)]
+pub struct Played {
+    pub status: Status,
+    pub output: Vec<u8>,
+}
+
+impl Played {
+    /// What it wrote, as text.
+    pub fn text(&self) -> &str {
+        str::from_utf8(&self.output).unwrap_or("no text")
+    }
+}
+
+fn words_of(alloc: Global, line: &str) -> Result<Vec<String>, AllocError> {
+    let mut words = Vec::new(alloc);
+    for word in line.split_whitespace() {
+        words.push(String::from_str(alloc, word)?)?;
+    }
+    Ok(words)
+}
+
+/// A disk with these bytes whose listed writes and syncs fail.
+pub fn disk_of(
+    alloc: Global,
+    bytes: &[u8],
+    pick: Pick,
+    fails: Vec<u64>,
+) -> Result<MemoryDisk, AllocError> {
+    let bytes = bytes.to_vec(alloc)?;
+    MemoryDisk::of(alloc, bytes, pick, RECORD_BYTES, fails, Vec::new(alloc))
+}
+
+/// Runs the program on a disk, with a source and a sink whose listed calls fail.
+pub fn run_on<R: Threads + Wait + Sync, G: Gate + Sync>(
+    rt: &R,
+    alloc: Global,
+    (line, script): (&str, &str),
+    disk: MemoryDisk,
+    fails: (Vec<u64>, Vec<u64>),
+    gate: &G,
+) -> Result<(Played, MemoryDisk), AllocError> {
+    let words = words_of(alloc, line)?;
+    let mut source = MemorySource::of(script.as_bytes().to_vec(alloc)?, fails.0);
+    let mut sink = MemorySink::of(alloc, SINK_BYTES, fails.1)?;
+    let (status, disk) = run(rt, alloc, &words, disk, &mut source, &mut sink, gate);
+    let output = sink.bytes().to_vec(alloc)?;
+    Ok((Played { status, output }, disk))
+}
+
+/// Runs it on a disk with these bytes, where nothing fails and no worker waits at the gate.
+pub fn run_well<R: Threads + Wait + Sync>(
+    rt: &R,
+    alloc: Global,
+    line: &str,
+    script: &str,
+    image: &[u8],
+) -> Result<(Played, MemoryDisk), AllocError> {
+    let disk = disk_of(alloc, image, Pick::Newest, Vec::new(alloc))?;
+    let none = (Vec::new(alloc), Vec::new(alloc));
+    run_on(rt, alloc, (line, script), disk, none, &OpenGate)
+}
+
+/// The image of a new heap on which a script was played.
+pub fn image_of<R: Threads + Wait + Sync>(
+    rt: &R,
+    alloc: Global,
+    script: &str,
+) -> Result<Vec<u8>, AllocError> {
+    let zeros = vec![in alloc; 0u8; IMAGE_BYTES]?;
+    let (_, made) = run_well(rt, alloc, FORMAT, "", &zeros)?;
+    let (_, played) = run_well(rt, alloc, "heap play", script, made.contents())?;
+    played.contents().to_vec(alloc)
+}
+
+/// The events that were printed, one on a line.
+pub fn events_of(alloc: Global, output: &str) -> Result<String, AllocError> {
+    let mut events = String::new(alloc);
+    for line in output.lines() {
+        if let Some((event, _)) = line.split_once(" -> ") {
+            writeln!(events, "{event}")?;
+        }
+    }
+    Ok(events)
+}
+
+/// The printed lines of one session's events, of which `start` is the number and a blank.
+pub fn lines_of_session(alloc: Global, output: &str, start: &str) -> Result<String, AllocError> {
+    let mut lines = String::new(alloc);
+    for line in output.lines() {
+        if line.starts_with(start) && line.contains(" -> ") {
+            writeln!(lines, "{line}")?;
+        }
+    }
+    Ok(lines)
+}
+
+/// How many printed lines have this part.
+pub fn count_lines(output: &str, part: &str) -> usize {
+    output.lines().filter(|line| line.contains(part)).count()
+}
+
+/// Whether the printed events, played alone on an equal image, write the same and leave the same bytes.
+pub fn plays_again<R: Threads + Wait + Sync>(
+    rt: &R,
+    alloc: Global,
+    image: &[u8],
+    played: &Played,
+    left: &MemoryDisk,
+) -> Result<bool, AllocError> {
+    let events = events_of(alloc, played.text())?;
+    let (again, disk) = run_well(rt, alloc, "heap play", events.as_str(), image)?;
+    Ok(
+        again.status == played.status
+            && again.output.as_slice() == played.output.as_slice()
+            && disk.contents() == left.contents(),
+    )
+}
+
+/// Compares what was found. The tests call it, since the proof of an assertion of their own would take each of them longer.
+pub fn same<T: PartialEq + Debug + Copy>(rt: &impl Abort, found: T, want: T) {
+    assert_eq!(rt; found, want);
+}
