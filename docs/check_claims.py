@@ -5,7 +5,8 @@
 
 Of each crate's README.md, and of docs/CLAIMS.md, it checks the claims: each function, type, impl, law and definition in the crate of which
 it is said, and each clause in the contract of its function. Of all pages it checks each file and link, each name of code, each name that is
-said to be of a crate, and that no cell of a table is longer than 200 characters. It reads texts and proves nothing: a clause that is there
+said to be of a crate, and that no cell of a table is longer than 200 characters. Of two contracts that promise the same it checks that the
+clauses of the first stand in the second, word for word. It reads texts and proves nothing: a clause that is there
 may still say something else.
 
 A claim is an item of a list, below a heading "Proved" or one that names a crate in ticks. It ends with where it is proved, in parentheses:
@@ -323,7 +324,18 @@ def cell_faults(page):
     return [(at, f"a cell of {len(it.strip())} characters") for at, line in rows for it in re.split(r"(?<!\\)\|", line) if len(it.strip()) > LONGEST_CELL]
 
 
+# Calls of which the second keeps what the first promises: each clause of the first is one of the second's.
+KEPT = [(("heap_program", "run_alone"), ("thread_program", "run"))]
+
+
+def kept_faults(first, second):
+    promised, kept = ({name: text.split("}\n")[0].split() for name, text in clauses_of(contracts(*it)[0]).items()} for it in (first, second))
+    return [f"crates/{second[0]}: {second[1]} has the clause {name} of {first[1]} in other words or not at all" for name in promised if kept.get(name) != promised[name]]
+
+
 def faults():
+    for first, second in KEPT:
+        yield from kept_faults(first, second)
     for crate in crates():
         if not os.path.isfile(f"{TOP}/crates/{crate}/README.md"):
             yield f"crates/{crate}: no README.md"

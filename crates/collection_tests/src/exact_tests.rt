@@ -12,6 +12,9 @@ use std::test::Fail;
 /// More scans than end a collection.
 const SCANS: usize = 80;
 
+/// The others let go of their locks, and session 1, which stays active, takes the first reference of the root away.
+const CLEARED: &str = "2 abort\n3 abort\n1 root 0\n1 clear 0 0\n";
+
 /// How much a collection copied, and how much was in use when it ended.
 #[derive(Clone, Copy, Debug, PartialEq, Eq)]
 struct Copied {
@@ -73,9 +76,12 @@ fn graph_size(graph: &str) -> Copied {
     size
 }
 
-/// A drawn script, whose transactions are left active, and behind it one whole collection.
+/// A drawn script, whose transactions are left active, in each second one with a reference taken away, and behind it one whole collection.
 fn collected_script(alloc: Global, seed: u64) -> Result<String, AllocError> {
     let mut script = draw_script(alloc, seed, 160)?;
+    if seed % 2 == 0 {
+        script.push_str(CLEARED)?;
+    }
     for _ in 0..SCANS {
         script.push_str("scan\n")?;
     }
@@ -86,17 +92,27 @@ fn collected_script(alloc: Global, seed: u64) -> Result<String, AllocError> {
     Ok(script)
 }
 
+/// Whether an active transaction has taken a reference away that the sealed root has: what it leads to is kept for the before-image alone.
+fn is_cleared(lines: &str, graph: &str) -> bool {
+    let root = graph.lines().nth(1).unwrap_or("");
+    lines.ends_with("1 clear 0 0 -> done\n") && root.starts_with("0: @")
+}
+
 fn check_exact(rt: &impl Abort, alloc: Global, seeds: (u64, u64)) -> Result<(), Fail> {
+    let mut cleared = 0usize;
     for seed in seeds.0..seeds.1 {
         let script = collected_script(alloc, seed)?;
         let told = Told::of(rt, alloc, script.as_str())?;
         let played = play(alloc, FRESH, script.as_str(), Pick::Newest)?;
         same(rt, (seed, played.status), (seed, Status::Done));
         let graph = told.heap.text(told.heap.sealed())?;
-        let want = graph_size(str::from_utf8(&graph).unwrap_or(""));
+        let text = str::from_utf8(&graph).unwrap_or("");
         let found = last_collection(str::from_utf8(&played.output).unwrap_or(""));
-        same(rt, (seed, found), (seed, Some(want)));
+        same(rt, (seed, found), (seed, Some(graph_size(text))));
+        assert!(rt; played.output.ends_with(&graph), "{seed}");
+        cleared += usize::from(is_cleared(told.lines.as_str(), text));
     }
+    assert!(rt; cleared > 0, "no seed has a reference that is kept for a before-image alone");
     Ok(())
 }
 

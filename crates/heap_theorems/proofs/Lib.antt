@@ -1,2 +1,3 @@
+mod PrintedScript
 mod Renamed
 mod Stored

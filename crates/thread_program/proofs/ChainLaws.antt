@@ -53,6 +53,11 @@ module _ {D : Type 0} (g : Ghosts D) where
   heap_run c d old new [] steps = steps.0
   heap_run c d old new (event ∷ events) steps = (steps.2.reply, steps.0, steps.2.step, heap_run steps.0 d steps.1 new events steps.3)
 
+  -- no events leave the disk as it is
+  pub steps_none : (c d : Core) (old new : D) (events : List Event) → events ≡ [] → AreSteps (HeapStep g) c old events d new → new ≡ old
+  steps_none c d old new [] none steps = steps.1
+  steps_none c d old new (event ∷ events) none steps = absurd (let never : event ∷ events ≡ [] = none in cc)
+
   -- the disk's counts of failures and stops don't fall
   pub steps_kept : (c d : Core) (old new : D) (events : List Event) → AreSteps (HeapStep g) c old events d new → (g.faults old ≤ g.faults new) × (g.stops old ≤ g.stops new)
   steps_kept c d old new [] steps = let P : D → Type 0 = λ x. (g.faults old ≤ g.faults x) × (g.stops old ≤ g.stops x) in subst P (sym steps.1) (omega arith, omega arith)

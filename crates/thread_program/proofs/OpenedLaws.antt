@@ -39,7 +39,7 @@ use Rattle.thread_program.proofs.CauseLaws.{failed_caused}
 use Rattle.thread_program.proofs.ChainLaws.{Whole, Short, ChainEnds, chain_ends, heap_run}
 use Rattle.thread_program.proofs.EndedLaws.{is_none}
 use Rattle.thread_program.proofs.WrittenLaws.{writes_nothing}
-use Rattle.thread_program.proofs.MadeLaws.{of_all, made_together, cut_run}
+use Rattle.thread_program.proofs.MadeLaws.{of_all, made_together, cut_run, last_all, whole_unfailed}
 use Rattle.thread_program.proofs.PrintsLaws.{runs_by}
 
 -- No event that ends a run is made where memory was refused to a worker.
@@ -65,6 +65,7 @@ pub record GoesOn (end r : Result (Unit {0}) AllocError) (made : List Event) (co
   pub is_end : IsEndOfPlay result
   pub written : IsTrue told → WritesAll core result before after
   pub nothing : IsErr end → IsTrue told → after ≡ before
+  pub late : IsTrue told → (after ≡ before) ⊎ (r ≡ Ok tt)
 
 -- one that has no error is done
 ok_is : (r : Result (Unit {0}) AllocError) → is_err r ≡ false → (r ≡ Ok tt) × IsOk r
@@ -82,6 +83,7 @@ goes_refused end r made core told before none = record {
   is_end = tt;
   written = λ t. writes_nothing core before;
   nothing = λ err t. refl;
+  late = λ t. inl refl;
 }
 
 -- the history and its graph are written
@@ -97,6 +99,7 @@ goes_written end r made core result told before after new is reached sent all is
   is_end = is_end;
   written = λ t. wrote t core is reached;
   nothing = λ err. absurd (false≢true (sym sent ∙ err));
+  late = λ t. inr (ok_is r all).0;
 }
 
 module _ (tries : ℕ) (lines : List Line) (c : Core) (running : IsRunning c) (new : c.history ≡ []) (sent : List Event) (between : Core) (run : IsRun c sent between) (of : AllByRecursion IsOfSession sent)
@@ -117,7 +120,11 @@ module _ (tries : ℕ) (lines : List Line) (c : Core) (running : IsRunning c) (n
       runs_by c running new tries lines all_made ended.core of_made result told before after
       (made_together c running.reached running.unfailed sent between run of ended.made ended.unmade ended.core rest ended.parts ended.none end goes.none tries lines result worked goes.refused
       (λ other. ended.all (goes.whole other)) goes.done cut)
-      goes.is_end goes.failed goes.written goes.nothing
+      goes.is_end goes.failed goes.written goes.nothing (λ t whole. ⊎_elim
+      (λ (none : after ≡ before). inl none)
+      (λ (ok : r ≡ Ok tt). inr (last_all c running.reached running.unfailed sent between run of ended.made ended.unmade ended.core rest ended.parts ended.none end goes.none (ended.all ok)
+          (whole_unfailed c running.reached running.unfailed sent between run of ended.made ended.unmade ended.core rest ended.parts ended.none end goes.none whole)))
+      (goes.late t))
 
 module _ {D : Type 0} {g : Ghosts D} (tries : ℕ) (lines : List Line) (s : Super) (c : Core) (running : IsRunning c) (fresh : c.history ≡ []) (old mid new : Heap D g) (sent : List Event) (between : Core) (of : AllByRecursion IsOfSession sent)
     (steps : AreSteps (HeapStep g) c (heap_disk old) sent between (heap_disk mid)) (run : IsRun c sent between) (end : Result (Unit {0}) AllocError) (worked : IsWorked tries lines (length c.history) between.history end)

@@ -33,7 +33,7 @@ use Rattle.heap_program.proofs.Behind.{HasImages, played_behind}
 use Rattle.heap_program.proofs.Causes.{disk_rose_since}
 use Rattle.heap_program.proofs.PlayFuse.{own_steps}
 use Rattle.thread_program.specs.Together.{asked_of, RunsByWorkers, StepsTogether, IsPlayedTogether}
-use Rattle.thread_program.proofs.ChainLaws.{Whole, Short, ChainEnds, chain_ends, heap_run, steps_kept}
+use Rattle.thread_program.proofs.ChainLaws.{Whole, Short, ChainEnds, chain_ends, heap_run, steps_kept, steps_none}
 
 -- What was opened on the disk, up to the first event.
 pub record OpenedOn {D : Type 0} (g : Ghosts D) (at_opening : ℕ) (c : Core) (start opened : D) : Type 0 where
@@ -45,6 +45,7 @@ pub record OpenedOn {D : Type 0} (g : Ghosts D) (at_opening : ℕ) (c : Core) (s
   pub restarts : g.restarts opened ≡ g.restarts start
   pub faults : g.faults start ≤ g.faults opened
   pub stops : g.stops start ≤ g.stops opened
+  pub no_first_stop : at_opening ≡ 0 → g.stops start ≡ 0 → g.stops opened ≡ 0
 
 module _ {D : Type 0} {g : Ghosts D} (tells : IsTrue g.tells) (s : Super) (c : Core) (running : IsRunning c) (at_opening : ℕ) (start : D) (old new : Heap D g) (opened : OpenedOn g at_opening c start old.disk)
     (tries : ℕ) (lines : List Line) (result : Status) (told : Bool) (before after : List ℕ) (made_by : StepsTogether tries lines s c old new result told before after) where
@@ -108,6 +109,8 @@ module _ {D : Type 0} {g : Ghosts D} (tells : IsTrue g.tells) (s : Super) (c : C
         runs = runs;
         disk = keeps;
         still = refl;
+        steps = made_by.steps;
+        no_first_stop = λ none empty stops. ap g.stops (steps_none g c core old.disk new.disk made empty made_by.steps) ∙ opened.no_first_stop none stops;
         exact = λ u. ⊎_elim (λ (all : Whole g c made core old.disk new.disk). all.0) (λ (cut : Short g c made core old.disk new.disk). absurd (harmed u cut.2)) ends;
         counts = at_opening;
         opens = inl refl;

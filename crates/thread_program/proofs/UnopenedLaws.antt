@@ -39,13 +39,13 @@ open_refused (opening.Damaged at) outside = absurd outside
 open_refused opening.DiskFault outside = inr refl
 open_refused opening.Stopped outside = inr refl
 
--- and neither of them is the sink's
-not_written : (e : OpenError) → IsFromOutside e → open_status e ≡ status.WriteFault → ⊥
-not_written opening.NoMemory outside is = cc
-not_written opening.NotHeap outside is = absurd outside
-not_written (opening.Damaged at) outside is = absurd outside
-not_written opening.DiskFault outside is = cc
-not_written opening.Stopped outside is = cc
+-- no opening has the status of a sink that refused
+pub open_not_refused : (e : OpenError) → open_status e ≡ status.WriteFault → ⊥
+open_not_refused opening.NoMemory is = cc
+open_not_refused opening.NotHeap is = cc
+open_not_refused (opening.Damaged at) is = cc
+open_not_refused opening.DiskFault is = cc
+open_not_refused opening.Stopped is = cc
 
 module _ {D : Type 0} (g : Ghosts D) {bytes : List ℕ} (stored : IsStored bytes) where
   abbrev c : Core
@@ -69,7 +69,7 @@ module _ {D : Type 0} (g : Ghosts D) {bytes : List ℕ} (stored : IsStored bytes
         refused = λ err. elim (open_refused e outside) [ inl memory ↦ inl (is ∙ memory) | inr fault ↦ inr (is ∙ fault, refl) ];
         ends = inl refl;
         done = λ done. absurd (open_not_done e (sym is ∙ done));
-        all = λ refused whole. absurd (not_written e outside (sym is ∙ refused));
+        all = λ refused whole. absurd (open_not_refused e (sym is ∙ refused));
         cut = inl refl;
       }
 
@@ -78,9 +78,9 @@ module _ {D : Type 0} (g : Ghosts D) {bytes : List ℕ} (stored : IsStored bytes
       → LeavesOnly g.moment g.left_since start final (IsCommitPrefix c) → LeavesOnly g.moment g.left_since start final (SameBehind c (g.bytes start)) → ((image : List ℕ) → g.may_leave final image → IsCommitPrefix c image)
       → ((image : List ℕ) → g.left_since final (g.moment final) image → g.may_leave final image) → g.restarts final ≡ g.restarts start
       → (e ≡ opening.NoMemory → g.passed final ≡ g.passed start) → (e ≢ opening.NoMemory → Unharmed g start final → ⊥)
-      → g.passed final ≤ counted n (g.passed start) → g.passed final ≤ counted (n + 0) (g.passed start) → (open_status e ≡ status.NoMemory → Only (g.bytes final) (g.may_leave final))
+      → g.passed final ≤ counted n (g.passed start) → g.passed final ≤ counted (n + 0) (g.passed start) → (open_status e ≡ status.NoMemory → Only (g.bytes final) (g.may_leave final)) → (n ≡ 0 → g.stops start ≡ 0 → g.stops final ≡ 0)
       → IsPlayedTogether g tries lines n c start final by told before before
-  unopened_together tries lines e by start final told before some is outside moments behind left now restarts same harm few most only =
+  unopened_together tries lines e by start final told before some is outside moments behind left now restarts same harm few most only first =
       let early = λ (done : by ≡ status.Done). open_not_done e (sym is ∙ done) in
       let calls = unopened_calls None n (g.passed start) (g.passed final) (Unharmed g start final) e by is outside same harm in
       record {
@@ -99,6 +99,7 @@ module _ {D : Type 0} (g : Ghosts D) {bytes : List ℕ} (stored : IsStored bytes
             whole = λ done. absurd (early done);
           };
           nothing = λ err t. refl;
+          late = λ t whole. inl refl;
           end = subst IsEndOfPlay (sym is) (open_end e outside);
         };
         disk = record {
@@ -115,6 +116,8 @@ module _ {D : Type 0} (g : Ghosts D) {bytes : List ℕ} (stored : IsStored bytes
           outside = behind;
         };
         still = refl;
+        steps = (refl, refl);
+        no_first_stop = λ none empty. first none;
         exact = λ u. refl;
         counts = calls.0;
         opens = calls.1;

@@ -90,6 +90,8 @@ pub record RunsByWorkers (tries : ℕ) (lines : List Line) (c : Core) (result : 
   pub written : IsTrue told → WritesAll core result before after
   -- where memory was refused to a worker nothing is written
   pub nothing : IsErr together.end → IsTrue told → after ≡ before
+  -- and nothing is written before the last of the events that end a run, unless the disk failed or stopped
+  pub late : IsTrue told → MadeAll c made core → (after ≡ before) ⊎ (together.last ≡ ending together.between)
   pub end : IsEndOfPlay result
 
 -- On any disk: a heap was opened with some graph, and workers sent their events to it. What was opened is `from` where that says. The disk failed or
@@ -101,9 +103,13 @@ pub record PrintsTogether (from : Super → List (List Record) → Pages → (�
   pub runs : RunsByWorkers tries lines first result told before after
   pub caused : (account runs.core.history).failed ≢ None → rose ⊎ (result ≡ status.NoMemory)
 
--- A run that isn't done wrote nothing, or it wrote that.
+-- A run that is not done, whose output was not refused, and that wrote nothing.
+abbrev pub IsUnwritten : Status → Bool → List ℕ → List ℕ → Type 0
+IsUnwritten result told before after = (result ≢ status.Done) × (result ≢ status.WriteFault) × (IsTrue told → after ≡ before)
+
+-- Nothing was written, or that was.
 abbrev pub PrintsSomeTogether : (Super → List (List Record) → Pages → (ℕ → ℕ) → Type 0) → Type 0 → ℕ → List Line → Status → Bool → List ℕ → List ℕ → Type 0
-PrintsSomeTogether from rose tries lines result told before after = ((result ≢ status.Done) × (after ≡ before)) ⊎ PrintsTogether from rose tries lines result told before after
+PrintsSomeTogether from rose tries lines result told before after = IsUnwritten result told before after ⊎ PrintsTogether from rose tries lines result told before after
 
 module _ {D : Type 0} {g : Ghosts D} where
   -- On a disk that tells: likewise, and each step says what it left on the disk.
@@ -122,6 +128,10 @@ module _ {D : Type 0} (g : Ghosts D) where
     pub disk : KeepsThroughout g None at_opening c runs.made runs.core start final
     -- nothing comes behind the last event
     pub still : final ≡ disk.stopped
+    -- each event makes the calls that it is said to make, also behind a failure
+    pub steps : AreSteps (HeapStep g) c disk.opened runs.made runs.core final
+    -- an opening that writes nothing is not stopped first
+    pub no_first_stop : at_opening ≡ 0 → runs.made ≡ [] → g.stops start ≡ 0 → g.stops final ≡ 0
     -- without a fault the disk did all that it was asked
     pub exact : Unharmed g start final → MadeAll c runs.made runs.core
     -- the disk has counted the writes and syncs of the opening and of these events, or no more than those up to the one in which it failed or stopped

@@ -20,7 +20,7 @@ ghost use Rattle.heap_recovery.specs.Faults.{IsLeftOf};
 ghost use Rattle.script_text.specs.declared.line.Line.{Line};
 ghost use Rattle.script_text.specs.declared.script.ScriptError.TheVariants.{Fault};
 ghost use Rattle.script_text.specs.Script.{script};
-ghost use Rattle.thread_program.specs.Together.{RunsByWorkers, StepsTogether, IsPlayedTogether, PrintsTogether, PrintsSomeTogether, RunsTogether};
+ghost use Rattle.thread_program.specs.Together.{RunsByWorkers, StepsTogether, IsPlayedTogether, IsUnwritten, PrintsTogether, PrintsSomeTogether, RunsTogether};
 
 use crate::ending::make_ending;
 use crate::writing::write_all;
@@ -63,8 +63,8 @@ pub fn run_threads<D: Disk + Send, S: Source, K: Sink, G: Gate + Sync, R: Thread
 
     ensures headline { OfTold D.tells (D.bytes disk) (D.may_leave disk)
         (RunsTogether D.Disk fresh tries (IsReadFrom S.tells (S.left source.old)) disk result.1 result.0 K.tells (K.written sink.old) (K.written sink.new)) }
-    ensures prints { IsTrue K.tells
-        → ((result.0 ≢ Status.Done) × (K.written sink.new ≡ K.written sink.old)) ⊎ ((lines : List Line) × IsReadFrom S.tells (S.left source.old) lines × PrintsTogether (IsOfOwnImage fresh D.tells (D.bytes disk)) (DiskRose (D.faults disk) (D.stops disk) (D.faults result.1) (D.stops result.1)) tries lines result.0 K.tells (K.written sink.old) (K.written sink.new)) }
+    ensures prints { IsUnwritten result.0 K.tells (K.written sink.old) (K.written sink.new)
+        ⊎ ((lines : List Line) × IsReadFrom S.tells (S.left source.old) lines × PrintsTogether (IsOfOwnImage fresh D.tells (D.bytes disk)) (DiskRose (D.faults disk) (D.stops disk) (D.faults result.1) (D.stops result.1)) tries lines result.0 K.tells (K.written sink.old) (K.written sink.new)) }
     ensures unwritten { ¬ BlamesNoImage result.0 → sink.new ≡ sink.old }
     ensures restarts { IsTrue D.tells → D.restarts result.1 ≡ D.restarts disk }
     ensures complete { OfTold D.tells (D.bytes disk) (D.may_leave disk) (CanPlay fresh (D.extent disk) (D.bytes disk)
@@ -108,7 +108,7 @@ fn play_by_workers<D: Disk + Send, K: Sink, G: Gate + Sync, R: Threads + Wait + 
     ensures sink { StreamCause (K.faults sink.old) (K.faults sink.new) (result.0 ≡ Status.WriteFault) }
     ensures restarts { IsTrue D.tells → D.restarts result.1 ≡ D.restarts disk }
     ensures unwritten { ¬ BlamesNoImage result.0 → sink.new ≡ sink.old }
-    ensures prints { IsTrue K.tells → PrintsSomeTogether (IsOfImage D.tells (D.bytes disk)) (DiskRose (D.faults disk) (D.stops disk) (D.faults result.1) (D.stops result.1)) tries script.now result.0 K.tells (K.written sink.old) (K.written sink.new) }
+    ensures prints { PrintsSomeTogether (IsOfImage D.tells (D.bytes disk)) (DiskRose (D.faults disk) (D.stops disk) (D.faults result.1) (D.stops result.1)) tries script.now result.0 K.tells (K.written sink.old) (K.written sink.new) }
     ensures played { IsTrue D.tells → (stored : IsStored (D.bytes disk)) → Only (D.bytes disk) (D.may_leave disk)
         → IsPlayedTogether D.Disk tries script.now (stored_calls stored) (stored_core stored) disk result.1 result.0 K.tells (K.written sink.old) (K.written sink.new) }
     ensures refused { IsTrue D.tells → IsToldOf result.0 (D.bytes disk) }

@@ -1,4 +1,5 @@
 use Rattle.std.proofs.Common.{inl, inr, ◌+◌, refl, sym, ap, ◌∙◌, subst, arith}
+use Rattle.heap_model.specs.Opening.{rollback_of}
 use Rattle.heap_model.proofs.Shaped.{shaped_image}
 use Rattle.heap_program.specs.Causes.{DiskRose}
 use Rattle.heap_program.specs.Stored.{stored_core, stored_calls}
@@ -7,7 +8,7 @@ use Rattle.heap_program.proofs.Behind.{HasImages, opening_behind}
 use Rattle.heap_program.proofs.Causes.{disk_rose_since}
 use Rattle.heap_program.proofs.Counts.{counted_mono}
 use Rattle.heap_program.proofs.PlayOpen.{stored_running, stored_keeps, stored_moments, stored_super, opened_core}
-use Rattle.heap_program.proofs.PrintRecovered.{fails_most, fails_none}
+use Rattle.heap_program.proofs.PrintRecovered.{fails_most, fails_none, no_rollback}
 use Rattle.heap_program.proofs.RefusalLaws.{told_status, told_each, end_told, end_told_each, refused_by, not_opened, only_read, alone_read, fault_moments, left_moments}
 use Rattle.heap_program.proofs.Reopened.{reads_only, refused_memory}
 use Rattle.heap_program.proofs.RunLaws.{end_sound}
@@ -15,7 +16,7 @@ use Rattle.heap_program.proofs.Statuses.{open_not_done, open_harm}
 use Rattle.heap_recovery.specs.declared.at.At.TheVariants.{Address}
 use Rattle.heap_recovery.proofs.FaultLaws.{shaped_readable}
 use Rattle.thread_program.proofs.PlayedLaws.{OpenedOn, played_together}
-use Rattle.thread_program.proofs.UnopenedLaws.{unopened_together}
+use Rattle.thread_program.proofs.UnopenedLaws.{open_not_refused, unopened_together}
 use Rattle.thread_program.proofs.threads.play_by_workers.Goals as goal
 
 pub returns-in-Err-clause-played : goal.returns-in-Err-clause-played
@@ -38,6 +39,7 @@ returns-in-Err-clause-played g c tells stored only =
     (λ other u. u (open_harm _ _ _ _ c.in-Err.e outside other e.disk.cause))
     (omega (arith, few.2, most)) (omega (arith, few.2, total))
     (λ refused. reads_only d c.args.disk c.in-Err.disk ((e.left_alone (refused_memory c.in-Err.e refused)).contents tells) only)
+    (λ none. c.in-Err.ensures.no_first_stop tells stored.super stored.batches stored.pages shaped (no_rollback (rollback_of stored.super stored.batches) none))
 
 pub returns-in-Ok-clause-played : goal.returns-in-Ok-clause-played
 returns-in-Ok-clause-played g c tells stored only =
@@ -61,14 +63,15 @@ returns-in-Ok-clause-played g c tells stored only =
       restarts = e.disk.restarts tells;
       faults = e.disk.cause.faults_kept;
       stops = e.disk.cause.stops_kept;
+      no_first_stop = λ none. e.no_first_stop tells s stored.batches stored.pages shaped (no_rollback (rollback_of s stored.batches) none);
     } in
     played_together tells s first running n c.args.disk old c.play_opened-status.result.1 opened c.args.tries c.args.script.now c.play_opened-status.result.0 k.tells (k.written c.args.sink.now) (k.written c.play_opened-status.new.sink) made_by c.close.result c.close.ensures
 
 pub returns-in-Err-clause-prints : goal.returns-in-Err-clause-prints
-returns-in-Err-clause-prints g c tells = inl ((λ done. open_not_done c.in-Err.e (sym c.from.ensures ∙ done)), refl)
+returns-in-Err-clause-prints g c = inl ((λ done. open_not_done c.in-Err.e (sym c.from.ensures ∙ done)), (λ refused. open_not_refused c.in-Err.e (sym c.from.ensures ∙ refused)), λ t. refl)
 
 pub returns-in-Ok-clause-prints : goal.returns-in-Ok-clause-prints
-returns-in-Ok-clause-prints g c tells =
+returns-in-Ok-clause-prints g c =
     let d = g.D.Disk in
     let some = opened_core d.tells (d.bytes c.args.disk) c.in-Ok.heap c.in-Ok.ensures.opens c.in-Ok.ensures.sound in
     let told = c.play_opened-status.ensures.core some.0 some.2 some.1.running some.1.nothing in
