@@ -10,7 +10,8 @@ library is not there is left out, and so is a text where its tool is not there. 
 lmdb-utils.
 
 Loads and texts are measured in processor time and work in a folder in memory (/dev/shm) where there is one: the peers keep nothing of a load for ever,
-while the program syncs each commit. Durable commits are measured by the clock, in a folder of TMPDIR. With --quick the program is that which is
+while the program syncs each commit. Where `rt run` has left crates/library_bench/out/library_bench, a load is played by it too: on a heap in memory, through
+the calls of `heap_core`, with no text made. Durable commits are measured by the clock, in a folder of TMPDIR. With --quick the program is that which is
 compiled with nothing proved; it has checks at each step, so its ratios say little. It judges nothing.
 """
 import collections
@@ -28,6 +29,7 @@ import time
 TOP = pathlib.Path(__file__).resolve().parents[1]
 QUICK = sys.argv[1:2] == ["--quick"]
 PROGRAM = TOP.joinpath(".build", *["quick"] * QUICK, "heap_shell")
+LIBRARY = TOP / "crates/library_bench/out/library_bench"
 PAGES = 64
 BATCH = 1_000  # objects that one transaction makes
 
@@ -162,6 +164,16 @@ def bench_loads(all_peers, folder, count, rounds):
     tell(what, all_peers, [[it.program for it in row] for row in rows], "of the processor outside of the kernel")
 
 
+def bench_library(all_peers, folder, count, rounds):
+    """The heap as a library on a disk in memory, beside the peers."""
+    rows = []
+    for _ in range(rounds):
+        own, printed = spent([LIBRARY, 1, count], folder)
+        rows.append([sum(own), *[sum(peer.load(folder / "library", count)[0]) for peer in all_peers[1:]]])
+    events = int(printed.split()[1])
+    tell(f"the same through the library, {events / statistics.median(row[0] for row in rows):,.0f} events a second", all_peers, rows, "of the processor")
+
+
 def bench_commits(all_peers, folder, count, rounds):
     rows = [[peer.commits(folder, count) for peer in all_peers] for _ in range(rounds)]
     tell(f"{count} durable commits", all_peers, rows, "by the clock")
@@ -186,6 +198,8 @@ def main():
         all_peers = [OfHeap(), *peers(disk)]
         print(f"load {os.getloadavg()[0]:.1f}; {rounds} rounds; the median, the least and the greatest of a round's ratios")
         bench_loads(all_peers, fast / "load", count, rounds)
+        if LIBRARY.is_file():
+            bench_library(all_peers, fast, count, rounds)
         bench_texts(all_peers, fast, count, rounds)
         bench_commits(all_peers, disk / "commits", count // 10, rounds)
 
