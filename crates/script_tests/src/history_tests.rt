@@ -4,7 +4,10 @@ use heap_history::History;
 use std::process::Abort;
 use std::test::Fail;
 
-fn told(rt: &(impl Abort + AllocGlobal), entries: &[(Event, Reply)]) -> Result<History, Fail> {
+pub(crate) fn told(
+    rt: &(impl Abort + AllocGlobal),
+    entries: &[(Event, Reply)],
+) -> Result<History, Fail> {
     let mut history = History::new(rt.alloc());
     for (event, reply) in entries {
         history.reserve(1)?;

@@ -1,4 +1,5 @@
-//! Tests of scripts, loads, command words, and histories: their commits in the order of their seals, and in which form their entries are kept.
+//! Tests of scripts, loads, command words, and histories: their commits in the order of their seals, the graph of what is sealed, and in which form
+//! their entries are kept.
 #![tactic(auto)]
 
 #[cfg(test)]
@@ -11,5 +12,7 @@ mod history_tests;
 mod load_tests;
 #[cfg(test)]
 mod script_text_tests;
+#[cfg(test)]
+mod sealed_graph_tests;
 #[cfg(test)]
 mod slow_heap_tests;

@@ -1,0 +1,4 @@
+pub mod GraphCode
+pub mod Objects
+pub mod Runs
+pub mod Told
