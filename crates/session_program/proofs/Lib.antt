@@ -1,5 +1,6 @@
 mod Answering
 mod Idle
+mod Limits
 mod NextSession
 mod OnDisk
 mod OneLine

@@ -47,7 +47,8 @@ use Rattle.heap_program.proofs.CoreSteps.{makes_run, running_after}
 use Rattle.heap_program.proofs.Counts.{counted_mono}
 use Rattle.heap_core.proofs.StepsLaws.{heap_leaves}
 use Rattle.heap_program.proofs.PlayFuse.{own_steps}
-use Rattle.heap_program.proofs.PlayOpen.{unopened_calls}
+use Rattle.heap_program.proofs.Limits.{limits_law}
+use Rattle.heap_program.proofs.PlayOpen.{stored_running, unopened_calls}
 use Rattle.heap_program.proofs.PlayLaws.{ends_makes, plays_none}
 use Rattle.heap_program.proofs.Ready.{AreReady}
 use Rattle.heap_program.proofs.Reopened.{outside_memory}
@@ -196,6 +197,7 @@ module _ {D : Type 0} {g : Ghosts D} {bytes : List ℕ} (stored : IsStored bytes
         core = at_end;
         run = inr (record { heap = new; disk = refl; result = result; status = refl; next = refl; serves = on.serves; events = refl; reached = refl });
         last = makes_last c made at_end old new on.makes.makes;
+        limits = limits_law c running.reached refl made on.makes.own at_end;
         disk = record {
           opened = old.disk;
           opening = opening;
@@ -236,6 +238,7 @@ module _ {D : Type 0} (g : Ghosts D) {bytes : List ℕ} (stored : IsStored bytes
         core = c;
         run = inl (record { early = open_not_done e; none = refl; same = refl; nothing = λ t. refl });
         last = inl refl;
+        limits = limits_law c (stored_running g stored).reached refl [] tt c;
         disk = record {
           opened = final;
           opening = moments;

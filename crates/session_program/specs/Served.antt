@@ -16,6 +16,7 @@ use Rattle.heap_program.specs.declared.status.Status.{Status}
 use Rattle.heap_program.specs.declared.status.Status.TheVariants as status
 use Rattle.heap_program.specs.Causes.{Unharmed}
 use Rattle.heap_program.specs.Headline.{KeepsThroughout, CountsOpening}
+use Rattle.heap_program.specs.Limits.{KeepsLimits}
 use Rattle.heap_program.specs.Play.{MadeAll, IsCutBy}
 use Rattle.session_program.specs.declared.ending.Break.{Break}
 use Rattle.session_program.specs.declared.parts.Next.{Next}
@@ -49,6 +50,7 @@ module _ {D : Type 0} (g : Ghosts D) where
     pub core : Core
     pub run : NotServed c made core by told before after ⊎ ServesEvents tells left rest c made core final by n told before after
     pub last : MadeAll c made core ⊎ ((reply : Reply) × IsCutBy reply c made core)
+    pub limits : KeepsLimits c made core
     pub disk : KeepsThroughout g None at_opening c made core start final
     -- it is given back as the last event left it
     pub same : final ≡ disk.stopped

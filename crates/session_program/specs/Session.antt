@@ -18,6 +18,7 @@ use Rattle.heap_program.specs.declared.play.Halt.{Halt}
 use Rattle.heap_program.specs.declared.play.Halt.TheVariants as halt
 use Rattle.heap_program.specs.declared.status.Status.{Status}
 use Rattle.heap_program.specs.Headline.{IsOpened}
+use Rattle.heap_program.specs.Limits.{KeepsLimits}
 use Rattle.heap_program.specs.Play.{MadeAll, PlaysCore, Plays, MakesAll, Makes, WroteFront}
 use Rattle.heap_core.specs.Steps.{HeapStep, AreSteps}
 use Rattle.line_reader.specs.Taking.{IsWithinLine, IsCutAt}
@@ -201,3 +202,5 @@ pub record ServesHeap {D : Type 0} (g : Ghosts D) (from : Super → List (List R
   pub status : by ≡ session_status result
   pub next : n ≡ next_of result
   pub serves : Serves tells left rest first heap told before after result
+  -- the events of the lines that were answered, and those that were played last, keep to the limits of a heap
+  pub limits : KeepsLimits first (asked serves.answered ++ (last_of tells left rest first heap told before after result serves).0) (last_of tells left rest first heap told before after result serves).1

@@ -18,6 +18,7 @@ use Rattle.heap_program.proofs.Statuses.{open_harm}
 use Rattle.heap_recovery.specs.declared.at.At.TheVariants.{Address}
 use Rattle.session_program.specs.declared.ending.Break.{Break}
 use Rattle.session_program.specs.declared.ending.Break.TheVariants.{Halted, ReadFault}
+use Rattle.session_program.proofs.Limits.{session_limits}
 use Rattle.session_program.proofs.ServedWhole.{served_opened, served_none, broken_memory}
 use Rattle.session_program.proofs.serving.serve_part.Goals as goal
 
@@ -39,6 +40,7 @@ returns-in-Ok-serve_all-clause-serves g c =
         status = refl;
         next = refl;
         serves = o.is;
+        limits = session_limits g.S.Source.tells o.part o.rest c.serve_all.new.heap g.K.Sink.tells (g.K.Sink.written c.serve_all.new.sink) some.0 (g.K.Sink.written c.args.sink.now) _ o.is some.1.running.reached some.1.nothing;
       };
     })
 
@@ -60,6 +62,7 @@ returns-in-Err-serve_all-clause-serves g c =
         status = c.break_status.ensures;
         next = refl;
         serves = o.is;
+        limits = session_limits g.S.Source.tells o.part o.rest c.serve_all.new.heap g.K.Sink.tells (g.K.Sink.written c.serve_all.new.sink) some.0 (g.K.Sink.written c.args.sink.now) _ o.is some.1.running.reached some.1.nothing;
       };
     })
 

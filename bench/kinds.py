@@ -1,0 +1,85 @@
+#!/usr/bin/env python3
+"""Times each kind of event alone: 2n of them beside n, in one table.
+
+    bench/kinds.py [--quick] [N [ROUNDS]]
+
+N is 20,000 if it is left out, and ROUNDS 9. For each kind it plays a script of N events of that kind, and one of 2N, on a new heap, and takes the time of the
+same heap's script without them off; events that can't be made alone, as a begin without an end, are counted with what they need. So the log, the history and
+what sessions hold are twice as long at the end of the second script. Printed are the nanoseconds of an event in the first script, and how much longer the
+second took, meant to be near 2 and below 2.3: no event takes longer for what was before it. Each time is the least of all rounds, of the processor, and the
+heap is in a folder in memory where there is one. With --quick the program is that which is compiled with nothing proved. It judges nothing.
+"""
+import os
+import pathlib
+import resource
+import subprocess
+import sys
+import tempfile
+
+TOP = pathlib.Path(__file__).resolve().parents[1]
+QUICK = sys.argv[1:2] == ["--quick"]
+PROGRAM = TOP.joinpath(".build", *["quick"] * QUICK, "heap_shell")
+PAGES = 64
+LOG_BYTES = 268_435_456
+
+# Session 1 holds the root in handle 0, and an object that it made in handle 1.
+HELD = "1 begin\n1 root 0\n1 new 1 4\n1 link 0 0 1\n1 commit\n1 begin\n1 root 0\n1 get 0 0 1\n"
+# (so many new objects have room in the memory of a transaction)
+NEW = "1 abort\n1 begin\n" + "1 new 2 2\n" * 999
+# the kind, what goes before, what is repeated, and how many events that is
+KINDS = [
+    ("begin and abort", "", "1 begin\n1 abort\n", 2),
+    ("begin and seal", "", "1 begin\n1 seal\n", 2),
+    ("root", HELD, "1 root 2\n", 1),
+    ("new", HELD, NEW, 1001),
+    ("put", HELD, "1 put 1 0 7\n", 1),
+    ("clear", HELD, "1 clear 1 0\n", 1),
+    ("link", HELD, "1 link 1 0 0\n", 1),
+    ("drop", HELD, "1 drop 3\n", 1),
+    ("get", HELD, "1 get 0 0 2\n", 1),
+    ("same", HELD, "1 same 0 1\n", 1),
+    ("len", HELD, "1 len 1\n", 1),
+    ("begin, put, seal and force", "", "1 begin\n1 root 0\n1 put 0 0 7\n1 commit\n", 5),
+    ("force of nothing", HELD, "force\n", 1),
+    ("flip and scan", "", "flip\nscan\n", 2),
+    ("put and flush", HELD, "1 put 1 0 7\nflush 0\n", 2),
+    ("a refused put", HELD, "1 put 1 9 7\n", 1),
+    ("busy", HELD + "1 put 0 1 7\n2 begin\n2 root 0\n", "2 get 0 1 1\n", 1),
+]
+
+
+def time_of(folder, script):
+    """The processor time of a play of this script on a new heap."""
+    (folder / "script").write_text(script)
+    subprocess.run([PROGRAM, "format", str(PAGES), str(LOG_BYTES), "1"], cwd=folder, stdout=subprocess.DEVNULL, check=True)
+    before = resource.getrusage(resource.RUSAGE_CHILDREN)
+    with open(folder / "script", "rb") as given:
+        subprocess.run([PROGRAM, "play"], cwd=folder, stdin=given, stdout=subprocess.DEVNULL, check=True)
+    after = resource.getrusage(resource.RUSAGE_CHILDREN)
+    os.unlink(folder / "heap.img")
+    return after.ru_utime + after.ru_stime - before.ru_utime - before.ru_stime
+
+
+def checked(script):
+    """A script has at most a mebibyte."""
+    if len(script) > 1_048_576:
+        sys.exit(f"kinds: a script of {len(script)} bytes is too long: take a smaller N")
+    return script
+
+
+def main():
+    words = [int(word) for word in sys.argv[1 + QUICK :]]
+    count, rounds, *_ = words + [20_000, 9][len(words) :]
+    memory = "/dev/shm" if os.path.isdir("/dev/shm") else None
+    with tempfile.TemporaryDirectory(dir=memory) as folder:
+        folder = pathlib.Path(folder)
+        print(f"load {os.getloadavg()[0]:.1f}; {count} events, the least of {rounds} rounds")
+        for name, before, repeated, events in KINDS:
+            often = max(count // events, 1)
+            scripts = [checked(before + repeated * n) for n in (0, often, 2 * often)]
+            none, once, twice = (min(time_of(folder, it) for _ in range(rounds)) for it in scripts)
+            print(f"| {name} | {(once - none) / (often * events) * 1e9:.0f} | {(twice - none) / (once - none):.2f} |")
+
+
+if __name__ == "__main__":
+    main()
