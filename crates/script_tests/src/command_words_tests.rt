@@ -71,6 +71,16 @@ fn commands_are_read(rt: HostRuntime) -> Result<(), Fail> {
             "play --stop 4 --fresh 2 --again 18446744073709551615",
             play(Some(2), stop(4, Some(never))),
         ),
+    ];
+    for (line, wanted) in lines {
+        assert_eq!(rt; read(rt.alloc(), line)?, Ok(wanted), "{line}");
+    }
+    Ok(())
+}
+
+#[test]
+fn commands_without_a_stop_are_read(rt: HostRuntime) -> Result<(), Fail> {
+    let lines = [
         ("graph", Command::Graph),
         ("threads", threads(None, 1000)),
         ("threads --tries 1", threads(None, 1)),
