@@ -6,7 +6,7 @@
 N is 20,000 if it is left out, and ROUNDS 9. For each kind it plays a script of N events of that kind, and one of 2N, on a new heap, and takes the time of the
 same heap's script without them off; events that can't be made alone, as a begin without an end, are counted with what they need. So the log, the history and
 what sessions hold are twice as long at the end of the second script. Printed are the nanoseconds of an event in the first script, and how much longer the
-second took, meant to be near 2 and below 2.3: no event takes longer for what was before it. Each time is the least of all rounds, of the processor, and the
+second took, meant to be near 2 and below 2.3: no event takes longer for what was before it; and the last line of those repeated. Each time is the least of all rounds, of the processor, and the
 heap is in a folder in memory where there is one. With --quick the program is that which is compiled with nothing proved. It judges nothing.
 """
 import os
@@ -41,7 +41,7 @@ KINDS = [
     ("len", HELD, "1 len 1\n", 1),
     ("begin, put, seal and force", "", "1 begin\n1 root 0\n1 put 0 0 7\n1 commit\n", 5),
     ("force of nothing", HELD, "force\n", 1),
-    ("flip and scan", "", "flip\nscan\n", 2),
+    ("flip and two scans", "", "flip\nscan\nscan\n", 3),
     ("put and flush", HELD, "1 put 1 0 7\nflush 0\n", 2),
     ("a refused put", HELD, "1 put 1 9 7\n", 1),
     ("busy", HELD + "1 put 0 1 7\n2 begin\n2 root 0\n", "2 get 0 1 1\n", 1),
@@ -49,15 +49,17 @@ KINDS = [
 
 
 def time_of(folder, script):
-    """The processor time of a play of this script on a new heap."""
+    """The processor time of a play of this script on a new heap, and the last reply before its ending events."""
     (folder / "script").write_text(script)
     subprocess.run([PROGRAM, "format", str(PAGES), str(LOG_BYTES), "1"], cwd=folder, stdout=subprocess.DEVNULL, check=True)
     before = resource.getrusage(resource.RUSAGE_CHILDREN)
-    with open(folder / "script", "rb") as given:
-        subprocess.run([PROGRAM, "play"], cwd=folder, stdin=given, stdout=subprocess.DEVNULL, check=True)
+    with open(folder / "script", "rb") as given, open(folder / "output", "wb") as output:
+        subprocess.run([PROGRAM, "play"], cwd=folder, stdin=given, stdout=output, check=True)
     after = resource.getrusage(resource.RUSAGE_CHILDREN)
     os.unlink(folder / "heap.img")
-    return after.ru_utime + after.ru_stime - before.ru_utime - before.ru_stime
+    events = script.count("\n") + script.count("commit")
+    replies = (folder / "output").read_text().split("\n", events)[:events]
+    return after.ru_utime + after.ru_stime - before.ru_utime - before.ru_stime, replies[-1] if replies else ""
 
 
 def checked(script):
@@ -77,8 +79,10 @@ def main():
         for name, before, repeated, events in KINDS:
             often = max(count // events, 1)
             scripts = [checked(before + repeated * n) for n in (0, often, 2 * often)]
-            none, once, twice = (min(time_of(folder, it) for _ in range(rounds)) for it in scripts)
-            print(f"| {name} | {(once - none) / (often * events) * 1e9:.0f} | {(twice - none) / (once - none):.2f} |")
+            (none, _), (once, _), (twice, last) = (min(time_of(folder, it) for _ in range(rounds)) for it in scripts)
+            if once <= none:
+                sys.exit(f"kinds: {often} times {name!r} take no time: take a larger N")
+            print(f"| {name} | {(once - none) / (often * events) * 1e9:.0f} | {(twice - none) / (once - none):.2f} | {last} |")
 
 
 if __name__ == "__main__":

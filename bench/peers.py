@@ -67,7 +67,7 @@ class OfHeap:
         self.make(folder, PAGES, 65_536 + 400 * count)
         times, printed = spent([PROGRAM, "load", 1, count], folder)
         summary = dict(line.rsplit(" ", 1) for line in printed.splitlines())
-        self.events = int(summary["events"])
+        self.events, self.commits_made = int(summary["events"]), int(summary["sealed"])
         return times, int(summary["objects"])
 
     def commits(self, folder, count):
@@ -170,8 +170,10 @@ def bench_library(all_peers, folder, count, rounds):
     for _ in range(rounds):
         own, printed = spent([LIBRARY, 1, count], folder)
         rows.append([sum(own), *[sum(peer.load(folder / "library", count)[0]) for peer in all_peers[1:]]])
-    events = int(printed.split()[1])
-    tell(f"the same through the library, {events / statistics.median(row[0] for row in rows):,.0f} events a second", all_peers, rows, "of the processor")
+    _, events, _, commits = printed.split()
+    if int(commits) != all_peers[0].commits_made:
+        sys.exit(f"peers: the library made {commits} commits of a load, and the program {all_peers[0].commits_made}")
+    tell(f"the same through the library, {int(events) / statistics.median(row[0] for row in rows):,.0f} events a second", all_peers, rows, "of the processor")
 
 
 def bench_commits(all_peers, folder, count, rounds):

@@ -330,6 +330,8 @@ KEPT = [(("heap_program", "run_alone"), ("thread_program", "run"))]
 
 def kept_faults(first, second):
     promised, kept = ({name: text.split("}\n")[0].split() for name, text in clauses_of(contracts(*it)[0]).items()} for it in (first, second))
+    if not promised:
+        return [f"crates/{first[0]}: {first[1]} promises nothing"]
     return [f"crates/{second[0]}: {second[1]} has the clause {name} of {first[1]} in other words or not at all" for name in promised if kept.get(name) != promised[name]]
 
 

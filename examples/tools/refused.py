@@ -3,9 +3,9 @@
 
     examples/tools/refused.py PROGRAM
 
-PROGRAM is what `rt run` leaves as out/ends_without_memory in crates/ends_without_memory. It ends with 0 where each event was done, with 1
-where one lacked memory that may, and with 2 where an abort, a force or a seal that makes nothing stable lacked memory. The last may never be:
-after whatever was refused, transactions are ended and commits forced. The allocator is a library of C, put before the C library's own.
+PROGRAM is what `rt run` leaves as out/ends_without_memory in crates/ends_without_memory. It ends with 0 where each event was done; with 1
+where one lacked memory that may, and all that was left to end was ended then; and with 2 where an abort, a force or a seal that makes nothing
+stable lacked memory, or an event was refused. The last may never be. The allocator is a library of C, put before the C library's own.
 """
 import os
 import subprocess
@@ -51,9 +51,11 @@ def main():
         subprocess.run(["cc", "-shared", "-fPIC", "-O1", "-o", shim, f"{folder}/shim.c"], check=True)
         for first in range(1, MOST):
             ended = status(os.path.abspath(sys.argv[1]), shim, first)
+            if ended == 0 and first == 1:
+                sys.exit("it ran without memory: it is not linked to the C library's allocator")
             if ended == 0:
                 print(f"{first - 1} allocations: with each of them refused, and all behind it, no end of a transaction and no force lacked memory")
-                sys.exit(first == 1)
+                return
             if ended != 1:
                 sys.exit(f"with all refused from allocation {first} on it ended with {ended}")
     sys.exit(f"it makes more than {MOST} allocations")

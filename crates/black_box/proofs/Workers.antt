@@ -89,9 +89,9 @@ module _ {D : Type 0} (g : Ghosts D) where
           sent = together.between.history;
           last = more.0;
           parts = more.1;
-          ends = subst (AllByRecursion EndsScript) (sym more.2) (last_ends c together.sent together.between together.last together.end together.ends);
-          end = together.end;
-          worked = subst (λ (n : ℕ). IsWorked tries plays.lines n together.between.history together.end) none together.worked;
+          ends = subst (AllByRecursion EndsScript) (sym more.2) (last_ends c together.sent together.between together.last together.workers_end together.last_are);
+          end = together.workers_end;
+          worked = subst (λ (n : ℕ). IsWorked tries plays.lines n together.between.history together.workers_end) none together.worked;
           front = subst (λ (x : Graph). WroteFront before (lines_text d.history ++ text_of (serial x (sealed d.history))) after) same written.front;
           plain = subst (λ (x : Graph). HasPlainReplies x d.history) same at_end.locked.plain;
           replies = played.replies ∙ ap (λ (x : Graph). serial_replies x (commits d.history)) same;

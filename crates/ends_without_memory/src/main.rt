@@ -1,5 +1,5 @@
-//! Ends transactions and forces commits among other events. Its status tells whether one of these lacked memory; `tools/refuse_memory` runs it
-//! with an allocator that refuses everything from some allocation on.
+//! Ends transactions and forces commits among other events, up to the first that lacks memory, and then all that is left to end. Its status tells
+//! whether an end lacked memory; `examples/tools/refused.py` runs it with an allocator that refuses everything from some allocation on.
 #![tactic(auto)]
 
 use disk_model::{Disk, MemoryDisk, Pick};
@@ -13,6 +13,9 @@ use std::process::ExitCode;
 const NO_MEMORY: u8 = 1;
 
 const UNDONE: u8 = 2;
+
+/// The sessions of the script.
+const SESSIONS: u32 = 2;
 
 /// Transactions that wrote, read, ran into a collection or made objects that stay volatile. The first makes an object stable, so it alone is
 /// ended by a `commit`, whose seal may lack memory.
@@ -55,13 +58,26 @@ fn new_heap(alloc: Global) -> Option<Heap<MemoryDisk>> {
     Heap::open(alloc, disk).ok()
 }
 
+/// Aborts what is active, and forces what was sealed and not acknowledged, and tells whether none of this lacked memory.
+fn is_ended<D: Disk>(heap: &mut Heap<D>) -> bool {
+    for s in 1..=SESSIONS {
+        if heap.active(s) && !is_done(heap, Event::Abort { s }).unwrap_or(false) {
+            return false;
+        }
+    }
+    let is_forced = heap.commits() == heap.history().acked();
+    is_forced || is_done(heap, Event::Force).unwrap_or(false)
+}
+
 /// Plays the script on a new heap, up to the first event that was not made. It gives the status.
 fn play(alloc: Global) -> Result<u8, ScriptError> {
     let script = read_script(alloc, SCRIPT.as_bytes())?;
     let mut heap = new_heap(alloc).ok_or(ScriptError::NoMemory)?;
     for line in &script {
-        if !is_made(&mut heap, line).map_err(|_| ScriptError::NoMemory)? {
-            return Ok(UNDONE);
+        match is_made(&mut heap, line) {
+            Ok(true) => {}
+            Err(_) if is_ended(&mut heap) => return Ok(NO_MEMORY),
+            _ => return Ok(UNDONE),
         }
     }
     Ok(0)

@@ -10,6 +10,6 @@ use Rattle.script_text.specs.Printed.{spelled_numbers, AreSpellable}
 abbrev pub printed_script : List Event → List ℕ
 printed_script events = flat_map (λ event. event_text event ++ 10 ∷ []) events
 
--- what a script can say of an event
+-- An event that a script can ask for: of a session or of none, with numbers that it can spell.
 abbrev pub IsPrintedEvent : Event → Type 0
 IsPrintedEvent event = IsOfSession event × AreSpellable (spelled_numbers event)

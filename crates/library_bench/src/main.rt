@@ -80,6 +80,7 @@ fn main(rt: HostRuntime) -> Result<(), Error> {
         Load::new(seed % 2_147_483_648, count),
         count,
     )?;
-    println!(rt; "events {}", heap.history().len())?;
+    let (events, commits) = (heap.history().len(), heap.commits());
+    println!(rt; "events {events} commits {commits}")?;
     Ok(())
 }

@@ -91,13 +91,13 @@ module _ (c : Core) (reached : IsReached c) (unfailed : IsUnfailed c) (sent : Li
     between = between;
     run = run;
     rest = rest;
-    end = end;
+    workers_end = end;
     worked = worked;
     refused = λ is. inl (refused is);
-    ends = are_last;
+    last_are = are_last;
     done = λ is. let good = done is in (good.0, last_all (all (done_known result is)) good.1, whole_all good.1);
-    all = λ is whole. last_all (all (refused_known result is)) (whole_unfailed whole);
-    cut = cut;
+    behind = λ is whole. last_all (all (refused_known result is)) (whole_unfailed whole);
+    outcome = cut;
   }
 
 module _ (tries : ℕ) (lines : List Line) (c : Core) (made : List Event) (d : Core) (result : Status) (reached : IsReached c) (unfailed : IsUnfailed c) (of : AllByRecursion IsOfSession made)

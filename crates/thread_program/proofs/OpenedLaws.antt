@@ -123,7 +123,7 @@ module _ (tries : ℕ) (lines : List Line) (c : Core) (running : IsRunning c) (n
       goes.is_end goes.failed goes.written goes.nothing (λ t whole. ⊎_elim
       (λ (none : after ≡ before). inl none)
       (λ (ok : r ≡ Ok tt). inr (last_all c running.reached running.unfailed sent between run of ended.made ended.unmade ended.core rest ended.parts ended.none end goes.none (ended.all ok)
-          (whole_unfailed c running.reached running.unfailed sent between run of ended.made ended.unmade ended.core rest ended.parts ended.none end goes.none whole)))
+      (whole_unfailed c running.reached running.unfailed sent between run of ended.made ended.unmade ended.core rest ended.parts ended.none end goes.none whole)))
       (goes.late t))
 
 module _ {D : Type 0} {g : Ghosts D} (tries : ℕ) (lines : List Line) (s : Super) (c : Core) (running : IsRunning c) (fresh : c.history ≡ []) (old mid new : Heap D g) (sent : List Event) (between : Core) (of : AllByRecursion IsOfSession sent)

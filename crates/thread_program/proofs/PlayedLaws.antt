@@ -32,7 +32,7 @@ use Rattle.heap_program.specs.Play.{IsRunning}
 use Rattle.heap_program.proofs.Behind.{HasImages, played_behind}
 use Rattle.heap_program.proofs.Causes.{disk_rose_since}
 use Rattle.heap_program.proofs.PlayFuse.{own_steps}
-use Rattle.thread_program.specs.Together.{asked_of, RunsByWorkers, StepsTogether, IsPlayedTogether}
+use Rattle.thread_program.specs.Together.{events_asked, RunsByWorkers, StepsTogether, IsPlayedTogether}
 use Rattle.thread_program.proofs.ChainLaws.{Whole, Short, ChainEnds, chain_ends, heap_run, steps_kept, steps_none}
 
 -- What was opened on the disk, up to the first event.
@@ -115,7 +115,7 @@ module _ {D : Type 0} {g : Ghosts D} (tells : IsTrue g.tells) (s : Super) (c : C
         counts = at_opening;
         opens = inl refl;
         calls = λ u. ⊎_elim (λ (all : Whole g c made core old.disk new.disk). all.2 ∙ sum (total_calls c made)) (λ (cut : Short g c made core old.disk new.disk). absurd (harmed u cut.2)) ends;
-        most = omega (arith, made_by.most, sum (total_calls c (asked_of runs.together.cut)));
+        most = omega (arith, made_by.most, sum (total_calls c (events_asked runs.together.outcome)));
         replies = replies_law core reached;
         least = least;
         durable = λ is. unsynced (unfailed_done is);

@@ -15,13 +15,13 @@ use Rattle.heap_program.specs.Headline.{IsEndOfPlay}
 use Rattle.heap_program.specs.Play.{IsRunning, MadeAll}
 use Rattle.heap_program.proofs.Limits.{limits_law}
 use Rattle.script_text.specs.declared.line.Line.{Line}
-use Rattle.thread_program.specs.Together.{MakesTogether, RunsByWorkers, IsUnwritten, PrintsTogether, PrintsSomeTogether}
+use Rattle.thread_program.specs.Together.{MakesTogether, RunsByWorkers, EndsUnwritten, PrintsTogether, PrintsSomeTogether}
 use Rattle.thread_program.specs.Written.{WritesAll}
 use Rattle.thread_program.proofs.MadeLaws.{made_again}
 
 module _ (c : Core) (running : IsRunning c) (new : c.history ≡ []) (tries : ℕ) (lines : List Line) (made : List Event) (core : Core) (of : AllByRecursion IsOfSession made) (result : Status) (told : Bool) (before after : List ℕ) where
   abbrev pub runs_by : (together : MakesTogether tries lines c made core result) → IsEndOfPlay result → (result ≡ status.DiskFault → (account core.history).failed ≢ None) → (IsTrue told → WritesAll core result before after)
-      → (IsErr together.end → IsTrue told → after ≡ before) → (IsTrue told → MadeAll c made core → (after ≡ before) ⊎ (together.last ≡ ending together.between)) → RunsByWorkers tries lines c result told before after
+      → (IsErr together.workers_end → IsTrue told → after ≡ before) → (IsTrue told → MadeAll c made core → (after ≡ before) ⊎ (together.last ≡ ending together.between)) → RunsByWorkers tries lines c result told before after
   runs_by together is_end failed written nothing late = record {
     made = made;
     sessions = of;
@@ -39,7 +39,7 @@ module _ (c : Core) (running : IsRunning c) (new : c.history ≡ []) (tries : �
 -- It says so of the script that was read, and of less of the image and of the disk.
 pub prints_script : {from less : Super → List (List Record) → Pages → (ℕ → ℕ) → Type 0} {rose rose' : Type 0} (read : List Line → Type 0) (tries : ℕ) (script : List Line) (by : Status) (told : Bool) (before after : List ℕ) → read script
     → ((s : Super) (batches : List (List Record)) (stored : Pages) (gates : ℕ → ℕ) → from s batches stored gates → less s batches stored gates) → (rose → rose') → PrintsSomeTogether from rose tries script by told before after
-    → IsUnwritten by told before after ⊎ ((lines : List Line) × read lines × PrintsTogether less rose' tries lines by told before after)
+    → EndsUnwritten by told before after ⊎ ((lines : List Line) × read lines × PrintsTogether less rose' tries lines by told before after)
 prints_script read tries script by told before after is implies more (inl nothing) = inl nothing
 prints_script read tries script by told before after is implies more (inr run) = inr (
   script,

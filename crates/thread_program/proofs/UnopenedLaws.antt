@@ -64,13 +64,13 @@ module _ {D : Type 0} (g : Ghosts D) {bytes : List ℕ} (stored : IsStored bytes
         between = c;
         run = refl;
         rest = refl;
-        end = Err failed;
+        workers_end = Err failed;
         worked = nothing_worked tries lines c.history failed some;
         refused = λ err. elim (open_refused e outside) [ inl memory ↦ inl (is ∙ memory) | inr fault ↦ inr (is ∙ fault, refl) ];
-        ends = inl refl;
+        last_are = inl refl;
         done = λ done. absurd (open_not_done e (sym is ∙ done));
-        all = λ refused whole. absurd (open_not_refused e (sym is ∙ refused));
-        cut = inl refl;
+        behind = λ refused whole. absurd (open_not_refused e (sym is ∙ refused));
+        outcome = inl refl;
       }
 
   -- No event was made, and nothing was written.

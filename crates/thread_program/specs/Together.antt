@@ -60,21 +60,21 @@ pub record MakesTogether (tries : ℕ) (lines : List Line) (c : Core) (made : Li
   pub run : IsRun c sent between
   pub rest : IsRun between last d
   -- whether each worker has sent all; else they have begun, since memory was refused to one of them, or the heap was not opened
-  pub end : Result (Unit {0}) AllocError
-  pub worked : IsWorked tries lines (length c.history) between.history end
-  pub refused : IsErr end → (result ≡ status.NoMemory) ⊎ ((result ≡ status.DiskFault) × (made ≡ []))
-  pub ends : AreLast c sent between last end
+  pub workers_end : Result (Unit {0}) AllocError
+  pub worked : IsWorked tries lines (length c.history) between.history workers_end
+  pub refused : IsErr workers_end → (result ≡ status.NoMemory) ⊎ ((result ≡ status.DiskFault) × (made ≡ []))
+  pub last_are : AreLast c sent between last workers_end
   -- in a run that is done each worker has sent all, the events that end a run followed, and the disk did all that it was asked
-  pub done : result ≡ status.Done → IsOk end × (last ≡ ending between) × MadeAll c made d
-  -- output that is refused comes behind the last event, unless the disk had failed or stopped
-  pub all : result ≡ status.WriteFault → MadeAll c made d → last ≡ ending between
+  pub done : result ≡ status.Done → IsOk workers_end × (last ≡ ending between) × MadeAll c made d
+  -- where output is refused the last of these was made, unless the disk had failed or stopped
+  pub behind : result ≡ status.WriteFault → MadeAll c made d → last ≡ ending between
   -- the disk did all that it was asked, or it failed or stopped in one event
-  pub cut : MadeAll c made d ⊎ IsCutAmong c made d
+  pub outcome : MadeAll c made d ⊎ IsCutAmong c made d
 
 -- the events in which the disk was asked: none behind the one in which it failed or stopped
-abbrev pub asked_of : {c d : Core} {made : List Event} → MadeAll c made d ⊎ IsCutAmong c made d → List Event
-asked_of {made = made} (inl all) = made
-asked_of (inr cut) = cut.before ++ cut.event ∷ []
+abbrev pub events_asked : {c d : Core} {made : List Event} → MadeAll c made d ⊎ IsCutAmong c made d → List Event
+events_asked {made = made} (inl all) = made
+events_asked (inr cut) = cut.before ++ cut.event ∷ []
 
 -- The workers of a script sent its events to a heap that was opened as the core c, and what was written is of the one history that they made.
 pub record RunsByWorkers (tries : ℕ) (lines : List Line) (c : Core) (result : Status) (told : Bool) (before after : List ℕ) : Type 0 where
@@ -89,27 +89,27 @@ pub record RunsByWorkers (tries : ℕ) (lines : List Line) (c : Core) (result : 
   pub again : result ≡ status.Done → all_events None c made ≡ made
   pub written : IsTrue told → WritesAll core result before after
   -- where memory was refused to a worker nothing is written
-  pub nothing : IsErr together.end → IsTrue told → after ≡ before
-  -- and nothing is written before the last of the events that end a run, unless the disk failed or stopped
+  pub nothing : IsErr together.workers_end → IsTrue told → after ≡ before
+  -- where something is written the last of the events that end a run was made, unless the disk failed or stopped
   pub late : IsTrue told → MadeAll c made core → (after ≡ before) ⊎ (together.last ≡ ending together.between)
   pub end : IsEndOfPlay result
 
 -- On any disk: a heap was opened with some graph, and workers sent their events to it. What was opened is `from` where that says. The disk failed or
--- stopped in an event only where its counts of that rose, unless memory was refused.
+-- stopped in an event only where its counts of that rose, unless memory was refused and nothing written.
 pub record PrintsTogether (from : Super → List (List Record) → Pages → (ℕ → ℕ) → Type 0) (rose : Type 0) (tries : ℕ) (lines : List Line) (result : Status) (told : Bool) (before after : List ℕ) : Type 0 where
   pub first : Core
   pub opened : IsOpened first
   pub image : from opened.super opened.batches opened.stored opened.gates
   pub runs : RunsByWorkers tries lines first result told before after
-  pub caused : (account runs.core.history).failed ≢ None → rose ⊎ (result ≡ status.NoMemory)
+  pub caused : (account runs.core.history).failed ≢ None → rose ⊎ ((result ≡ status.NoMemory) × (IsTrue told → after ≡ before))
 
 -- A run that is not done, whose output was not refused, and that wrote nothing.
-abbrev pub IsUnwritten : Status → Bool → List ℕ → List ℕ → Type 0
-IsUnwritten result told before after = (result ≢ status.Done) × (result ≢ status.WriteFault) × (IsTrue told → after ≡ before)
+abbrev pub EndsUnwritten : Status → Bool → List ℕ → List ℕ → Type 0
+EndsUnwritten result told before after = (result ≢ status.Done) × (result ≢ status.WriteFault) × (IsTrue told → after ≡ before)
 
 -- Nothing was written, or that was.
 abbrev pub PrintsSomeTogether : (Super → List (List Record) → Pages → (ℕ → ℕ) → Type 0) → Type 0 → ℕ → List Line → Status → Bool → List ℕ → List ℕ → Type 0
-PrintsSomeTogether from rose tries lines result told before after = IsUnwritten result told before after ⊎ PrintsTogether from rose tries lines result told before after
+PrintsSomeTogether from rose tries lines result told before after = EndsUnwritten result told before after ⊎ PrintsTogether from rose tries lines result told before after
 
 module _ {D : Type 0} {g : Ghosts D} where
   -- On a disk that tells: likewise, and each step says what it left on the disk.
@@ -118,7 +118,7 @@ module _ {D : Type 0} {g : Ghosts D} where
     pub steps : AreSteps (HeapStep g) c (heap_disk old) runs.made runs.core (heap_disk new)
     pub heap : IsHeap s runs.core new
     -- none of them calls the disk behind the one in which it failed or stopped
-    pub most : g.passed (heap_disk new) ≤ counted (total_calls c (asked_of runs.together.cut)) (g.passed (heap_disk old))
+    pub most : g.passed (heap_disk new) ≤ counted (total_calls c (events_asked runs.together.outcome)) (g.passed (heap_disk old))
 
 module _ {D : Type 0} (g : Ghosts D) where
   -- Workers sent events on a disk whose heap was opened as the core c, with so many calls at the opening: what is said of the disk in a play without a stop
@@ -130,7 +130,7 @@ module _ {D : Type 0} (g : Ghosts D) where
     pub still : final ≡ disk.stopped
     -- each event makes the calls that it is said to make, also behind a failure
     pub steps : AreSteps (HeapStep g) c disk.opened runs.made runs.core final
-    -- an opening that writes nothing is not stopped first
+    -- no stop came first where no event was made and the opening writes nothing, on a disk that had met none
     pub no_first_stop : at_opening ≡ 0 → runs.made ≡ [] → g.stops start ≡ 0 → g.stops final ≡ 0
     -- without a fault the disk did all that it was asked
     pub exact : Unharmed g start final → MadeAll c runs.made runs.core
@@ -138,11 +138,11 @@ module _ {D : Type 0} (g : Ghosts D) where
     pub counts : ℕ
     pub opens : CountsOpening at_opening result runs.made counts
     pub calls : Unharmed g start final → g.passed final ≡ counted (counts + total_calls c runs.made) (g.passed start)
-    pub most : g.passed final ≤ counted (at_opening + total_calls c (asked_of runs.together.cut)) (g.passed start)
+    pub most : g.passed final ≤ counted (at_opening + total_calls c (events_asked runs.together.outcome)) (g.passed start)
     pub replies : replies_of_commits runs.core.history ≡ serial_replies runs.core.g0 (commits runs.core.history)
     -- all that was acknowledged, or forced by an event that was not cut short, is sealed
     pub least : lasting runs.core ≤ length (sealed runs.core.history)
-    -- a run that is done leaves nothing unsynced, and so does each that the disk did not end, unless it failed in one of the events
+    -- a run that is done leaves nothing unsynced, and so does each run that the disk did not end, unless it failed in one of the events
     pub durable : result ≡ status.Done → Only (g.bytes final) (g.may_leave final)
     pub settled : result ≢ status.DiskFault → (account runs.core.history).failed ≡ None → Only (g.bytes final) (g.may_leave final)
 

@@ -20,7 +20,7 @@ ghost use Rattle.heap_model.specs.Opening.{IsFound};
 ghost use Rattle.heap_program.specs.Causes.{DiskRose, StreamCause, RunsDisk};
 ghost use Rattle.heap_program.specs.Commands.{makes, superblock_numbers, restarts_of, IsPlay, IsEndOf, CanRun, RunsFormat, PrintsGraph, WritesText, formatted_line};
 ghost use Rattle.heap_program.specs.CrashSafe.{RunsSafely};
-ghost use Rattle.thread_program.specs.Together.{IsUnwritten, PrintsTogether, RunsTogether, RunsTogetherSafely};
+ghost use Rattle.thread_program.specs.Together.{EndsUnwritten, PrintsTogether, RunsTogether, RunsTogetherSafely};
 ghost use Rattle.heap_program.specs.Load.{RunsLoad, SummarizesSome};
 ghost use Rattle.heap_program.specs.Headline.{OfTold, PrintsRun, IsOfOwnImage, Runs, IsUntouching, EndsUnread, EndsUnmade, BlamesNoImage, RestartsDisk, graph_text, stop_after};
 ghost use Rattle.heap_program.specs.Playable.{IsReadFrom};
@@ -39,7 +39,7 @@ use std::sync::Wait;
 use std::thread::Threads;
 
 /// Does what the words of the command line say: makes a heap on `disk`, plays the script that `source` gives, alone or by its workers, or a load, on a new heap
-/// or on the one that is there, or opens it; and writes the replies and the graph, or a summary, to `sink`. Each worker passes `gate` before each event of its lines.
+/// or on the one that is there, or opens it; and writes the replies and the graph, or a summary, to `sink`. Each worker passes `gate` before each event of its lines (tested).
 pub fn run<D: Disk + Send, S: Source, K: Sink, G: Gate + Sync, R: Threads + Wait + Sync>(
     rt: &R,
     alloc: Global,
@@ -86,7 +86,7 @@ pub fn run<D: Disk + Send, S: Source, K: Sink, G: Gate + Sync, R: Threads + Wait
     ensures threads { OfTold D.tells (D.bytes disk) (D.may_leave disk) ((fresh : Option ℕ) (tries : ℕ) → command (map string_bytes words.now) ≡ Some (asked.Threads fresh tries)
         → RunsTogether D.Disk fresh tries (IsReadFrom S.tells (S.left source.old)) disk result.1 result.0 K.tells (K.written sink.old) (K.written sink.new)) }
     ensures threads_prints { (fresh : Option ℕ) (tries : ℕ) → command (map string_bytes words.now) ≡ Some (asked.Threads fresh tries)
-        → IsUnwritten result.0 K.tells (K.written sink.old) (K.written sink.new) ⊎ ((lines : List Line) × IsReadFrom S.tells (S.left source.old) lines × PrintsTogether (IsOfOwnImage fresh D.tells (D.bytes disk)) (DiskRose (D.faults disk) (D.stops disk) (D.faults result.1) (D.stops result.1)) tries lines result.0 K.tells (K.written sink.old) (K.written sink.new)) }
+        → EndsUnwritten result.0 K.tells (K.written sink.old) (K.written sink.new) ⊎ ((lines : List Line) × IsReadFrom S.tells (S.left source.old) lines × PrintsTogether (IsOfOwnImage fresh D.tells (D.bytes disk)) (DiskRose (D.faults disk) (D.stops disk) (D.faults result.1) (D.stops result.1)) tries lines result.0 K.tells (K.written sink.old) (K.written sink.new)) }
 
     // A heap was made, with these numbers, or none was.
     ensures formats { OfTold D.tells (D.bytes disk) (D.may_leave disk) ((s : Super) → command (map string_bytes words.now) ≡ Some (asked.Format (superblock_numbers s))

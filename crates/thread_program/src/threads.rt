@@ -20,7 +20,7 @@ ghost use Rattle.heap_recovery.specs.Faults.{IsLeftOf};
 ghost use Rattle.script_text.specs.declared.line.Line.{Line};
 ghost use Rattle.script_text.specs.declared.script.ScriptError.TheVariants.{Fault};
 ghost use Rattle.script_text.specs.Script.{script};
-ghost use Rattle.thread_program.specs.Together.{RunsByWorkers, StepsTogether, IsPlayedTogether, IsUnwritten, PrintsTogether, PrintsSomeTogether, RunsTogether};
+ghost use Rattle.thread_program.specs.Together.{RunsByWorkers, StepsTogether, IsPlayedTogether, EndsUnwritten, PrintsTogether, PrintsSomeTogether, RunsTogether};
 
 use crate::ending::make_ending;
 use crate::writing::write_all;
@@ -63,7 +63,7 @@ pub fn run_threads<D: Disk + Send, S: Source, K: Sink, G: Gate + Sync, R: Thread
 
     ensures headline { OfTold D.tells (D.bytes disk) (D.may_leave disk)
         (RunsTogether D.Disk fresh tries (IsReadFrom S.tells (S.left source.old)) disk result.1 result.0 K.tells (K.written sink.old) (K.written sink.new)) }
-    ensures prints { IsUnwritten result.0 K.tells (K.written sink.old) (K.written sink.new)
+    ensures prints { EndsUnwritten result.0 K.tells (K.written sink.old) (K.written sink.new)
         ⊎ ((lines : List Line) × IsReadFrom S.tells (S.left source.old) lines × PrintsTogether (IsOfOwnImage fresh D.tells (D.bytes disk)) (DiskRose (D.faults disk) (D.stops disk) (D.faults result.1) (D.stops result.1)) tries lines result.0 K.tells (K.written sink.old) (K.written sink.new)) }
     ensures unwritten { ¬ BlamesNoImage result.0 → sink.new ≡ sink.old }
     ensures restarts { IsTrue D.tells → D.restarts result.1 ≡ D.restarts disk }
@@ -146,7 +146,7 @@ fn play_opened<D: Disk + Send, K: Sink, G: Gate + Sync, R: Threads + Wait + Sync
     ensures sink { StreamCause (K.faults sink.old) (K.faults sink.new) (result.0 ≡ Status.WriteFault) }
     ensures failed { result.0 ≡ Status.DiskFault → failed_at result.1 ≢ None }
     ensures caused { (c : Core) → IsCore c heap → IsRunning c → failed_at result.1 ≢ None
-        → DiskRose (D.faults (heap_disk heap)) (D.stops (heap_disk heap)) (D.faults (heap_disk result.1)) (D.stops (heap_disk result.1)) ⊎ (result.0 ≡ Status.NoMemory) }
+        → DiskRose (D.faults (heap_disk heap)) (D.stops (heap_disk heap)) (D.faults (heap_disk result.1)) (D.stops (heap_disk result.1)) ⊎ ((result.0 ≡ Status.NoMemory) × (sink.new ≡ sink.old)) }
     ensures core { (c : Core) → IsCore c heap → IsRunning c → c.history ≡ []
         → (runs : RunsByWorkers tries script.now c result.0 K.tells (K.written sink.old) (K.written sink.new)) × IsCore runs.core result.1 }
     ensures holds { IsTrue D.tells → (of : Super) (c : Core) → IsHeap of c heap → IsRunning c → c.history ≡ []

@@ -40,7 +40,7 @@ returns-in-Ok-serve_all-clause-serves g c =
         status = refl;
         next = refl;
         serves = o.is;
-        limits = session_limits g.S.Source.tells o.part o.rest c.serve_all.new.heap g.K.Sink.tells (g.K.Sink.written c.serve_all.new.sink) some.0 (g.K.Sink.written c.args.sink.now) _ o.is some.1.running.reached some.1.nothing;
+        limits = session_limits g.S.Source.tells o.part o.rest c.serve_all.new.heap g.K.Sink.tells (g.K.Sink.written c.serve_all.new.sink) some.0 (g.K.Sink.written c.args.sink.now) (Ok c.in-Ok-serve_all.next) o.is some.1.running.reached some.1.nothing;
       };
     })
 
@@ -62,7 +62,7 @@ returns-in-Err-serve_all-clause-serves g c =
         status = c.break_status.ensures;
         next = refl;
         serves = o.is;
-        limits = session_limits g.S.Source.tells o.part o.rest c.serve_all.new.heap g.K.Sink.tells (g.K.Sink.written c.serve_all.new.sink) some.0 (g.K.Sink.written c.args.sink.now) _ o.is some.1.running.reached some.1.nothing;
+        limits = session_limits g.S.Source.tells o.part o.rest c.serve_all.new.heap g.K.Sink.tells (g.K.Sink.written c.serve_all.new.sink) some.0 (g.K.Sink.written c.args.sink.now) (Err c.in-Err-serve_all.ended) o.is some.1.running.reached some.1.nothing;
       };
     })
 

@@ -85,7 +85,7 @@ returns-in-Ok-clause-prints g c =
       caused = λ failed. elim (c.play_opened-status.ensures.caused some.0 some.2 some.1.running (λ none. failed (sym told.1.memory.failure ∙ none))) [
         | inl rose ↦ inl (subst (λ x. DiskRose (d.faults c.args.disk) (d.stops c.args.disk) (d.faults x) (d.stops x)) (sym c.close.ensures)
             (disk_rose_since _ _ _ _ _ _ opening.faults_kept opening.stops_kept played.faults_kept played.stops_kept rose))
-        | inr memory ↦ inr memory
+        | inr memory ↦ inr (memory.0, λ t. ap g.K.Sink.written memory.1)
       ];
     })
 
@@ -101,7 +101,7 @@ returns-in-Ok-clause-disk g c =
       kept = omega (arith, opens.cause.faults_kept, opens.cause.stops_kept, plays.cause.faults_kept, plays.cause.stops_kept);
       cause = λ is. elim (c.play_opened-status.ensures.caused some.0 some.2 some.1.running (c.play_opened-status.ensures.failed is)) [
         | inl rose ↦ disk_rose_since _ _ _ _ _ _ opens.cause.faults_kept opens.cause.stops_kept plays.cause.faults_kept plays.cause.stops_kept rose
-        | inr memory ↦ absurd (let same = sym memory ∙ is in cc)
+        | inr memory ↦ absurd (let same = sym memory.0 ∙ is in cc)
       ];
     })
 
