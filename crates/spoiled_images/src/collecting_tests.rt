@@ -1,8 +1,7 @@
 //! Images within a collection, spoiled byte by byte.
-use crate::images::{Tally, disk_of, played};
-use crate::reader::{Verdict, read};
+use crate::heaps::played;
+use crate::judging::{Kind, Part, check_parts};
 use graph_model::Event;
-use heap_core::Heap;
 use std::alloc::{AllocError, Global};
 use std::process::Abort;
 use std::test::Fail;
@@ -87,50 +86,62 @@ const EVENTS: [Event; 24] = [
 
 /// The image that they leave, with transaction 2 as a loser.
 pub fn collecting_image(rt: &impl Abort, alloc: Global) -> Result<Vec<u8>, AllocError> {
-    let zeros = vec![in alloc; 0u8; IMAGE_BYTES]?;
-    let Ok(disk) = Heap::format(disk_of(alloc, &zeros)?, PAGES, LOG_BYTES, 1) else {
-        panic!(rt; "not made");
-    };
-    played(rt, alloc, disk, &EVENTS)?.contents().to_vec(alloc)
+    let disk = played(rt, alloc, IMAGE_BYTES, (PAGES, LOG_BYTES), &EVENTS)?;
+    disk.contents().to_vec(alloc)
 }
 
-fn spoil(rt: &impl Abort, alloc: Global, from: usize, to: usize) -> Result<Tally, AllocError> {
+/// The kinds that come wherever words are spoiled.
+const OF_WORDS: [(Kind, bool); 2] = [(Kind::Heap, true), (Kind::Address, true)];
+
+/// Spoils a part of the image. Each has a test of its own, since code that is only tried is slow, and a test has a minute.
+fn check_part(rt: &impl Abort, alloc: Global, part: &[Part]) -> Result<(), Fail> {
     let image = collecting_image(rt, alloc)?;
-    assert_eq!(rt; read(alloc, &image)?, Verdict::Heap);
-    let mut tally = Tally::new();
-    tally.spoil(rt, alloc, &image, from, to)?;
-    Ok(tally)
+    check_parts(rt, alloc, &image, part)
 }
+
+const RECORDS: [Part; 1] = [Part {
+    bytes: &[(LOG_AT + 640, LOG_AT + 840)],
+    kinds: &[
+        (Kind::Heap, true),
+        (Kind::Batch, true),
+        (Kind::Record, true),
+    ],
+}];
+
+const MORE_RECORDS: [Part; 1] = [Part {
+    bytes: &[(LOG_AT + 1_200, LOG_AT + 1_400)],
+    kinds: &OF_WORDS,
+}];
+
+const WORDS: [Part; 1] = [Part {
+    bytes: &[(FRAMES_AT, FRAMES_AT + 200)],
+    kinds: &OF_WORDS,
+}];
+
+/// The second frame of the page that the current space begins with, which is the one that counts.
+const CURRENT: usize = FRAMES_AT + 5 * 528;
+
+const CURRENT_WORDS: [Part; 1] = [Part {
+    bytes: &[(CURRENT, CURRENT + 200)],
+    kinds: &OF_WORDS,
+}];
 
 #[test]
 fn records_of_a_collection(rt: HostRuntime) -> Result<(), Fail> {
-    let tally = spoil(&rt, rt.alloc(), LOG_AT + 640, LOG_AT + 840)?;
-    assert!(rt;
-        tally.heaps > 0 && tally.batches > 0 && tally.records > 0,
-        "{tally:?}"
-    );
-    Ok(())
+    check_part(&rt, rt.alloc(), &RECORDS)
 }
 
 #[test]
 fn more_records_of_a_collection(rt: HostRuntime) -> Result<(), Fail> {
-    let tally = spoil(&rt, rt.alloc(), LOG_AT + 1_200, LOG_AT + 1_400)?;
-    assert!(rt; tally.heaps > 0 && tally.addresses > 0, "{tally:?}");
-    Ok(())
+    check_part(&rt, rt.alloc(), &MORE_RECORDS)
 }
 
 #[test]
 fn words_of_both_spaces(rt: HostRuntime) -> Result<(), Fail> {
-    let tally = spoil(&rt, rt.alloc(), FRAMES_AT, FRAMES_AT + 200)?;
-    assert!(rt; tally.heaps > 0 && tally.addresses > 0, "{tally:?}");
-    Ok(())
+    check_part(&rt, rt.alloc(), &WORDS)
 }
 
 #[test]
 fn words_of_the_current_space(rt: HostRuntime) -> Result<(), Fail> {
-    // The second frame of the page that the current space begins with, which is the one that counts.
-    let page = FRAMES_AT + 5 * 528;
-    let tally = spoil(&rt, rt.alloc(), page, page + 200)?;
-    assert!(rt; tally.heaps > 0 && tally.addresses > 0, "{tally:?}");
-    Ok(())
+    check_part(&rt, rt.alloc(), &CURRENT_WORDS)
 }

@@ -1,7 +1,8 @@
 //! Records of a collection in an image's last batch: the image is damaged at the record, and at the batch where it is none.
-use crate::images::{Tally, made_image, poke};
-use crate::reader::{Verdict, read};
-use crate::tests::{ABORTED, LOG_AT};
+use crate::images::{ABORTED, LOG_AT, made_image};
+use crate::judging::{Kind, Part, expect, expect_bytes, spoil_parts};
+use crate::reader::Verdict;
+use crate::spelling::{Numbers, spell, with_batch, with_numbers};
 use std::alloc::{AllocError, Global};
 use std::process::Abort;
 use std::test::Fail;
@@ -9,67 +10,13 @@ use std::test::Fail;
 /// The number of the first record of the last batch.
 const LAST: u64 = 11;
 
-/// The bytes of the last batch that the tests leave as they are or spoil.
-const ROOM: usize = 120;
-
 const FOLLOWS_NOT: Verdict = Verdict::Record(LAST);
 
 const NO_BATCH: Verdict = Verdict::Batch(ABORTED as u64);
 
-/// A batch with its open gate, and the next gate.
-fn batch_of(alloc: Global, records: &[u8]) -> Result<Vec<u8>, AllocError> {
-    let size = u32::try_from(records.len()).unwrap_or(u32::MAX);
-    let mut batch = vec![in alloc; 1u8]?;
-    batch.extend_from_slice(&size.to_le_bytes())?;
-    batch.extend_from_slice(records)?;
-    batch.push(0)?;
-    Ok(batch)
-}
+const BATCH_AT: usize = LOG_AT + ABORTED;
 
-/// An object's words behind the two addresses of a copy.
-fn push_copy(bytes: &mut Vec<u8>, from: u32, to: u32, words: &[u64]) -> Result<(), AllocError> {
-    bytes.extend_from_slice(&from.to_le_bytes())?;
-    bytes.extend_from_slice(&to.to_le_bytes())?;
-    for word in words {
-        bytes.extend_from_slice(&word.to_le_bytes())?;
-    }
-    Ok(())
-}
-
-fn copy(alloc: Global, words: &[u64]) -> Result<Vec<u8>, AllocError> {
-    let mut bytes = vec![in alloc; 7u8]?;
-    push_copy(&mut bytes, 0, u32::MAX, words)?;
-    Ok(bytes)
-}
-
-/// A `Scan` that says that it has so many writes, and has these.
-fn scan(alloc: Global, count: u16, writes: &[(u32, u64)]) -> Result<Vec<u8>, AllocError> {
-    let mut bytes = vec![in alloc; 8u8, 1, 0, 0, 0]?;
-    bytes.extend_from_slice(&count.to_le_bytes())?;
-    for (address, word) in writes {
-        bytes.extend_from_slice(&address.to_le_bytes())?;
-        bytes.extend_from_slice(&word.to_le_bytes())?;
-    }
-    Ok(bytes)
-}
-
-/// A `Flip` that says that it has so many copies, and has these.
-fn flip(alloc: Global, count: u32, objects: &[&[u64]]) -> Result<Vec<u8>, AllocError> {
-    let mut bytes = vec![in alloc; 9u8]?;
-    bytes.extend_from_slice(&count.to_le_bytes())?;
-    for words in objects {
-        push_copy(&mut bytes, 0, 64, words)?;
-    }
-    Ok(bytes)
-}
-
-/// The image with these records as its last batch.
-fn image_with(rt: &impl Abort, alloc: Global, records: &[u8]) -> Result<Vec<u8>, AllocError> {
-    let mut image = made_image(rt, alloc)?;
-    poke(rt, &mut image, LOG_AT + ABORTED, &batch_of(alloc, records)?);
-    Ok(image)
-}
-
+/// What is said of the image with these records as its last batch.
 fn check(
     rt: &impl Abort,
     alloc: Global,
@@ -77,150 +24,267 @@ fn check(
     verdict: Verdict,
     what: &str,
 ) -> Result<(), AllocError> {
-    let image = image_with(rt, alloc, records)?;
-    assert_eq!(rt; read(alloc, &image)?, verdict, "{what}");
-    Tally::new().compare(rt, alloc, &image, what, 0, 0)
+    let made = made_image(rt, alloc)?;
+    let image = with_batch(rt, alloc, &made, BATCH_AT, records)?;
+    expect(rt, alloc, &image, (what, records.len(), 0), verdict)
 }
+
+const COPY: (usize, u64) = (1, 7);
+
+const SCAN: (usize, u64) = (1, 8);
+
+const FLIP: (usize, u64) = (1, 9);
+
+/// The greatest address.
+const FAR: (usize, u64) = (4, 4_294_967_295);
+
+/// Whole records, none of which may follow. One without its last byte is none.
+const WHOLE: [(&str, Numbers<'static>); 7] = [
+    ("copy without fields", &[COPY, (4, 0), FAR, (8, 1), (8, 0)]),
+    (
+        "copy",
+        &[
+            COPY,
+            (4, 0),
+            FAR,
+            (8, 13),
+            (8, u64::MAX),
+            (8, 0),
+            (8, 30),
+            (8, 39),
+        ],
+    ),
+    ("empty scan", &[SCAN, (4, 1), (2, 0)]),
+    (
+        "scan",
+        &[
+            SCAN,
+            (4, 1),
+            (2, 4),
+            (4, 0),
+            (8, 0),
+            FAR,
+            (8, 9),
+            (4, 66),
+            (8, 26),
+            (4, 2),
+            (8, 43),
+        ],
+    ),
+    ("empty flip", &[FLIP, (4, 0)]),
+    (
+        "flip",
+        &[
+            FLIP,
+            (4, 2),
+            (4, 0),
+            (4, 64),
+            (8, 17),
+            (8, 0),
+            (8, 0),
+            (8, 0),
+            (8, 0),
+            (8, 5),
+            (4, 0),
+            (4, 64),
+            (8, 1),
+            (8, 0),
+        ],
+    ),
+    ("collected", &[(1, 10)]),
+];
 
 /// A whole record, and the same one without its last byte.
 fn check_whole(
     rt: &impl Abort,
     alloc: Global,
-    record: &[u8],
-    what: &str,
+    (what, numbers): (&str, Numbers<'_>),
 ) -> Result<(), AllocError> {
-    check(rt, alloc, record, FOLLOWS_NOT, what)?;
-    let cut = record.get(..record.len().saturating_sub(1)).unwrap_or(&[]);
-    if cut.is_empty() {
+    let mut record = Vec::new(alloc);
+    spell(&mut record, numbers)?;
+    check(rt, alloc, &record, FOLLOWS_NOT, what)?;
+    record.pop();
+    if record.is_empty() {
         return Ok(());
     }
-    check(rt, alloc, cut, NO_BATCH, what)
+    check(rt, alloc, &record, NO_BATCH, what)
 }
 
 #[test]
 fn none_follows(rt: HostRuntime) -> Result<(), Fail> {
-    let alloc = rt.alloc();
-    check_whole(&rt, alloc, &copy(alloc, &[1, 0])?, "copy without fields")?;
-    check_whole(
-        &rt,
-        alloc,
-        &copy(alloc, &[13, u64::MAX, 0, 30, 39])?,
-        "copy",
-    )?;
-    check_whole(&rt, alloc, &scan(alloc, 0, &[])?, "empty scan")?;
-    let writes = [(0, 0), (u32::MAX, 9), (66, 26), (2, 43)];
-    check_whole(&rt, alloc, &scan(alloc, 4, &writes)?, "scan")?;
-    check_whole(&rt, alloc, &flip(alloc, 0, &[])?, "empty flip")?;
-    check_whole(
-        &rt,
-        alloc,
-        &flip(alloc, 2, &[&[17, 0, 0, 0, 0, 5], &[1, 0]])?,
-        "flip",
-    )?;
-    check_whole(&rt, alloc, &[10], "collected")?;
+    for record in &WHOLE {
+        check_whole(&rt, rt.alloc(), *record)?;
+    }
     Ok(())
 }
 
-#[test]
-fn words_of_no_kind(rt: HostRuntime) -> Result<(), Fail> {
-    let alloc = rt.alloc();
-    for header in [0, 2, 3, 4, 2_045, 2_041, 5, u64::MAX] {
-        check(
-            &rt,
-            alloc,
-            &copy(alloc, &[header, 0])?,
-            NO_BATCH,
-            "header of a copy",
-        )?;
-        check(
-            &rt,
-            alloc,
-            &flip(alloc, 1, &[&[header, 0]])?,
-            NO_BATCH,
-            "header of a flip",
-        )?;
-    }
-    for word in [4, 16, 8_388_610, 16_387] {
-        check(
-            &rt,
-            alloc,
-            &copy(alloc, &[5, 0, word])?,
-            NO_BATCH,
-            "word of a copy",
-        )?;
-        check(
-            &rt,
-            alloc,
-            &flip(alloc, 2, &[&[1, 0], &[5, 0, word]])?,
-            NO_BATCH,
-            "word of a flip",
-        )?;
-        check(
-            &rt,
-            alloc,
-            &scan(alloc, 1, &[(3, word)])?,
-            NO_BATCH,
-            "word of a scan",
-        )?;
-    }
-    check(&rt, alloc, &[11], NO_BATCH, "no kind")?;
-    Ok(())
+/// A record in which a number of so many bytes has one of these values, between others.
+#[derive(Clone, Copy)]
+struct Filled {
+    what: &'static str,
+    front: Numbers<'static>,
+    size: usize,
+    values: &'static [u64],
+    back: Numbers<'static>,
 }
 
-/// Counts that are greater than what the batch has, and one that is less.
-#[test]
-fn counts_past_the_end(rt: HostRuntime) -> Result<(), Fail> {
-    let alloc = rt.alloc();
-    for count in [2, 256, u16::MAX] {
-        check(
-            &rt,
-            alloc,
-            &scan(alloc, count, &[(3, 9)])?,
-            NO_BATCH,
-            "count of a scan",
-        )?;
-    }
-    for count in [2, 65_537, u32::MAX] {
-        check(
-            &rt,
-            alloc,
-            &flip(alloc, count, &[&[1, 0]])?,
-            NO_BATCH,
-            "count of a flip",
-        )?;
-    }
-    check(
-        &rt,
-        alloc,
-        &flip(alloc, u32::MAX, &[])?,
-        NO_BATCH,
-        "count alone",
-    )?;
+/// Headers of no object.
+const HEADERS: [u64; 8] = [0, 2, 3, 4, 2_045, 2_041, 5, u64::MAX];
+
+/// Words that no field may hold.
+const WORDS: [u64; 4] = [4, 16, 8_388_610, 16_387];
+
+/// Records that are none: bad headers and words, counts that are greater than what the batch has, and one that is less.
+const NONE: [Filled; 10] = [
+    Filled {
+        what: "header of a copy",
+        front: &[COPY, (4, 0), FAR],
+        size: 8,
+        values: &HEADERS,
+        back: &[(8, 0)],
+    },
+    Filled {
+        what: "header of a flip",
+        front: &[FLIP, (4, 1), (4, 0), (4, 64)],
+        size: 8,
+        values: &HEADERS,
+        back: &[(8, 0)],
+    },
+    Filled {
+        what: "word of a copy",
+        front: &[COPY, (4, 0), FAR, (8, 5), (8, 0)],
+        size: 8,
+        values: &WORDS,
+        back: &[],
+    },
+    Filled {
+        what: "word of a flip",
+        front: &[
+            FLIP,
+            (4, 2),
+            (4, 0),
+            (4, 64),
+            (8, 1),
+            (8, 0),
+            (4, 0),
+            (4, 64),
+            (8, 5),
+            (8, 0),
+        ],
+        size: 8,
+        values: &WORDS,
+        back: &[],
+    },
+    Filled {
+        what: "word of a scan",
+        front: &[SCAN, (4, 1), (2, 1), (4, 3)],
+        size: 8,
+        values: &WORDS,
+        back: &[],
+    },
+    Filled {
+        what: "no kind",
+        front: &[],
+        size: 1,
+        values: &[11],
+        back: &[],
+    },
+    Filled {
+        what: "count of a scan",
+        front: &[SCAN, (4, 1)],
+        size: 2,
+        values: &[2, 256, 65_535],
+        back: &[(4, 3), (8, 9)],
+    },
+    Filled {
+        what: "count of a flip",
+        front: &[FLIP],
+        size: 4,
+        values: &[2, 65_537, 4_294_967_295],
+        back: &[(4, 0), (4, 64), (8, 1), (8, 0)],
+    },
+    Filled {
+        what: "count alone",
+        front: &[FLIP],
+        size: 4,
+        values: &[4_294_967_295],
+        back: &[],
+    },
     // The write that is not counted begins with a byte of no kind.
-    check(
-        &rt,
-        alloc,
-        &scan(alloc, 0, &[(3 << 24, 9)])?,
-        NO_BATCH,
-        "scan of none",
-    )?;
+    Filled {
+        what: "scan of none",
+        front: &[SCAN, (4, 1), (2, 0), (4, 3 << 24)],
+        size: 8,
+        values: &[9],
+        back: &[],
+    },
+];
+
+/// The image is damaged at the batch of each of these records.
+fn check_none(rt: &impl Abort, alloc: Global, filled: &Filled) -> Result<(), AllocError> {
+    for value in filled.values {
+        let mut record = Vec::new(alloc);
+        spell(&mut record, filled.front)?;
+        spell(&mut record, &[(filled.size, *value)])?;
+        spell(&mut record, filled.back)?;
+        check(rt, alloc, &record, NO_BATCH, filled.what)?;
+    }
     Ok(())
 }
+
+#[test]
+fn none_is_a_record(rt: HostRuntime) -> Result<(), Fail> {
+    for filled in &NONE {
+        check_none(&rt, rt.alloc(), filled)?;
+    }
+    Ok(())
+}
+
+/// A flip, a scan and an end of a collection.
+const THREE: Numbers<'static> = &[
+    FLIP,
+    (4, 2),
+    (4, 0),
+    (4, 64),
+    (8, 9),
+    (8, 0),
+    (8, 0),
+    (8, 30),
+    (4, 0),
+    (4, 64),
+    (8, 1),
+    (8, 0),
+    SCAN,
+    (4, 1),
+    (2, 2),
+    (4, 66),
+    (8, 26),
+    (4, 3),
+    (8, 9),
+    (1, 10),
+];
+
+/// Where they end, behind their batch's gate and length.
+const THREE_END: usize = BATCH_AT + 5 + 101;
+
+/// The last of them, and the gate behind them.
+const ENDS: [(usize, u8); 2] = [(THREE_END - 1, 10), (THREE_END, 0)];
+
+/// All bytes of their batch, and the next gate.
+const BATCH: [Part; 1] = [Part {
+    bytes: &[(BATCH_AT, THREE_END + 1)],
+    kinds: &[
+        (Kind::Heap, true),
+        (Kind::Batch, true),
+        (Kind::Record, true),
+    ],
+}];
 
 #[test]
 fn spoiled_bytes(rt: HostRuntime) -> Result<(), Fail> {
     let alloc = rt.alloc();
-    let mut records = flip(alloc, 2, &[&[9, 0, 0, 30], &[1, 0]])?;
-    records.extend_from_slice(&scan(alloc, 2, &[(66, 26), (3, 9)])?)?;
-    records.push(10)?;
-    assert!(rt; records.len() < ROOM);
-    let image = image_with(&rt, alloc, &records)?;
-    let end = LOG_AT + ABORTED + 5 + records.len();
-    let mut tally = Tally::new();
-    tally.spoil(&rt, alloc, &image, LOG_AT + ABORTED, end + 1)?;
-    assert!(rt;
-        tally.heaps > 0 && tally.batches > 0 && tally.records > 0,
-        "{tally:?}"
-    );
-    Ok(())
+    let made = made_image(&rt, alloc)?;
+    let image = with_numbers(&rt, alloc, &made, BATCH_AT, THREE)?;
+    expect_bytes(&rt, &image, &ENDS);
+    spoil_parts(&rt, alloc, &image, &BATCH)
 }

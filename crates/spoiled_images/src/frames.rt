@@ -26,7 +26,7 @@ struct Frame<'a> {
 }
 
 /// The pages of both spaces.
-#[derive(Debug, Drop)]
+#[derive(Drop)]
 pub struct Pages {
     /// The LSN of each page.
     lsns: Vec<u64>,

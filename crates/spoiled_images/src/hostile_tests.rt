@@ -1,22 +1,9 @@
 //! Images within a collection that no heap has left: words that lead elsewhere, and records that can't follow.
 use crate::collecting_tests::{FRAMES_AT, LOG_AT, collecting_image};
-use crate::images::{Tally, poke};
-use crate::reader::{Verdict, read};
-use std::alloc::{AllocError, Global};
-use std::process::Abort;
+use crate::judging::{expect, poke};
+use crate::reader::Verdict;
+use crate::spelling::{Numbers, expect_batches};
 use std::test::Fail;
-
-/// Compares what the heap and the second reading say of an image, and that it is this.
-fn check(
-    rt: &impl Abort,
-    alloc: Global,
-    image: &[u8],
-    verdict: Verdict,
-    case: usize,
-) -> Result<(), AllocError> {
-    assert_eq!(rt; read(alloc, image)?, verdict, "case {case}");
-    Tally::new().compare(rt, alloc, image, "case", case, 0)
-}
 
 /// Where a word of the image stands that its pages hold: in the first frame of page 0, or in the second one of page 2.
 fn word_at(address: usize) -> usize {
@@ -64,21 +51,18 @@ const WORDS: [(usize, u64, Verdict); 20] = [
 fn words_of_a_collection(rt: HostRuntime) -> Result<(), Fail> {
     let alloc = rt.alloc();
     let image = collecting_image(&rt, alloc)?;
-    for (case, (address, word, verdict)) in WORDS.iter().enumerate() {
+    for (address, word, verdict) in &WORDS {
         let mut spoiled = image.to_vec(alloc)?;
         poke(&rt, &mut spoiled, word_at(*address), &word.to_le_bytes());
-        check(&rt, alloc, &spoiled, *verdict, case)?;
+        expect(&rt, alloc, &spoiled, ("word", *address, *word), *verdict)?;
     }
     Ok(())
 }
 
-/// A record as numbers, each with the bytes that it takes.
-type Numbers = &'static [(usize, u64)];
-
 const COLLECTED: (usize, u64) = (1, 10);
 
 /// What is appended to the log of 16 records, and what is said of that.
-const RECORDS: [(Numbers, Verdict); 14] = [
+const RECORDS: [(Numbers<'static>, Verdict); 14] = [
     // The end, while an object is gray; and behind the scan of its page, with its field led on and as it was.
     (&[COLLECTED], Verdict::Record(17)),
     (
@@ -161,17 +145,6 @@ const RECORDS: [(Numbers, Verdict); 14] = [
     ),
 ];
 
-/// The bytes of these numbers.
-fn spell(alloc: Global, numbers: Numbers) -> Result<Vec<u8>, AllocError> {
-    let mut bytes = Vec::new(alloc);
-    for (size, number) in numbers {
-        for byte in number.to_le_bytes().iter().take(*size) {
-            bytes.push(*byte)?;
-        }
-    }
-    Ok(bytes)
-}
-
 /// Where the first closed gate stands.
 fn log_end(image: &[u8]) -> usize {
     let mut at = LOG_AT;
@@ -185,29 +158,8 @@ fn log_end(image: &[u8]) -> usize {
     at
 }
 
-/// The image with a batch of these bytes more.
-fn with_batch(
-    rt: &impl Abort,
-    alloc: Global,
-    image: &[u8],
-    records: &[u8],
-) -> Result<Vec<u8>, AllocError> {
-    let mut longer = image.to_vec(alloc)?;
-    let at = log_end(image);
-    let size = u32::try_from(records.len()).unwrap_or(0);
-    poke(rt, &mut longer, at, &[1]);
-    poke(rt, &mut longer, at.saturating_add(1), &size.to_le_bytes());
-    poke(rt, &mut longer, at.saturating_add(5), records);
-    Ok(longer)
-}
-
 #[test]
 fn records_of_a_collection_that_cannot_follow(rt: HostRuntime) -> Result<(), Fail> {
-    let alloc = rt.alloc();
-    let image = collecting_image(&rt, alloc)?;
-    for (case, (numbers, verdict)) in RECORDS.iter().enumerate() {
-        let longer = with_batch(&rt, alloc, &image, &spell(alloc, numbers)?)?;
-        check(&rt, alloc, &longer, *verdict, case)?;
-    }
-    Ok(())
+    let image = collecting_image(&rt, rt.alloc())?;
+    expect_batches(&rt, rt.alloc(), &image, log_end(&image), &RECORDS)
 }

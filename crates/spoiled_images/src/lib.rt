@@ -2,15 +2,9 @@
 //! slowly. The tests spoil images byte by byte, and compare what the heap answers with what this reading says.
 #![tactic(auto)]
 
+// What reads images here serves the tests alone, so it is proved with them and not once more without them.
+#[cfg(test)]
 mod bytes;
-mod frames;
-mod reader;
-mod records;
-mod state;
-mod walk;
-
-pub use reader::{Verdict, read};
-
 #[cfg(test)]
 mod collecting_tests;
 #[cfg(test)]
@@ -18,10 +12,26 @@ mod collection_tests;
 #[cfg(test)]
 mod frame_tests;
 #[cfg(test)]
+mod frames;
+#[cfg(test)]
+mod heaps;
+#[cfg(test)]
 mod hostile_tests;
 #[cfg(test)]
 mod images;
 #[cfg(test)]
+mod judging;
+#[cfg(test)]
+mod reader;
+#[cfg(test)]
+mod records;
+#[cfg(test)]
+mod spelling;
+#[cfg(test)]
+mod state;
+#[cfg(test)]
 mod stored_image;
 #[cfg(test)]
 mod tests;
+#[cfg(test)]
+mod walk;

@@ -46,11 +46,28 @@ const LOSER_BYTES: u64 = 10;
 /// What an `Undo` takes.
 const UNDO_BYTES: u64 = 19;
 
+/// The letters and the number of the format that a superblock begins with, behind its open gate.
+const FRONT: &[u8] = b"\x01stbheap\x01\x00\x00\x00";
+
 /// The numbers of a superblock.
 #[derive(Drop)]
 struct Shape {
     pages: u32,
     log_bytes: u32,
+    first: u32,
+}
+
+impl Shape {
+    fn is_in_limits(&self) -> bool {
+        (1..=16_384).contains(&self.pages)
+            && (64..=1_073_741_824).contains(&self.log_bytes)
+            && self.first >= 1
+    }
+
+    /// The bytes of the whole image.
+    fn size(&self) -> u64 {
+        SUPER_BYTES as u64 + u64::from(self.log_bytes) + FRAME_BYTES * u64::from(self.pages)
+    }
 }
 
 /// The batches of a log.
@@ -111,25 +128,33 @@ fn first_unfit(state: &mut State, records: &[Record]) -> Result<Option<u64>, All
 
 /// The numbers of a good superblock, the log, and the frames behind it.
 fn read_shape(image: &[u8]) -> Option<(Shape, &[u8], &[u8])> {
-    let (front, zeros) = image
-        .get(..SUPER_BYTES)?
-        .split_at_checked(SUPER_BYTES - SUPER_ZEROS)?;
-    let numbers = front.strip_prefix(b"\x01stbheap\x01\x00\x00\x00")?;
-    let mut cursor = Cursor::new(numbers);
-    let pages = cursor.take_u32()?;
-    let log_bytes = cursor.take_u32()?;
-    let first = cursor.take_u32()?;
-    let in_limits = (1..=16_384).contains(&pages)
-        && (64..=1_073_741_824).contains(&log_bytes)
-        && first >= 1;
-    let size = SUPER_BYTES as u64 + u64::from(log_bytes) + FRAME_BYTES * u64::from(pages);
-    if !in_limits || !zeros.iter().all(|byte| *byte == 0) || (image.len() as u64) < size {
+    let (block, rest) = image.split_at_checked(SUPER_BYTES)?;
+    let shape = read_super(block)?;
+    if (image.len() as u64) < shape.size() {
         return None;
     }
-    let (log, frames) = image
-        .get(SUPER_BYTES..)?
-        .split_at_checked(log_bytes as usize)?;
-    Some((Shape { pages, log_bytes }, log, frames))
+    let (log, frames) = rest.split_at_checked(shape.log_bytes as usize)?;
+    Some((shape, log, frames))
+}
+
+/// The numbers of a superblock, which are within their limits and have zeros behind them.
+fn read_super(block: &[u8]) -> Option<Shape> {
+    let (front, zeros) = block.split_at_checked(SUPER_BYTES - SUPER_ZEROS)?;
+    let shape = read_numbers(front.strip_prefix(FRONT)?)?;
+    if shape.is_in_limits() && zeros.iter().all(|byte| *byte == 0) {
+        Some(shape)
+    } else {
+        None
+    }
+}
+
+fn read_numbers(numbers: &[u8]) -> Option<Shape> {
+    let mut cursor = Cursor::new(numbers);
+    Some(Shape {
+        pages: cursor.take_u32()?,
+        log_bytes: cursor.take_u32()?,
+        first: cursor.take_u32()?,
+    })
 }
 
 /// Adds the records of all batches.
@@ -171,13 +196,25 @@ fn read_batch(
         if offset != next {
             continue;
         }
-        let Some((record, size)) = read_record(alloc, &body[offset..])? else {
+        let Some(size) = add_record(alloc, &body[offset..], records)? else {
             return Ok(None);
         };
-        records.push(record)?;
         next = offset.saturating_add(size);
     }
     Ok(Some(BATCH_HEAD.saturating_add(body.len())))
+}
+
+/// Adds the record that the bytes begin with, and gives its size.
+fn add_record(
+    alloc: Global,
+    bytes: &[u8],
+    records: &mut Vec<Record>,
+) -> Result<Option<usize>, AllocError> {
+    let Some((record, size)) = read_record(alloc, bytes)? else {
+        return Ok(None);
+    };
+    records.push(record)?;
+    Ok(Some(size))
 }
 
 /// The bytes of a batch's records.

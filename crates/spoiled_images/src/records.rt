@@ -15,7 +15,7 @@ const AREA_WORDS: u64 = 4_096;
 const FRONT_WORDS: u64 = 2;
 
 /// A record of the log.
-#[derive(Debug, Drop)]
+#[derive(Drop)]
 pub enum Record {
     Update {
         t: u32,
@@ -59,7 +59,7 @@ pub enum Record {
 }
 
 /// An object that is copied: its words, where they stood and where they go.
-#[derive(Debug, Drop)]
+#[derive(Drop)]
 pub struct Copied {
     pub from: u32,
     pub to: u32,
@@ -129,29 +129,43 @@ pub fn read_record(alloc: Global, bytes: &[u8]) -> Result<Option<(Record, usize)
 fn take_small(kind: u8, cursor: &mut Cursor<'_>) -> Option<Record> {
     let t = cursor.take_u32()?;
     match kind {
-        1 => Some(Record::Update {
-            t,
-            object: cursor.take_u32()?,
-            field: cursor.take_u16()?,
-            was: take_field_word(cursor)?,
-            word: take_field_word(cursor)?,
-        }),
-        3 => Some(Record::Fix {
-            t,
-            object: cursor.take_u32()?,
-            field: cursor.take_u16()?,
-            word: take_field_word(cursor)?,
-        }),
-        4 => Some(Record::Undo {
-            t,
-            object: cursor.take_u32()?,
-            field: cursor.take_u16()?,
-            word: take_field_word(cursor)?,
-        }),
+        1 | 3 | 4 => take_written(kind, t, cursor),
         5 => Some(Record::Commit { t }),
         6 => Some(Record::End { t }),
         _ => None,
     }
+}
+
+/// The fields of a record of this kind that writes into an object.
+fn take_written(kind: u8, t: u32, cursor: &mut Cursor<'_>) -> Option<Record> {
+    let (object, field) = take_place(cursor)?;
+    let word = take_field_word(cursor)?;
+    match kind {
+        1 => take_field_word(cursor).map(|to| Record::Update {
+            t,
+            object,
+            field,
+            was: word,
+            word: to,
+        }),
+        3 => Some(Record::Fix {
+            t,
+            object,
+            field,
+            word,
+        }),
+        _ => Some(Record::Undo {
+            t,
+            object,
+            field,
+            word,
+        }),
+    }
+}
+
+/// An object, and one of its fields.
+fn take_place(cursor: &mut Cursor<'_>) -> Option<(u32, u16)> {
+    Some((cursor.take_u32()?, cursor.take_u16()?))
 }
 
 fn take_field_word(cursor: &mut Cursor<'_>) -> Option<u64> {
@@ -163,46 +177,42 @@ fn take_field_word(cursor: &mut Cursor<'_>) -> Option<u64> {
     }
 }
 
-/// An object behind two numbers, as far as its fields.
-#[derive(Drop)]
-struct Front {
-    first: u32,
-    second: u32,
-    header: u64,
-    birth: u64,
-    fields: u64,
-}
-
-fn take_front(cursor: &mut Cursor<'_>) -> Option<Front> {
-    let first = cursor.take_u32()?;
-    let second = cursor.take_u32()?;
+/// An object's header and birth, and how many fields it has.
+fn take_front(cursor: &mut Cursor<'_>) -> Option<(u64, u64, u64)> {
     let header = cursor.take_u64()?;
     let birth = cursor.take_u64()?;
-    let fields = fields_of(header)?;
-    Some(Front {
-        first,
-        second,
-        header,
-        birth,
-        fields,
-    })
+    Some((header, birth, fields_of(header)?))
+}
+
+/// Two numbers of 32 bits.
+fn take_pair(cursor: &mut Cursor<'_>) -> Option<(u32, u32)> {
+    Some((cursor.take_u32()?, cursor.take_u32()?))
+}
+
+/// The words of an object.
+fn take_words(alloc: Global, cursor: &mut Cursor<'_>) -> Result<Option<Vec<u64>>, AllocError> {
+    let Some((header, birth, fields)) = take_front(cursor) else {
+        return Ok(None);
+    };
+    let mut words = vec![in alloc; header, birth]?;
+    for _field in 0..fields {
+        let Some(word) = take_field_word(cursor) else {
+            return Ok(None);
+        };
+        words.push(word)?;
+    }
+    Ok(Some(words))
 }
 
 /// Two numbers and the words of an object.
 type Numbered = (u32, u32, Vec<u64>);
 
 fn take_object(alloc: Global, cursor: &mut Cursor<'_>) -> Result<Option<Numbered>, AllocError> {
-    let Some(front) = take_front(cursor) else {
+    let Some((first, second)) = take_pair(cursor) else {
         return Ok(None);
     };
-    let mut words = vec![in alloc; front.header, front.birth]?;
-    for _field in 0..front.fields {
-        let Some(word) = take_field_word(cursor) else {
-            return Ok(None);
-        };
-        words.push(word)?;
-    }
-    Ok(Some((front.first, front.second, words)))
+    let words = take_words(alloc, cursor)?;
+    Ok(words.map(|words| (first, second, words)))
 }
 
 fn take_base(alloc: Global, cursor: &mut Cursor<'_>) -> Result<Option<Record>, AllocError> {

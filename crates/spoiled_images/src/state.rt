@@ -9,7 +9,7 @@ use std::alloc::{AllocError, Global};
 const ROOT_WORDS: u64 = 6;
 
 /// A write that may be taken back: where it was made, and what stood there.
-#[derive(Clone, Copy, Debug, PartialEq, Eq)]
+#[derive(Clone, Copy, PartialEq, Eq)]
 struct UndoEntry {
     t: u32,
     object: u32,
@@ -44,7 +44,7 @@ impl UndoEntry {
 }
 
 /// A collection that runs.
-#[derive(Debug, Drop)]
+#[derive(Drop)]
 pub struct Collection {
     /// The first word of the from-space.
     pub first: u64,
@@ -59,7 +59,7 @@ pub struct Collection {
 }
 
 /// The state after some records.
-#[derive(Debug, Drop)]
+#[derive(Drop)]
 pub struct State {
     alloc: Global,
     /// The first word of the current space.

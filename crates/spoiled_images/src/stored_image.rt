@@ -1,9 +1,8 @@
 //! An image with stored pages, some of them twice.
-use crate::images::{disk_of, played};
+use crate::heaps::played;
 use disk_model::{Disk, MemoryDisk};
 use gated_log::Log;
 use graph_model::Event;
-use heap_core::Heap;
 use image_plan::Plan;
 use log_machine::replay;
 use log_records::Record;
@@ -115,29 +114,27 @@ const OTHER_LSN: u64 = 9;
 
 /// Where a frame begins: the first or second one of this page.
 pub fn frame_at(page: usize, second: bool) -> usize {
-    let frame = page
-        .saturating_mul(2)
-        .saturating_add(if second { 1 } else { 0 });
-    frame.saturating_mul(FRAME_BYTES).saturating_add(FRAMES_AT)
+    let place = if second { 1 } else { 0 };
+    page.saturating_mul(2)
+        .saturating_add(place)
+        .saturating_mul(FRAME_BYTES)
+        .saturating_add(FRAMES_AT)
 }
 
 /// The image, in which pages 0 and 1 have two open frames, page 2 has one and page 3 none.
 pub fn stored_image(rt: &impl Abort, alloc: Global) -> Result<Vec<u8>, Fail> {
-    let mut disk = made_disk(rt, alloc)?;
+    let mut disk = played(
+        rt,
+        alloc,
+        IMAGE_BYTES,
+        (PLAN.pages, PLAN.log_bytes),
+        &EVENTS,
+    )?;
     for (after, page) in STORES {
         store_page(rt, alloc, &mut disk, after, page)?;
     }
     store_other(rt, alloc, &mut disk)?;
     Ok(disk.contents().to_vec(alloc)?)
-}
-
-/// A disk on which the events were made, and no page is stored.
-fn made_disk(rt: &impl Abort, alloc: Global) -> Result<MemoryDisk, AllocError> {
-    let zeros = vec![in alloc; 0u8; IMAGE_BYTES]?;
-    let Ok(disk) = Heap::format(disk_of(alloc, &zeros)?, PLAN.pages, PLAN.log_bytes, 1) else {
-        panic!(rt; "not made");
-    };
-    played(rt, alloc, disk, &EVENTS)
 }
 
 /// The records of the log.

@@ -1,194 +1,205 @@
 //! Spoiled images, each of which the heap opens or refuses exactly as the second reading says.
-use crate::images::{LOG_BYTES, ROLLBACK, Tally, USED, made_image, poke};
-use crate::reader::{Verdict, read};
-use std::alloc::{AllocError, Global};
+use crate::images::{ABORTED, COMMITTED, LOG_AT, LOG_BYTES, ROLLBACK, USED, made_image};
+use crate::judging::{Kind, Part, Tally, check_parts, expect_bytes, poke};
+use crate::reader::Verdict;
+use crate::spelling::{Numbers, expect_batches, with_numbers};
+use std::alloc::Global;
 use std::process::Abort;
 use std::test::Fail;
-
-pub const LOG_AT: usize = 64;
-
-/// The bytes of the log of the first batch, and of the first two.
-const COMMITTED: usize = 176;
-
-pub const ABORTED: usize = 232;
 
 /// Where END is once both objects are promoted.
 const END: u32 = 13;
 
-fn spoil(rt: &impl Abort, alloc: Global, from: usize, to: usize) -> Result<Tally, AllocError> {
-    let image = made_image(rt, alloc)?;
-    let mut tally = Tally::new();
-    tally.spoil(rt, alloc, &image, from, to)?;
-    Ok(tally)
-}
+/// The closed gate that ends the log, and the open one of its last batch.
+const GATES: [(usize, u8); 2] = [(LOG_AT + USED - 1, 0), (LOG_AT + ABORTED, 1)];
+
+/// The kinds that come wherever records are spoiled.
+const OF_RECORDS: [(Kind, bool); 3] = [
+    (Kind::Heap, true),
+    (Kind::Batch, true),
+    (Kind::Record, true),
+];
+
+/// Those that come too where words are.
+const OF_WORDS: [(Kind, bool); 5] = [
+    (Kind::Heap, true),
+    (Kind::Batch, true),
+    (Kind::Record, true),
+    (Kind::Address, true),
+    (Kind::Reserve, true),
+];
+
+/// The superblock; the writes of the first batch, the objects that it promotes, its other records; the transaction that is aborted;
+/// and the losers.
+const PARTS: [Part; 6] = [
+    Part {
+        bytes: &[(0, LOG_AT)],
+        kinds: &[
+            (Kind::Heap, true),
+            (Kind::NotHeap, true),
+            (Kind::Batch, true),
+        ],
+    },
+    Part {
+        bytes: &[(LOG_AT, LOG_AT + 59)],
+        kinds: &OF_WORDS,
+    },
+    Part {
+        bytes: &[(LOG_AT + 59, LOG_AT + 133)],
+        kinds: &OF_RECORDS,
+    },
+    Part {
+        bytes: &[(LOG_AT + 133, LOG_AT + COMMITTED)],
+        kinds: &OF_WORDS,
+    },
+    Part {
+        bytes: &[(LOG_AT + COMMITTED, LOG_AT + ABORTED)],
+        kinds: &OF_RECORDS,
+    },
+    Part {
+        bytes: &[(LOG_AT + ABORTED, LOG_AT + USED + 8)],
+        kinds: &OF_RECORDS,
+    },
+];
 
 #[test]
-fn unspoiled(rt: HostRuntime) -> Result<(), Fail> {
-    let alloc = rt.alloc();
-    let image = made_image(&rt, alloc)?;
-    assert_eq!(rt; read(alloc, &image)?, Verdict::Heap);
-    let gates: [Option<&u8>; 2] = [image.get(LOG_AT + USED - 1), image.get(LOG_AT + ABORTED)];
-    assert_eq!(rt; gates, [Some(&0), Some(&1)]);
-    Ok(())
+fn superblock_and_log(rt: HostRuntime) -> Result<(), Fail> {
+    let image = made_image(&rt, rt.alloc())?;
+    expect_bytes(&rt, &image, &GATES);
+    check_parts(&rt, rt.alloc(), &image, &PARTS)
 }
 
-#[test]
-fn superblock(rt: HostRuntime) -> Result<(), Fail> {
-    let tally = spoil(&rt, rt.alloc(), 0, LOG_AT)?;
-    assert!(rt;
-        tally.heaps > 0 && tally.not_heaps > 0 && tally.batches > 0,
-        "{tally:?}"
-    );
-    Ok(())
-}
-
-#[test]
-fn committed_writes(rt: HostRuntime) -> Result<(), Fail> {
-    let tally = spoil(&rt, rt.alloc(), LOG_AT, LOG_AT + 59)?;
-    assert!(rt;
-        tally.heaps > 0 && tally.batches > 0 && tally.records > 0,
-        "{tally:?}"
-    );
-    assert!(rt; tally.addresses > 0 && tally.reserves > 0, "{tally:?}");
-    Ok(())
-}
-
-#[test]
-fn promoted_objects(rt: HostRuntime) -> Result<(), Fail> {
-    let tally = spoil(&rt, rt.alloc(), LOG_AT + 59, LOG_AT + 133)?;
-    assert!(rt;
-        tally.heaps > 0 && tally.batches > 0 && tally.records > 0,
-        "{tally:?}"
-    );
-    Ok(())
-}
-
-#[test]
-fn fixes_and_commit(rt: HostRuntime) -> Result<(), Fail> {
-    let tally = spoil(&rt, rt.alloc(), LOG_AT + 133, LOG_AT + COMMITTED)?;
-    assert!(rt;
-        tally.heaps > 0 && tally.batches > 0 && tally.records > 0,
-        "{tally:?}"
-    );
-    assert!(rt; tally.addresses > 0 && tally.reserves > 0, "{tally:?}");
-    Ok(())
-}
-
-#[test]
-fn aborted_transaction(rt: HostRuntime) -> Result<(), Fail> {
-    let tally = spoil(&rt, rt.alloc(), LOG_AT + COMMITTED, LOG_AT + ABORTED)?;
-    assert!(rt;
-        tally.heaps > 0 && tally.batches > 0 && tally.records > 0,
-        "{tally:?}"
-    );
-    Ok(())
-}
-
-#[test]
-fn losers(rt: HostRuntime) -> Result<(), Fail> {
-    let tally = spoil(&rt, rt.alloc(), LOG_AT + ABORTED, LOG_AT + USED + 8)?;
-    assert!(rt;
-        tally.heaps > 0 && tally.batches > 0 && tally.records > 0,
-        "{tally:?}"
-    );
-    Ok(())
-}
+/// How often each kind comes, the log having each length. The disk has no byte more than the image takes.
+const CUT: [(Kind, usize); 4] = [
+    (Kind::NotHeap, 4 + 2),
+    (Kind::Batch, USED - 64),
+    (Kind::Reserve, ROLLBACK),
+    (Kind::Heap, LOG_BYTES as usize + 1 - USED - ROLLBACK),
+];
 
 #[test]
 fn log_is_cut(rt: HostRuntime) -> Result<(), Fail> {
     let alloc = rt.alloc();
     let mut image = made_image(&rt, alloc)?;
-    let mut tally = Tally::new();
+    let mut tally = Tally::new(alloc);
     for log_bytes in 60..LOG_BYTES + 3 {
         poke(&rt, &mut image, 16, &log_bytes.to_le_bytes());
-        tally.compare(&rt, alloc, &image, "log of", log_bytes as usize, 0)?;
+        tally.add(&rt, alloc, &image, ("log of", log_bytes as usize, 0))?;
     }
-    // The disk has no byte more than the image takes.
-    assert_eq!(rt; tally.not_heaps, 4 + 2);
-    assert_eq!(rt; tally.batches as usize, USED - 64);
-    assert_eq!(rt; tally.reserves as usize, ROLLBACK);
-    assert_eq!(rt;
-        tally.heaps as usize,
-        LOG_BYTES as usize + 1 - USED - ROLLBACK
-    );
+    tally.expect_counts(&rt, &CUT);
     Ok(())
-}
-
-/// Adds an Update of field `field` of the object at `object`, where `was` stood.
-fn push_update(
-    bytes: &mut Vec<u8>,
-    t: u32,
-    object: u32,
-    field: u16,
-    was: u64,
-    word: u64,
-) -> Result<(), AllocError> {
-    bytes.push(1)?;
-    bytes.extend_from_slice(&t.to_le_bytes())?;
-    bytes.extend_from_slice(&object.to_le_bytes())?;
-    bytes.extend_from_slice(&field.to_le_bytes())?;
-    bytes.extend_from_slice(&was.to_le_bytes())?;
-    bytes.extend_from_slice(&word.to_le_bytes())
-}
-
-/// A batch, with its open gate, in which transaction 9 writes a field and is committed, and the next gate.
-fn written(alloc: Global, object: u32, field: u16, word: u64) -> Result<Vec<u8>, AllocError> {
-    let mut batch = vec![in alloc; 1u8, 32, 0, 0, 0]?;
-    push_update(&mut batch, 9, object, field, 0, word)?;
-    batch.extend_from_slice(&[5, 9, 0, 0, 0, 0])?;
-    Ok(batch)
-}
-
-/// A batch in which transactions 9 and 10 write the same field, with these before-images, and the next gate.
-fn written_by_two(alloc: Global, first: u64, second: u64) -> Result<Vec<u8>, AllocError> {
-    let mut batch = vec![in alloc; 1u8, 54, 0, 0, 0]?;
-    push_update(&mut batch, 10, 0, 2, second, 1)?;
-    push_update(&mut batch, 9, 0, 2, first, 1)?;
-    batch.push(0)?;
-    Ok(batch)
 }
 
 /// Words of null, numbers, headers, references to objects and elsewhere, references to an area, and others.
 const WORDS: [u64; 14] = [0, 1, 5, 9, 17, 2_041, 2_045, 2, 26, 38, 42, 3, 8_388_610, 4];
 
-#[test]
-fn any_word_is_written(rt: HostRuntime) -> Result<(), Fail> {
-    let alloc = rt.alloc();
-    let mut image = made_image(&rt, alloc)?;
-    let mut tally = Tally::new();
-    for object in 0..END {
-        for word in WORDS {
-            for field in [0, 1] {
-                let batch = written(alloc, object, field, word)?;
-                poke(&rt, &mut image, LOG_AT + ABORTED, &batch);
-                tally.compare(&rt, alloc, &image, "word of", object as usize, word)?;
-            }
-        }
+/// Judges the image with a batch in which transaction 9 writes words into a field and is committed.
+fn write_words(
+    rt: &impl Abort,
+    alloc: Global,
+    tally: &mut Tally,
+    image: &[u8],
+    (object, field): (u32, u64),
+) -> Result<(), Fail> {
+    let at = LOG_AT + ABORTED;
+    let object = u64::from(object);
+    for word in &WORDS {
+        let update = [
+            (1, 1),
+            (4, 9),
+            (4, object),
+            (2, field),
+            (8, 0),
+            (8, *word),
+            (1, 5),
+            (4, 9),
+        ];
+        let written = with_numbers(rt, alloc, image, at, &update)?;
+        tally.add(rt, alloc, &written, ("word of", object as usize, *word))?;
     }
-    assert!(rt;
-        tally.heaps > 0 && tally.batches > 0 && tally.records > 0,
-        "{tally:?}"
-    );
-    assert!(rt; tally.addresses > 0, "{tally:?}");
     Ok(())
 }
 
-/// The last before-image that is put back is that of the greater number: a reference to no object, at address 7, is found where it is that.
+#[test]
+fn any_word_is_written(rt: HostRuntime) -> Result<(), Fail> {
+    let alloc = rt.alloc();
+    let image = made_image(&rt, alloc)?;
+    let mut tally = Tally::new(alloc);
+    for object in 0..END {
+        for field in 0..2 {
+            write_words(&rt, alloc, &mut tally, &image, (object, field))?;
+        }
+    }
+    tally.expect_kinds(&rt, &OF_WRITES);
+    Ok(())
+}
+
+/// The kinds that come where any word is written.
+const OF_WRITES: [(Kind, bool); 4] = [
+    (Kind::Heap, true),
+    (Kind::Batch, true),
+    (Kind::Record, true),
+    (Kind::Address, true),
+];
+
+/// Transactions 10 and 9 write the same field, with these before-images. The last one that is put back is that of the greater number: a reference to
+/// no object, at address 7, is found where it is that.
+const IN_TURN: [(Numbers<'static>, Verdict); 3] = [
+    (
+        &[
+            (1, 1),
+            (4, 10),
+            (4, 0),
+            (2, 2),
+            (8, 0),
+            (8, 1),
+            (1, 1),
+            (4, 9),
+            (4, 0),
+            (2, 2),
+            (8, 0),
+            (8, 1),
+        ],
+        Verdict::Heap,
+    ),
+    (
+        &[
+            (1, 1),
+            (4, 10),
+            (4, 0),
+            (2, 2),
+            (8, 0),
+            (8, 1),
+            (1, 1),
+            (4, 9),
+            (4, 0),
+            (2, 2),
+            (8, 30),
+            (8, 1),
+        ],
+        Verdict::Heap,
+    ),
+    (
+        &[
+            (1, 1),
+            (4, 10),
+            (4, 0),
+            (2, 2),
+            (8, 30),
+            (8, 1),
+            (1, 1),
+            (4, 9),
+            (4, 0),
+            (2, 2),
+            (8, 0),
+            (8, 1),
+        ],
+        Verdict::Address(0),
+    ),
+];
+
 #[test]
 fn losers_in_turn(rt: HostRuntime) -> Result<(), Fail> {
-    let alloc = rt.alloc();
-    let mut image = made_image(&rt, alloc)?;
-    let cases = [
-        (0, 0, Verdict::Heap),
-        (30, 0, Verdict::Heap),
-        (0, 30, Verdict::Address(0)),
-    ];
-    let mut tally = Tally::new();
-    for (first, second, verdict) in cases {
-        let batch = written_by_two(alloc, first, second)?;
-        poke(&rt, &mut image, LOG_AT + ABORTED, &batch);
-        assert_eq!(rt; read(alloc, &image)?, verdict, "{first} {second}");
-        tally.compare(&rt, alloc, &image, "before-images", 0, first)?;
-    }
-    Ok(())
+    let image = made_image(&rt, rt.alloc())?;
+    expect_batches(&rt, rt.alloc(), &image, LOG_AT + ABORTED, &IN_TURN)
 }
