@@ -1,11 +1,11 @@
 //! Scripts with flushes, played with a stop at each of their device calls and of their recoveries, by each pick of a restart. The slow heap, which has
 //! no pages, is asked for the same scripts without the flushes.
-use crate::run_tests::{Played, expect_played, make_disk, play_on, same};
+use crate::playing::{Played, disk_of, expect_played, make_disk, play_on, same};
 use crate::stop_tests::{
     DRAWN, DRAWN_LINES, FLUSH_STOPPED, FORCE_CALLS, FORCED_INSIDE, FOUR, OBJECTS_FORCED_INSIDE,
     ONE, Told, check_played, draw_script, ending_of,
 };
-use disk_model::{MemoryDisk, Pick};
+use disk_model::Pick;
 use heap_program::Status;
 use std::alloc::{AllocError, Global};
 use std::process::Abort;
@@ -23,8 +23,7 @@ const STORED_RECORD_BYTES: usize = 131_072;
 /// Its bytes.
 fn make_stored(alloc: Global) -> Result<Vec<u8>, AllocError> {
     let disk = make_disk(alloc, STORED_BYTES, Pick::Newest)?;
-    let none = (Vec::new(alloc), Vec::new(alloc));
-    let (_, disk) = play_on(alloc, STORED_FORMAT, b"", disk, none)?;
+    let (_, disk) = play_on(alloc, STORED_FORMAT, "", disk)?;
     disk.contents().to_vec(alloc)
 }
 
@@ -49,7 +48,7 @@ const FLUSH_LINES: [&str; 8] = [
     "flush 3 -> clean 3",
 ];
 
-fn with_flushes(alloc: Global, script: &str, flushes: Flushes) -> Result<String, AllocError> {
+fn with_flushes(alloc: Global, script: &str, flushes: &Flushes) -> Result<String, AllocError> {
     let mut flushed = String::new(alloc);
     for (i, line) in script.lines().enumerate() {
         write!(flushed, "{line}\n{}", flushes[i % 5])?;
@@ -86,7 +85,7 @@ impl<'a> Flushed<'a> {
         rt: &impl Abort,
         alloc: Global,
         script: &'a str,
-        flushes: Flushes,
+        flushes: &Flushes,
     ) -> Result<Flushed<'a>, Fail> {
         Ok(Flushed {
             told: Told::of(rt, alloc, script)?,
@@ -103,10 +102,8 @@ impl<'a> Flushed<'a> {
         line: &str,
         pick: Pick,
     ) -> Result<Played, AllocError> {
-        let (image, room) = (self.image.clone()?, STORED_RECORD_BYTES);
-        let disk = MemoryDisk::of(alloc, image, pick, room, Vec::new(alloc), Vec::new(alloc))?;
-        let none = (Vec::new(alloc), Vec::new(alloc));
-        let played = play_on(alloc, line, self.script.as_bytes(), disk, none)?.0;
+        let disk = disk_of(alloc, self.image.clone()?, pick, STORED_RECORD_BYTES, None)?;
+        let played = play_on(alloc, line, self.script.as_str(), disk)?.0;
         Ok(Played {
             status: played.status,
             output: without_flushes(rt, alloc, &played.output)?,
@@ -144,20 +141,21 @@ impl<'a> Flushed<'a> {
 }
 
 /// A script, the flushes behind its lines, what a run appends, and how many writes and syncs it makes before that.
-type Stored = (&'static str, Flushes, &'static str, usize);
+#[derive(Clone, Copy)]
+struct Stored {
+    script: &'static str,
+    flushes: &'static Flushes,
+    ending: &'static str,
+    calls: usize,
+}
 
 /// Stops a script with flushes at each of its calls and behind them.
-fn check_flushed(
-    rt: &impl Abort,
-    alloc: Global,
-    (script, flushes, ending, calls): Stored,
-    pick: Pick,
-) -> Result<(), Fail> {
-    let flushed = Flushed::of(rt, alloc, script, flushes)?;
-    flushed.expect_whole(rt, alloc, ending)?;
-    for stop in 0..=calls {
+fn check_flushed(rt: &impl Abort, alloc: Global, stored: &Stored, pick: Pick) -> Result<(), Fail> {
+    let flushed = Flushed::of(rt, alloc, stored.script, stored.flushes)?;
+    flushed.expect_whole(rt, alloc, stored.ending)?;
+    for stop in 0..=stored.calls {
         let stopped = flushed.stops(rt, alloc, pick, stop)?;
-        same(rt, (stop, stopped), (stop, stop < calls));
+        same(rt, (stop, stopped), (stop, stop < stored.calls));
     }
     Ok(())
 }
@@ -170,94 +168,104 @@ const TWO_PAGES: &str =
 const SIDE_BY_SIDE: &str =
     "1 begin\n1 root 0\n1 new 1 1\n1 new 2 57\n1 new 3 1\n1 link 0 0 1\n1 link 0 1 2\n1 link 1 0 3\n1 commit\n2 begin\n1 begin\n2 root 0\n1 root 0\n2 get 0 0 1\n1 get 0 1 1\n2 put 1 0 4\n1 put 1 56 5\n1 seal\n2 put 1 0 6\n1 begin\n1 root 0\n1 get 0 1 1\n1 put 1 0 7\n";
 
-const UNSEALED: Stored = (FORCED_INSIDE, EACH, "", 40);
+const UNSEALED: Stored = Stored {
+    script: FORCED_INSIDE,
+    flushes: &EACH,
+    ending: "",
+    calls: 40,
+};
 
-const PROMOTED: Stored = (OBJECTS_FORCED_INSIDE, SOME, "", 24);
+const PROMOTED: Stored = Stored {
+    script: OBJECTS_FORCED_INSIDE,
+    flushes: &SOME,
+    ending: "",
+    calls: 24,
+};
 
-const BOTH_PAGES: Stored = (
-    TWO_PAGES,
-    EACH,
-    "1 abort -> aborted\nforce -> durable 2\n",
-    68,
-);
+const BOTH_PAGES: Stored = Stored {
+    script: TWO_PAGES,
+    flushes: &EACH,
+    ending: "1 abort -> aborted\nforce -> durable 2\n",
+    calls: 68,
+};
 
-const BOTH_SESSIONS: Stored = (
-    SIDE_BY_SIDE,
-    SOME,
-    "1 abort -> aborted\n2 abort -> aborted\nforce -> durable 2\n",
-    44,
-);
+const BOTH_SESSIONS: Stored = Stored {
+    script: SIDE_BY_SIDE,
+    flushes: &SOME,
+    ending: "1 abort -> aborted\n2 abort -> aborted\nforce -> durable 2\n",
+    calls: 44,
+};
 
 #[test]
 fn stored_writes_are_taken_back_from_synced_bytes(rt: HostRuntime) -> Result<(), Fail> {
-    check_flushed(&rt, rt.alloc(), UNSEALED, Pick::Synced)
+    check_flushed(&rt, rt.alloc(), &UNSEALED, Pick::Synced)
 }
 
 #[test]
 fn stored_writes_are_taken_back_from_newest_bytes(rt: HostRuntime) -> Result<(), Fail> {
-    check_flushed(&rt, rt.alloc(), UNSEALED, Pick::Newest)
+    check_flushed(&rt, rt.alloc(), &UNSEALED, Pick::Newest)
 }
 
 #[test]
 fn stored_writes_are_taken_back_from_bytes_of_ones(rt: HostRuntime) -> Result<(), Fail> {
-    check_flushed(&rt, rt.alloc(), UNSEALED, Pick::AllOnes)
+    check_flushed(&rt, rt.alloc(), &UNSEALED, Pick::AllOnes)
 }
 
 #[test]
 fn stored_writes_are_taken_back_from_open_gates(rt: HostRuntime) -> Result<(), Fail> {
-    check_flushed(&rt, rt.alloc(), UNSEALED, Pick::AllOpen)
+    check_flushed(&rt, rt.alloc(), &UNSEALED, Pick::AllOpen)
 }
 
 #[test]
 fn stored_pages_come_back_from_synced_bytes(rt: HostRuntime) -> Result<(), Fail> {
-    check_flushed(&rt, rt.alloc(), BOTH_PAGES, Pick::Synced)
+    check_flushed(&rt, rt.alloc(), &BOTH_PAGES, Pick::Synced)
 }
 
 #[test]
 fn stored_pages_come_back_from_newest_bytes(rt: HostRuntime) -> Result<(), Fail> {
-    check_flushed(&rt, rt.alloc(), BOTH_PAGES, Pick::Newest)
+    check_flushed(&rt, rt.alloc(), &BOTH_PAGES, Pick::Newest)
 }
 
 #[test]
 fn stored_pages_come_back_from_bytes_of_ones(rt: HostRuntime) -> Result<(), Fail> {
-    check_flushed(&rt, rt.alloc(), BOTH_PAGES, Pick::AllOnes)
+    check_flushed(&rt, rt.alloc(), &BOTH_PAGES, Pick::AllOnes)
 }
 
 #[test]
 fn stored_pages_come_back_from_open_gates(rt: HostRuntime) -> Result<(), Fail> {
-    check_flushed(&rt, rt.alloc(), BOTH_PAGES, Pick::AllOpen)
+    check_flushed(&rt, rt.alloc(), &BOTH_PAGES, Pick::AllOpen)
 }
 
 #[test]
 fn stored_sessions_come_back_from_synced_bytes(rt: HostRuntime) -> Result<(), Fail> {
-    check_flushed(&rt, rt.alloc(), BOTH_SESSIONS, Pick::Synced)
+    check_flushed(&rt, rt.alloc(), &BOTH_SESSIONS, Pick::Synced)
 }
 
 #[test]
 fn stored_sessions_come_back_from_newest_bytes(rt: HostRuntime) -> Result<(), Fail> {
-    check_flushed(&rt, rt.alloc(), BOTH_SESSIONS, Pick::Newest)
+    check_flushed(&rt, rt.alloc(), &BOTH_SESSIONS, Pick::Newest)
 }
 
 #[test]
 fn stored_sessions_come_back_from_bytes_of_ones(rt: HostRuntime) -> Result<(), Fail> {
-    check_flushed(&rt, rt.alloc(), BOTH_SESSIONS, Pick::AllOnes)
+    check_flushed(&rt, rt.alloc(), &BOTH_SESSIONS, Pick::AllOnes)
 }
 
 #[test]
 fn stored_sessions_come_back_from_open_gates(rt: HostRuntime) -> Result<(), Fail> {
-    check_flushed(&rt, rt.alloc(), BOTH_SESSIONS, Pick::AllOpen)
+    check_flushed(&rt, rt.alloc(), &BOTH_SESSIONS, Pick::AllOpen)
 }
 
 #[test]
 fn stored_objects_are_promoted_or_gone_from_written_bytes(rt: HostRuntime) -> Result<(), Fail> {
-    check_flushed(&rt, rt.alloc(), PROMOTED, Pick::Synced)?;
-    check_flushed(&rt, rt.alloc(), PROMOTED, Pick::Newest)
+    check_flushed(&rt, rt.alloc(), &PROMOTED, Pick::Synced)?;
+    check_flushed(&rt, rt.alloc(), &PROMOTED, Pick::Newest)
 }
 
 #[test]
 fn stored_objects_are_promoted_or_gone_from_filled_bytes(rt: HostRuntime) -> Result<(), Fail> {
-    check_flushed(&rt, rt.alloc(), PROMOTED, Pick::AllOnes)?;
-    check_flushed(&rt, rt.alloc(), PROMOTED, Pick::AllOpen)
+    check_flushed(&rt, rt.alloc(), &PROMOTED, Pick::AllOnes)?;
+    check_flushed(&rt, rt.alloc(), &PROMOTED, Pick::AllOpen)
 }
 
 /// Four pages, behind some lines.
@@ -268,7 +276,7 @@ fn check_whole_flushed(
     rt: &impl Abort,
     alloc: Global,
     sessions: [u32; 4],
-    flushes: Flushes,
+    flushes: &Flushes,
 ) -> Result<(), Fail> {
     for seed in 0..DRAWN {
         let script = draw_script(alloc, seed, sessions, DRAWN_LINES)?;
@@ -281,10 +289,10 @@ fn check_whole_flushed(
 
 #[test]
 fn flushes_leave_drawn_scripts_their_answers(rt: HostRuntime) -> Result<(), Fail> {
-    check_whole_flushed(&rt, rt.alloc(), ONE, FOUR_PAGES)
+    check_whole_flushed(&rt, rt.alloc(), ONE, &FOUR_PAGES)
 }
 
 #[test]
 fn flushes_leave_four_drawn_sessions_their_answers(rt: HostRuntime) -> Result<(), Fail> {
-    check_whole_flushed(&rt, rt.alloc(), FOUR, FOUR_PAGES)
+    check_whole_flushed(&rt, rt.alloc(), FOUR, &FOUR_PAGES)
 }

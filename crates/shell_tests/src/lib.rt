@@ -8,6 +8,8 @@ mod kept_tests;
 #[cfg(test)]
 mod load_tests;
 #[cfg(test)]
+mod playing;
+#[cfg(test)]
 mod run_tests;
 #[cfg(test)]
 mod status_tests;

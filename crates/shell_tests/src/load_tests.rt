@@ -1,5 +1,8 @@
 //! Loads: what they print, that equal ones print the same, and how they end on disks and sinks that fail.
-use crate::run_tests::{PICKS, Played, expect_played, make_disk, play_on, run_words, words_of};
+use crate::playing::{
+    PICKS, Played, RECORD_BYTES, disk_of, expect_played, make_disk, run_failing, run_words,
+    words_of,
+};
 use disk_model::{Disk, FuseDisk, MemoryDisk, Pick};
 use heap_io::{MemorySink, MemorySource};
 use heap_program::Status;
@@ -11,8 +14,6 @@ use std::test::Fail;
 const SMALL_DISK: usize = 1_050_752;
 
 const LARGE_DISK: usize = 1_183_808;
-
-const RECORD_BYTES: usize = 4_194_304;
 
 const SMALL_SINK: usize = 1_024;
 
@@ -28,21 +29,20 @@ fn load_on(
     line: &str,
     disk: MemoryDisk,
 ) -> Result<(Played, MemoryDisk), AllocError> {
-    let fails = (vec![in alloc; 1]?, Vec::new(alloc));
-    play_on(alloc, line, b"no script", disk, fails)
+    run_failing(alloc, line, b"no script", disk, (Some(1), None))
 }
 
-#[test]
-fn a_load_prints_its_summary(rt: HostRuntime) -> Result<(), Fail> {
-    let alloc = rt.alloc();
-    for (line, output) in [
-        ("heap load 1 2 --fresh 1", TWO_ROUNDS),
-        ("heap load 1 0 --fresh 1", NO_ROUND),
-    ] {
-        let disk = make_disk(alloc, SMALL_DISK, Pick::Newest)?;
-        let (played, _) = load_on(alloc, line, disk)?;
-        expect_played(&rt, &played, Status::Done, output.as_bytes());
-    }
+/// Runs a command line on a new disk of so many bytes, which prints a summary.
+fn expect_summary(
+    rt: &impl Abort,
+    alloc: Global,
+    bytes: usize,
+    line: &str,
+    summary: &str,
+) -> Result<(), Fail> {
+    let disk = make_disk(alloc, bytes, Pick::Newest)?;
+    let played = load_on(alloc, line, disk)?.0;
+    expect_played(rt, &played, Status::Done, summary.as_bytes());
     Ok(())
 }
 
@@ -51,13 +51,18 @@ fn a_load_prints_its_summary(rt: HostRuntime) -> Result<(), Fail> {
 const MANY_ROUNDS: &str =
     "load 1 2000\nevents 18218\nsealed 1749\naborted 251\nrefused 109\ncollected 124\nobjects 8\n";
 
+/// Loads on new disks of so many bytes, of which the last two are equal.
+const LOADS: [(usize, &str, &str); 4] = [
+    (SMALL_DISK, "heap load 1 2 --fresh 1", TWO_ROUNDS),
+    (SMALL_DISK, "heap load 1 0 --fresh 1", NO_ROUND),
+    (LARGE_DISK, "heap load 1 2000 --fresh 64", MANY_ROUNDS),
+    (LARGE_DISK, "heap load 1 2000 --fresh 64", MANY_ROUNDS),
+];
+
 #[test]
-fn equal_loads_print_the_same(rt: HostRuntime) -> Result<(), Fail> {
-    let alloc = rt.alloc();
-    for _ in 0..2 {
-        let disk = make_disk(alloc, LARGE_DISK, Pick::Newest)?;
-        let (played, _) = load_on(alloc, "heap load 1 2000 --fresh 64", disk)?;
-        expect_played(&rt, &played, Status::Done, MANY_ROUNDS.as_bytes());
+fn a_load_prints_its_summary_and_equal_ones_print_the_same(rt: HostRuntime) -> Result<(), Fail> {
+    for (bytes, line, summary) in &LOADS {
+        expect_summary(&rt, rt.alloc(), *bytes, line, summary)?;
     }
     Ok(())
 }
@@ -66,23 +71,25 @@ fn equal_loads_print_the_same(rt: HostRuntime) -> Result<(), Fail> {
 const ALL_CALLS: u64 = 25;
 
 /// A load of two rounds on a disk whose write or sync of that number fails.
-fn load_failing(alloc: Global, pick: Pick, call: u64) -> Result<Played, AllocError> {
+fn expect_failing(
+    rt: &impl Abort,
+    alloc: Global,
+    call: u64,
+    (status, output): (Status, &str),
+) -> Result<(), Fail> {
     let zeros = vec![in alloc; 0u8; SMALL_DISK]?;
-    let fails = vec![in alloc; call]?;
-    let disk = MemoryDisk::of(alloc, zeros, pick, RECORD_BYTES, fails, Vec::new(alloc))?;
-    Ok(load_on(alloc, "heap load 1 2 --fresh 1", disk)?.0)
+    let disk = disk_of(alloc, zeros, Pick::Newest, RECORD_BYTES, Some(call))?;
+    let played = load_on(alloc, "heap load 1 2 --fresh 1", disk)?.0;
+    expect_played(rt, &played, status, output.as_bytes());
+    Ok(())
 }
 
 #[test]
 fn a_failing_call_ends_a_load_without_a_summary(rt: HostRuntime) -> Result<(), Fail> {
-    let alloc = rt.alloc();
     for call in 1..=ALL_CALLS {
-        let played = load_failing(alloc, Pick::Newest, call)?;
-        expect_played(&rt, &played, Status::DiskFault, b"");
+        expect_failing(&rt, rt.alloc(), call, (Status::DiskFault, ""))?;
     }
-    let played = load_failing(alloc, Pick::Newest, ALL_CALLS + 1)?;
-    expect_played(&rt, &played, Status::Done, TWO_ROUNDS.as_bytes());
-    Ok(())
+    expect_failing(&rt, rt.alloc(), ALL_CALLS + 1, (Status::Done, TWO_ROUNDS))
 }
 
 /// Runs a command line on a disk that passes so many writes and syncs and then stops, and gives the disk back as it is after a restart.
@@ -107,30 +114,42 @@ const LOST: &str = "graph 1\n0: - - - -\n";
 
 const KEPT: &str = "graph 2\n0: - - - @1\n1: 2 - -\n";
 
-/// What comes of a load behind a stop at each of its calls, and which graph is there then: the commit is in doubt in the last sync.
-fn check_stopped(rt: &impl Abort, alloc: Global, pick: Pick, kept: u64) -> Result<(), Fail> {
-    for passes in 0..=4 {
-        let made = make_disk(alloc, SMALL_DISK, pick)?;
-        let (_, made) = load_on(alloc, "heap format 1 65536 1", made)?;
-        let (played, disk) = load_stopped(alloc, made, passes)?;
-        let (status, output) = if passes < 4 {
-            (Status::DiskFault, "")
-        } else {
-            (Status::Done, TWO_ROUNDS)
-        };
-        expect_played(rt, &played, status, output.as_bytes());
-        let (graph, _) = load_on(alloc, "heap graph", disk)?;
-        let text = if passes < kept { LOST } else { KEPT };
-        expect_played(rt, &graph, Status::Done, text.as_bytes());
-    }
+/// What comes of a load behind a stop after so many calls, and which graph is there then.
+fn check_stopped(
+    rt: &impl Abort,
+    alloc: Global,
+    (pick, passes): (Pick, u64),
+    (status, output): (Status, &str),
+    graph: &str,
+) -> Result<(), Fail> {
+    let made = make_disk(alloc, SMALL_DISK, pick)?;
+    let made = load_on(alloc, "heap format 1 65536 1", made)?.1;
+    let (played, disk) = load_stopped(alloc, made, passes)?;
+    expect_played(rt, &played, status, output.as_bytes());
+    let printed = load_on(alloc, "heap graph", disk)?.0;
+    expect_played(rt, &printed, Status::Done, graph.as_bytes());
     Ok(())
 }
 
+/// After how many calls a load stops, and which graph is there then, by each pick: the commit is in doubt in the last sync.
+const STOPS: [(u64, [&str; 4]); 4] = [
+    (0, [LOST; 4]),
+    (1, [LOST; 4]),
+    (2, [LOST; 4]),
+    (3, [LOST, KEPT, LOST, KEPT]),
+];
+
 #[test]
 fn a_stopped_load_leaves_its_commit_or_not(rt: HostRuntime) -> Result<(), Fail> {
-    let kept_from = [4, 3, 4, 3];
-    for (pick, kept) in PICKS.iter().zip(kept_from.iter()) {
-        check_stopped(&rt, rt.alloc(), *pick, *kept)?;
+    for (passes, graphs) in &STOPS {
+        for (pick, graph) in PICKS.iter().zip(graphs.iter()) {
+            let faulty = (Status::DiskFault, "");
+            check_stopped(&rt, rt.alloc(), (*pick, *passes), faulty, graph)?;
+        }
+    }
+    for pick in &PICKS {
+        let whole = (Status::Done, TWO_ROUNDS);
+        check_stopped(&rt, rt.alloc(), (*pick, 4), whole, KEPT)?;
     }
     Ok(())
 }
@@ -139,8 +158,8 @@ fn a_stopped_load_leaves_its_commit_or_not(rt: HostRuntime) -> Result<(), Fail> 
 fn a_failing_sink_ends_a_load(rt: HostRuntime) -> Result<(), Fail> {
     let alloc = rt.alloc();
     let disk = make_disk(alloc, SMALL_DISK, Pick::Newest)?;
-    let fails = (Vec::new(alloc), vec![in alloc; 1]?);
-    let (played, _) = play_on(alloc, "heap load 1 2 --fresh 1", b"", disk, fails)?;
+    let line = "heap load 1 2 --fresh 1";
+    let played = run_failing(alloc, line, b"", disk, (None, Some(1)))?.0;
     expect_played(&rt, &played, Status::WriteFault, b"");
     Ok(())
 }

@@ -1,6 +1,6 @@
 //! A script played with a stop at each of its device calls, by each pick of a restart: the first commits come back, and
 //! among them all that were acknowledged. What is expected comes from the slow heap, which has no log and no disk.
-use crate::run_tests::{ONE_COMMIT, Played, expect_played, make_disk, play_on, same};
+use crate::playing::{ONE_COMMIT, Played, expect_played, play, same};
 use disk_model::Pick;
 use graph_model::{Entry, Event};
 use heap_program::Status;
@@ -150,9 +150,7 @@ fn are_first(lines: &str, told: &str) -> bool {
 pub const FLUSH_STOPPED: &str = "flush -> stopped\n";
 
 fn play_by(alloc: Global, line: &str, script: &str, pick: Pick) -> Result<Played, AllocError> {
-    let disk = make_disk(alloc, HEAP_BYTES, pick)?;
-    let none = (Vec::new(alloc), Vec::new(alloc));
-    Ok(play_on(alloc, line, script.as_bytes(), disk, none)?.0)
+    play(alloc, line, script, (HEAP_BYTES, pick))
 }
 
 fn play_to(alloc: Global, script: &str, pick: Pick, calls: usize) -> Result<Played, AllocError> {
