@@ -3,7 +3,7 @@
 
     bench/kinds.py [--quick] [N [ROUNDS]]
 
-N is 20,000 if it is left out, and ROUNDS 9. For each kind it plays a script of N events of that kind, and one of 2N, on a new heap, and takes the time of the
+N is 30,000 if it is left out, and ROUNDS 9. For each kind it plays a script of N events of that kind, and one of 2N, on a new heap, and takes the time of the
 same heap's script without them off; events that can't be made alone, as a begin without an end, are counted with what they need. So the log, the history and
 what sessions hold are twice as long at the end of the second script. Printed are the nanoseconds of an event in the first script, and how much longer the
 second took, meant to be near 2 and below 2.3: no event takes longer for what was before it; and the last line of those repeated. Each time is the least of all rounds, of the processor, and the
@@ -20,7 +20,7 @@ TOP = pathlib.Path(__file__).resolve().parents[1]
 QUICK = sys.argv[1:2] == ["--quick"]
 PROGRAM = TOP.joinpath(".build", *["quick"] * QUICK, "heap_shell")
 PAGES = 64
-LOG_BYTES = 268_435_456
+LOG_BYTES = 16_777_216
 
 # Session 1 holds the root in handle 0, and an object that it made in handle 1.
 HELD = "1 begin\n1 root 0\n1 new 1 4\n1 link 0 0 1\n1 commit\n1 begin\n1 root 0\n1 get 0 0 1\n"
@@ -71,7 +71,7 @@ def checked(script):
 
 def main():
     words = [int(word) for word in sys.argv[1 + QUICK :]]
-    count, rounds, *_ = words + [20_000, 9][len(words) :]
+    count, rounds, *_ = words + [30_000, 9][len(words) :]
     memory = "/dev/shm" if os.path.isdir("/dev/shm") else None
     with tempfile.TemporaryDirectory(dir=memory) as folder:
         folder = pathlib.Path(folder)
