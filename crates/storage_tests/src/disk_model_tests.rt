@@ -5,8 +5,10 @@ ghost use Rattle.disk_model.specs.Keeps.{KeepsDisk, OnlyReads};
 ghost use Rattle.disk_model.specs.Moments.{LeavesOnly};
 ghost use Rattle.disk_model.specs.Memory.{now_of};
 
+use crate::compare::same;
 use disk_model::{Disk, DiskError, FuseDisk, MemoryDisk, Pick};
 use std::alloc::{AllocError, Global};
+use std::process::Abort;
 use std::test::Fail;
 
 /// Two calls: at each moment of both a crash leaves all but the range as it was.
@@ -41,18 +43,26 @@ fn byte_at<D: Disk>(disk: &mut D, at: u64) -> Result<u8, DiskError>
     Ok(byte[0])
 }
 
-/// A disk of six bytes whose record has room for so many bytes.
+/// A disk of six bytes whose record has room for so many bytes. The listed writes and syncs fail, and the listed reads.
 fn disk_of_six(
     alloc: Global,
     pick: Pick,
     room: usize,
-    fail_writes: Vec<u64>,
-    fail_reads: Vec<u64>,
+    fail_writes: &[u64],
+    fail_reads: &[u64],
 ) -> Result<MemoryDisk, AllocError>
     ensures { IfOk result (λ disk. length (now_of disk).newest ≡ 6) }
 {
     let bytes = vec![in alloc; 10, 11, 12, 13, 14, 15]?;
-    MemoryDisk::of(alloc, bytes, pick, room, fail_writes, fail_reads)
+    let fail_writes = fail_writes.to_vec(alloc)?;
+    MemoryDisk::of(
+        alloc,
+        bytes,
+        pick,
+        room,
+        fail_writes,
+        fail_reads.to_vec(alloc)?,
+    )
 }
 
 const DONE: Result<(), DiskError> = Ok(());
@@ -61,55 +71,81 @@ const FAILED: Result<(), DiskError> = Err(DiskError::Failed);
 
 const STOPPED: Result<(), DiskError> = Err(DiskError::Stopped);
 
+/// A disk, what it answers, what it has then, and what a restart leaves of that.
+#[derive(Drop)]
+struct Case {
+    pick: Pick,
+    room: usize,
+    fails: &'static [u64],
+    answers: [Result<(), DiskError>; 4],
+    newest: [u8; 6],
+    left: [u8; 6],
+}
+
+fn check(rt: &impl Abort, alloc: Global, case: &Case) -> Result<(), AllocError> {
+    let mut disk = disk_of_six(alloc, case.pick, case.room, case.fails, &[])?;
+    same(rt, answers(&mut disk), case.answers);
+    same(rt, disk.contents(), &case.newest);
+    disk.restart();
+    same(rt, disk.contents(), &case.left);
+    Ok(())
+}
+
+/// What is picked, by its number.
+const PICKED: [(u8, Pick, [u8; 6]); 4] = [
+    (0, Pick::Synced, [10, 21, 22, 13, 14, 15]),
+    (1, Pick::Newest, [10, 21, 32, 33, 44, 15]),
+    (2, Pick::AllOnes, [10, 21, 255, 255, 255, 15]),
+    (3, Pick::AllOpen, [10, 21, 1, 1, 1, 15]),
+];
+
 #[test]
 fn a_restart_leaves_what_its_pick_says(rt: HostRuntime) -> Result<(), Fail> {
-    let alloc = rt.alloc();
-    for (number, pick, left) in [
-        (0, Pick::Synced, [10, 21, 22, 13, 14, 15]),
-        (1, Pick::Newest, [10, 21, 32, 33, 44, 15]),
-        (2, Pick::AllOnes, [10, 21, 255, 255, 255, 15]),
-        (3, Pick::AllOpen, [10, 21, 1, 1, 1, 15]),
-    ] {
-        let mut disk = disk_of_six(alloc, pick, 1000, Vec::new(alloc), Vec::new(alloc))?;
-        assert_eq!(rt; Pick::try_from(number), Ok(pick));
-        assert_eq!(rt; answers(&mut disk), [DONE; 4]);
-        assert_eq!(rt; disk.contents(), [10, 21, 32, 33, 44, 15].as_slice());
-        disk.restart();
-        assert_eq!(rt; disk.contents(), left.as_slice(), "at {pick:?}");
+    for (number, pick, left) in PICKED {
+        same(&rt, Pick::try_from(number), Ok(pick));
+        let case = Case {
+            pick,
+            room: 1000,
+            fails: &[],
+            answers: [DONE; 4],
+            newest: [10, 21, 32, 33, 44, 15],
+            left,
+        };
+        check(&rt, rt.alloc(), &case)?;
     }
     Ok(())
 }
 
 /// A numbered call that fails: which, the answers, what they leave, and what a restart leaves of it.
-type Listed = (u64, [Result<(), DiskError>; 4], [u8; 6], [u8; 6]);
+type Listed = (&'static [u64], [Result<(), DiskError>; 4], [u8; 6], [u8; 6]);
 
 const LISTED: [Listed; 5] = [
     (
-        1,
+        &[1],
         [FAILED, DONE, DONE, DONE],
         [10, 11, 32, 33, 44, 15],
         [10, 11, 12, 13, 14, 15],
     ),
     (
-        2,
+        &[2],
         [DONE, FAILED, DONE, DONE],
         [10, 21, 32, 33, 44, 15],
         [10, 11, 12, 13, 14, 15],
     ),
     (
-        3,
+        &[3],
         [DONE, DONE, FAILED, DONE],
         [10, 21, 22, 13, 44, 15],
         [10, 21, 22, 13, 14, 15],
     ),
     (
-        4,
+        &[4],
         [DONE, DONE, DONE, FAILED],
         [10, 21, 32, 33, 14, 15],
         [10, 21, 22, 13, 14, 15],
     ),
     (
-        5,
+        &[5],
         [DONE, DONE, DONE, DONE],
         [10, 21, 32, 33, 44, 15],
         [10, 21, 22, 13, 14, 15],
@@ -118,90 +154,110 @@ const LISTED: [Listed; 5] = [
 
 #[test]
 fn a_listed_call_fails_and_changes_nothing(rt: HostRuntime) -> Result<(), Fail> {
-    let alloc = rt.alloc();
-    for (number, expected, newest, left) in LISTED {
-        let failing = vec![in alloc; number]?;
-        let mut disk = disk_of_six(alloc, Pick::Synced, 1000, failing, Vec::new(alloc))?;
-        assert_eq!(rt; answers(&mut disk), expected, "at {number}");
-        assert_eq!(rt; disk.contents(), newest.as_slice(), "at {number}");
-        disk.restart();
-        assert_eq!(rt;
-            disk.contents(),
-            left.as_slice(),
-            "after a restart at {number}"
-        );
+    for (fails, answers, newest, left) in LISTED {
+        let case = Case {
+            pick: Pick::Synced,
+            room: 1000,
+            fails,
+            answers,
+            newest,
+            left,
+        };
+        check(&rt, rt.alloc(), &case)?;
     }
     Ok(())
 }
 
 #[test]
 fn a_listed_read_fails(rt: HostRuntime) -> Result<(), Fail> {
-    let alloc = rt.alloc();
-    let failing = vec![in alloc; 2]?;
-    let mut disk = disk_of_six(alloc, Pick::Newest, 0, Vec::new(alloc), failing)?;
-    assert_eq!(rt; byte_at(&mut disk, 0), Ok(10));
-    assert_eq!(rt; byte_at(&mut disk, 0), Err(DiskError::Failed));
-    assert_eq!(rt; byte_at(&mut disk, 5), Ok(15));
-    assert_eq!(rt; disk.size(), 6);
+    let mut disk = disk_of_six(rt.alloc(), Pick::Newest, 0, &[], &[2])?;
+    let read = [
+        byte_at(&mut disk, 0),
+        byte_at(&mut disk, 0),
+        byte_at(&mut disk, 5),
+    ];
+    same(&rt, read, [Ok(10), Err(DiskError::Failed), Ok(15)]);
+    same(&rt, disk.size(), 6);
     Ok(())
 }
 
+/// How much room the record has, the answers, and what they leave.
+const FULL: [(usize, [Result<(), DiskError>; 4], [u8; 6]); 4] = [
+    (65, [FAILED, DONE, FAILED, DONE], [10, 11, 12, 13, 44, 15]),
+    (66, [DONE, DONE, FAILED, FAILED], [10, 21, 22, 13, 14, 15]),
+    (131, [DONE, DONE, FAILED, DONE], [10, 21, 22, 13, 44, 15]),
+    (197, [DONE, DONE, DONE, DONE], [10, 21, 32, 33, 44, 15]),
+];
+
 #[test]
 fn a_full_record_fails_writes_alone(rt: HostRuntime) -> Result<(), Fail> {
-    let alloc = rt.alloc();
-    for (room, expected) in [
-        (65, [FAILED, DONE, FAILED, DONE]),
-        (66, [DONE, DONE, FAILED, FAILED]),
-        (131, [DONE, DONE, FAILED, DONE]),
-        (197, [DONE, DONE, DONE, DONE]),
-    ] {
-        let mut disk = disk_of_six(alloc, Pick::Newest, room, Vec::new(alloc), Vec::new(alloc))?;
-        assert_eq!(rt; answers(&mut disk), expected, "at {room}");
+    for (room, answers, newest) in FULL {
+        let case = Case {
+            pick: Pick::Newest,
+            room,
+            fails: &[],
+            answers,
+            newest,
+            left: newest,
+        };
+        check(&rt, rt.alloc(), &case)?;
     }
+    Ok(())
+}
+
+/// After how many calls a fuse stops, what is answered, what a read is answered behind a restart, and how many calls passed.
+type Fuse = (u64, [Result<(), DiskError>; 4], Result<u8, DiskError>, u64);
+
+const FUSES: [Fuse; 5] = [
+    (
+        0,
+        [STOPPED, STOPPED, STOPPED, STOPPED],
+        Err(DiskError::Stopped),
+        0,
+    ),
+    (
+        1,
+        [DONE, STOPPED, STOPPED, STOPPED],
+        Err(DiskError::Stopped),
+        1,
+    ),
+    (3, [DONE, DONE, DONE, STOPPED], Err(DiskError::Stopped), 3),
+    (4, [DONE, DONE, DONE, DONE], Ok(44), 4),
+    (5, [DONE, DONE, DONE, DONE], Ok(44), 4),
+];
+
+fn check_fuse(
+    rt: &impl Abort,
+    alloc: Global,
+    (limit, expected, read, passed): Fuse,
+) -> Result<(), AllocError> {
+    let disk = disk_of_six(alloc, Pick::Newest, 1000, &[], &[])?;
+    let mut fuse = FuseDisk::new(disk, limit);
+    same(rt, (limit, byte_at(&mut fuse, 4)), (limit, Ok(14)));
+    same(rt, (limit, answers(&mut fuse)), (limit, expected));
+    fuse.restart();
+    let found = (limit, byte_at(&mut fuse, 4), fuse.passed());
+    same(rt, found, (limit, read, passed));
     Ok(())
 }
 
 #[test]
 fn a_fuse_stops_at_its_limit(rt: HostRuntime) -> Result<(), Fail> {
-    let alloc = rt.alloc();
-    for (limit, expected, read, passed) in [
-        (
-            0,
-            [STOPPED, STOPPED, STOPPED, STOPPED],
-            Err(DiskError::Stopped),
-            0,
-        ),
-        (
-            1,
-            [DONE, STOPPED, STOPPED, STOPPED],
-            Err(DiskError::Stopped),
-            1,
-        ),
-        (3, [DONE, DONE, DONE, STOPPED], Err(DiskError::Stopped), 3),
-        (4, [DONE, DONE, DONE, DONE], Ok(44), 4),
-        (5, [DONE, DONE, DONE, DONE], Ok(44), 4),
-    ] {
-        let disk = disk_of_six(alloc, Pick::Newest, 1000, Vec::new(alloc), Vec::new(alloc))?;
-        let mut fuse = FuseDisk::new(disk, limit);
-        assert_eq!(rt; byte_at(&mut fuse, 4), Ok(14), "at {limit}");
-        assert_eq!(rt; answers(&mut fuse), expected, "at {limit}");
-        fuse.restart();
-        assert_eq!(rt; byte_at(&mut fuse, 4), read, "at {limit}");
-        assert_eq!(rt; fuse.passed(), passed, "at {limit}");
+    for fuse in FUSES {
+        check_fuse(&rt, rt.alloc(), fuse)?;
     }
     Ok(())
 }
 
 #[test]
 fn a_stop_inside_is_a_failure(rt: HostRuntime) -> Result<(), Fail> {
-    let alloc = rt.alloc();
-    let disk = disk_of_six(alloc, Pick::Newest, 1000, Vec::new(alloc), Vec::new(alloc))?;
+    let disk = disk_of_six(rt.alloc(), Pick::Newest, 1000, &[], &[])?;
     let mut fuse = FuseDisk::new(FuseDisk::new(disk, 2), 3);
-    assert_eq!(rt; answers(&mut fuse), [DONE, DONE, FAILED, STOPPED]);
+    same(&rt, answers(&mut fuse), [DONE, DONE, FAILED, STOPPED]);
     let inner = fuse.into_inner();
-    assert_eq!(rt; inner.passed(), 2);
+    same(&rt, inner.passed(), 2);
     let mut disk = inner.into_inner();
-    assert_eq!(rt; write_and_sync(&mut disk, 5, &[25]), DONE);
-    assert_eq!(rt; disk.contents(), [10, 21, 22, 13, 14, 25].as_slice());
+    same(&rt, write_and_sync(&mut disk, 5, &[25]), DONE);
+    same(&rt, disk.contents(), &[10, 21, 22, 13, 14, 25]);
     Ok(())
 }

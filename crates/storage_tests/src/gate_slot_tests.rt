@@ -3,6 +3,7 @@ ghost use Rattle.std.specs.Prelude.{[], false};
 ghost use Rattle.std.proofs.Common.{rules};
 ghost use Rattle.disk_model.specs.Disk.{HasCause};
 
+use crate::compare::same;
 use counts::Count;
 use disk_model::{Disk, DiskError};
 use gate_slot::{close_gate, fill_and_open};
@@ -85,37 +86,42 @@ impl Disk for Stopping {
     ghost same_size = { Prim.search rules };
 }
 
-#[test]
-fn a_stop_after_each_call(rt: HostRuntime) {
-    let cases = [
-        (0, [9, 0, 9, 9, 9, 9, 9, 9]),
-        (1, [9, 0, 9, 5, 6, 7, 9, 9]),
-        (2, [9, 0, 9, 5, 6, 7, 9, 9]),
-        (3, [9, 1, 9, 5, 6, 7, 9, 9]),
-        (4, [9, 1, 9, 5, 6, 7, 9, 9]),
-    ];
-    for (left, want) in cases {
-        let mut disk = Stopping {
-            bytes: [9, 0, 9, 9, 9, 9, 9, 9],
-            left,
-            stops: Count::new(),
-        };
-        let result = fill_and_open(&mut disk, 1, 3, &[5, 6, 7]);
-        assert_eq!(rt; result.is_ok(), left == 4, "after {left}");
-        assert_eq!(rt; disk.bytes, want, "after {left}");
+/// A disk that stops after so many calls, and has this gate.
+fn make_stopping(left: u8, gate: u8) -> Stopping {
+    Stopping {
+        bytes: [9, gate, 9, 9, 9, 9, 9, 9],
+        left,
+        stops: Count::new(),
     }
 }
 
+/// How many calls are done, and the bytes that they leave. Only the last row has all of them.
+const FILLED: [(u8, [u8; 8]); 5] = [
+    (0, [9, 0, 9, 9, 9, 9, 9, 9]),
+    (1, [9, 0, 9, 5, 6, 7, 9, 9]),
+    (2, [9, 0, 9, 5, 6, 7, 9, 9]),
+    (3, [9, 1, 9, 5, 6, 7, 9, 9]),
+    (4, [9, 1, 9, 5, 6, 7, 9, 9]),
+];
+
+#[test]
+fn a_stop_after_each_call(rt: HostRuntime) {
+    for (left, want) in FILLED {
+        let mut disk = make_stopping(left, 0);
+        let filled = fill_and_open(&mut disk, 1, 3, &[5, 6, 7]).is_ok();
+        same(&rt, (left, filled, disk.bytes), (left, left == 4, want));
+    }
+}
+
+/// How many calls are done, the gate before them, and the gate that they leave.
+const CLOSED: [(u8, u8, u8); 3] = [(2, 1, 0), (0, 0, 0), (0, 7, 7)];
+
 #[test]
 fn closes_an_open_gate_alone(rt: HostRuntime) {
-    for (left, before, after) in [(2, 1, 0), (0, 0, 0), (0, 7, 7)] {
-        let mut disk = Stopping {
-            bytes: [9, before, 9, 9, 9, 9, 9, 9],
-            left,
-            stops: Count::new(),
-        };
+    for (left, before, after) in CLOSED {
+        let mut disk = make_stopping(left, before);
         let result = close_gate(&mut disk, 1);
-        assert_eq!(rt; result, Ok(()), "from {before}");
-        assert_eq!(rt; disk.bytes, [9, after, 9, 9, 9, 9, 9, 9], "from {before}");
+        let want = [9, after, 9, 9, 9, 9, 9, 9];
+        same(&rt, (before, result, disk.bytes), (before, Ok(()), want));
     }
 }

@@ -1,9 +1,12 @@
 //! A log on a disk in memory: what a force writes, and what an opening finds.
-use disk_model::{Disk, MemoryDisk, Pick};
+ghost use Rattle.std.specs.Prelude.{◌≡◌, IfOk};
+ghost use Rattle.gated_log.specs.LogState.{log_place, log_room, IsPlaced};
+
+use crate::compare::same;
+use disk_model::{Disk, DiskError, MemoryDisk, Pick};
 use gated_log::{Log, LogError};
 use log_records::Record;
 use std::alloc::{AllocError, Global};
-use std::fmt::Debug;
 use std::process::Abort;
 use std::test::Fail;
 
@@ -25,15 +28,30 @@ const FORCED: [u8; 44] = [
     0, 0, 0, 0, 0, 5, 1, 0, 0, 0, 0, 0, 0,
 ];
 
-/// A disk with these bytes and room for the record of its changes.
-fn make_disk(alloc: Global, bytes: Vec<u8>, room: usize) -> Result<MemoryDisk, AllocError> {
-    let none = Vec::new(alloc);
-    MemoryDisk::of(alloc, bytes, Pick::Newest, room, none, Vec::new(alloc))
+/// A disk with these bytes. Of its reads the listed ones fail.
+fn make_disk(alloc: Global, bytes: Vec<u8>, fail_reads: &[u64]) -> Result<MemoryDisk, AllocError> {
+    let fail_reads = fail_reads.to_vec(alloc)?;
+    MemoryDisk::of(
+        alloc,
+        bytes,
+        Pick::Newest,
+        1000,
+        Vec::new(alloc),
+        fail_reads,
+    )
 }
 
-/// Compares what was found. The tests call it, since the proof of an assertion of their own would take each of them longer.
-fn same<T: PartialEq + Debug + Copy>(rt: &impl Abort, found: T, want: T) {
-    assert_eq!(rt; found, want);
+/// Opens the log of so many bytes that lies behind four others.
+fn open(
+    rt: &impl Abort,
+    alloc: Global,
+    disk: &mut MemoryDisk,
+    room: u32,
+) -> Result<(Log, Vec<Record>), LogError>
+    ensures { IfOk result (λ found. (log_place found.0 ≡ 4) × (log_room found.0 ≡ room)) }
+{
+    assert!(rt; room > 0 && disk.size() >= 4 + u64::from(room));
+    Log::open(alloc, disk, 4, room)
 }
 
 /// How many records there are, how many of them are forced, and how many bytes they take.
@@ -41,47 +59,88 @@ fn counts(log: &Log) -> (u64, u64, u64) {
     (log.records(), log.forced(), log.used())
 }
 
+fn append(rt: &impl Abort, log: &mut Log, record: &Record) -> Result<(), AllocError>
+    ensures { IsPlaced log.old log.new }
+{
+    let need = log.need(record);
+    assert!(rt; need < 99);
+    assert!(rt; log.used() + need <= log.room());
+    log.append(record)
+}
+
+/// Appends both records to a log without records.
+fn append_both(rt: &impl Abort, log: &mut Log) -> Result<(), AllocError>
+    requires { log_room log.old ≡ 40 }
+    ensures { IsPlaced log.old log.new }
+{
+    assert!(rt; log.used() == 1);
+    log.append_all(&RECORDS)
+}
+
+/// Forces the log of 40 bytes.
+fn force(rt: &impl Abort, log: &mut Log, disk: &mut MemoryDisk) -> Result<(), DiskError>
+    requires place { log_place log.old ≡ 4 }
+    requires room { log_room log.old ≡ 40 }
+{
+    assert!(rt; disk.size() >= 44);
+    log.force(disk)
+}
+
+/// Opens a log without records.
+fn open_empty(rt: &impl Abort, alloc: Global, disk: &mut MemoryDisk) -> Result<Log, LogError>
+    ensures { IfOk result (λ log. (log_place log ≡ 4) × (log_room log ≡ 40)) }
+{
+    let (log, found) = open(rt, alloc, disk, 40)?;
+    same(rt, (found.len(), counts(&log)), (0, (0, 0, 1)));
+    Ok(log)
+}
+
+/// Appends the records one by one.
+fn append_each(rt: &impl Abort, log: &mut Log) -> Result<(), AllocError>
+    ensures { IsPlaced log.old log.new }
+{
+    append(rt, log, &RECORDS[0])?;
+    same(rt, log.pending(), true);
+    append(rt, log, &RECORDS[1])?;
+    same(rt, (log.records(), log.forced()), (2, 0));
+    Ok(())
+}
+
 /// Appends the records one by one, and forces them.
 fn append_and_force(rt: &impl Abort, alloc: Global, disk: &mut MemoryDisk) -> Result<(), Fail> {
-    assert!(rt; disk.size() >= 44);
-    let (mut log, found) = Log::open(alloc, disk, 4, 40)?;
-    same(rt, (found.len(), counts(&log)), (0, (0, 0, 1)));
+    let mut log = open_empty(rt, alloc, disk)?;
     log.reserve(32)?;
-    let [update, commit] = &RECORDS;
-    assert!(rt; log.used() + log.need(update) <= log.room());
-    log.append(update)?;
-    same(rt, log.pending(), true);
-    assert!(rt; log.used() + log.need(commit) <= log.room());
-    log.append(commit)?;
-    same(rt, (log.records(), log.forced()), (2, 0));
-    log.force(disk)?;
+    append_each(rt, &mut log)?;
+    force(rt, &mut log, disk)?;
     same(rt, (log.pending(), counts(&log)), (false, (2, 2, 38)));
+    Ok(())
+}
+
+/// Opens the log again, and compares the records that it has.
+fn opened_again(rt: &impl Abort, alloc: Global, disk: &mut MemoryDisk) -> Result<(), Fail> {
+    let (again, found) = open(rt, alloc, disk, 40)?;
+    same(rt, found.as_slice(), &RECORDS);
+    same(rt, counts(&again), (2, 2, 38));
     Ok(())
 }
 
 #[test]
 fn forced_and_opened_again(rt: HostRuntime) -> Result<(), Fail> {
-    let alloc = rt.alloc();
-    let mut disk = make_disk(alloc, vec![in alloc; 0u8; 44]?, 1000)?;
-    append_and_force(&rt, alloc, &mut disk)?;
-    same(&rt, disk.contents(), FORCED.as_slice());
-    assert!(rt; disk.size() >= 44);
-    let (again, found) = Log::open(alloc, &mut disk, 4, 40)?;
-    same(&rt, found.as_slice(), RECORDS.as_slice());
-    same(&rt, counts(&again), (2, 2, 38));
-    Ok(())
+    let zeros = vec![in rt.alloc(); 0u8; 44]?;
+    let mut disk = make_disk(rt.alloc(), zeros, &[])?;
+    append_and_force(&rt, rt.alloc(), &mut disk)?;
+    same(&rt, disk.contents(), &FORCED);
+    opened_again(&rt, rt.alloc(), &mut disk)
 }
 
 #[test]
 fn records_appended_together_are_one_batch(rt: HostRuntime) -> Result<(), Fail> {
-    let alloc = rt.alloc();
-    let mut disk = make_disk(alloc, vec![in alloc; 0u8; 44]?, 1000)?;
-    assert!(rt; disk.size() >= 44);
-    let (mut log, _) = Log::open(alloc, &mut disk, 4, 40)?;
-    assert_eq!(rt; log.used(), 1);
-    log.append_all(&RECORDS)?;
-    log.force(&mut disk)?;
-    same(&rt, disk.contents(), FORCED.as_slice());
+    let zeros = vec![in rt.alloc(); 0u8; 44]?;
+    let mut disk = make_disk(rt.alloc(), zeros, &[])?;
+    let mut log = open(&rt, rt.alloc(), &mut disk, 40)?.0;
+    append_both(&rt, &mut log)?;
+    force(&rt, &mut log, &mut disk)?;
+    same(&rt, disk.contents(), &FORCED);
     Ok(())
 }
 
@@ -97,22 +156,28 @@ const CHANGED: [(usize, u8, Result<usize, LogError>); 7] = [
     (28, 28, Err(LogError::BadBatch { at: 0 })),
 ];
 
+/// How many records the log has with one byte changed.
+fn changed(
+    rt: &impl Abort,
+    alloc: Global,
+    place: usize,
+    byte: u8,
+) -> Result<Result<usize, LogError>, AllocError> {
+    let mut bytes = FORCED.to_vec(alloc)?;
+    assert!(rt; place < bytes.len());
+    bytes[place] = byte;
+    let mut disk = make_disk(alloc, bytes, &[])?;
+    match open(rt, alloc, &mut disk, 40) {
+        Ok((_, records)) => Ok(Ok(records.len())),
+        Err(error) => Ok(Err(error)),
+    }
+}
+
 #[test]
 fn a_bad_batch_is_told_where_it_begins(rt: HostRuntime) -> Result<(), Fail> {
-    let alloc = rt.alloc();
     for (place, byte, expected) in CHANGED {
-        let mut bytes = Vec::from_array(alloc, FORCED)?;
-        bytes[place] = byte;
-        let mut disk = MemoryDisk::of(
-            alloc,
-            bytes,
-            Pick::Newest,
-            0,
-            Vec::new(alloc),
-            Vec::new(alloc),
-        )?;
-        let found = Log::open(alloc, &mut disk, 4, 40).map(|(_, records)| records.len());
-        assert_eq!(rt; found, expected, "{byte} at {place}");
+        let found = changed(&rt, rt.alloc(), place, byte)?;
+        same(&rt, (place, byte, found), (place, byte, expected));
     }
     Ok(())
 }
@@ -120,16 +185,18 @@ fn a_bad_batch_is_told_where_it_begins(rt: HostRuntime) -> Result<(), Fail> {
 /// The bytes of a big log, of which few are used.
 const BIG: usize = 8_388_608;
 
+/// A disk with a big log, on which all reads but the first fail.
+fn make_big(alloc: Global) -> Result<MemoryDisk, AllocError> {
+    let mut bytes = FORCED.to_vec(alloc)?;
+    bytes.resize(4 + BIG, 0)?;
+    make_disk(alloc, bytes, &[2, 3, 4])
+}
+
 #[test]
 fn a_big_log_is_read_no_further_than_it_is_used(rt: HostRuntime) -> Result<(), Fail> {
-    let alloc = rt.alloc();
-    let mut bytes = Vec::from_array(alloc, FORCED)?;
-    bytes.resize(4 + BIG, 0)?;
-    // All reads but the first fail.
-    let later = Vec::from_array(alloc, [2, 3, 4])?;
-    let mut disk = MemoryDisk::of(alloc, bytes, Pick::Newest, 0, Vec::new(alloc), later)?;
-    let (log, found) = Log::open(alloc, &mut disk, 4, BIG as u32)?;
-    assert_eq!(rt; found.as_slice(), RECORDS.as_slice());
-    assert_eq!(rt; (log.used(), log.room()), (38, BIG as u64));
+    let mut disk = make_big(rt.alloc())?;
+    let (log, found) = open(&rt, rt.alloc(), &mut disk, BIG as u32)?;
+    same(&rt, found.as_slice(), &RECORDS);
+    same(&rt, (log.used(), log.room()), (38, BIG as u64));
     Ok(())
 }

@@ -1,4 +1,5 @@
 //! Streams whose calls fail, read to their end and written to, and a call of each standard one.
+use crate::compare::same;
 use heap_io::{
     MemorySink, MemorySource, Sink, SinkFailed, Source, SourceFailed, StdSink, StdSource,
     TakeAllError, WatchedSink, put_all, take_all,
@@ -21,65 +22,85 @@ fn read_all(
     }
 }
 
+/// How long a stream is, which of its calls fails, how many bytes are taken at most, and what comes of it. The third call of a
+/// long one and the second of a short one find the end.
+type Read = (usize, u64, usize, Result<usize, TakeAllError>);
+
+const READS: [Read; 11] = [
+    (0, 9, 0, Ok(0)),
+    (5, 9, 5, Ok(5)),
+    (5, 3, 9, Ok(5)),
+    (70000, 9, 70000, Ok(70000)),
+    (5, 9, 4, Err(TakeAllError::TooLong)),
+    (1, 9, 0, Err(TakeAllError::TooLong)),
+    (70000, 9, 69999, Err(TakeAllError::TooLong)),
+    (5, 1, 9, Err(TakeAllError::SourceFailed)),
+    (5, 2, 9, Err(TakeAllError::SourceFailed)),
+    (70000, 2, 70000, Err(TakeAllError::SourceFailed)),
+    (70000, 3, 70000, Err(TakeAllError::SourceFailed)),
+];
+
 #[test]
 fn reads_a_stream_to_its_end(rt: HostRuntime) -> Result<(), Fail> {
-    // The third call of the long one and the second of a short one find the end.
-    for (len, fails, most, wanted) in [
-        (0, 9, 0, Ok(0)),
-        (5, 9, 5, Ok(5)),
-        (5, 3, 9, Ok(5)),
-        (70000, 9, 70000, Ok(70000)),
-        (5, 9, 4, Err(TakeAllError::TooLong)),
-        (1, 9, 0, Err(TakeAllError::TooLong)),
-        (70000, 9, 69999, Err(TakeAllError::TooLong)),
-        (5, 1, 9, Err(TakeAllError::SourceFailed)),
-        (5, 2, 9, Err(TakeAllError::SourceFailed)),
-        (70000, 2, 70000, Err(TakeAllError::SourceFailed)),
-        (70000, 3, 70000, Err(TakeAllError::SourceFailed)),
-    ] {
+    for (len, fails, most, wanted) in READS {
         let got = read_all(rt.alloc(), len, fails, most)?;
-        assert_eq!(rt; got, wanted, "{len} bytes, call {fails} fails");
+        same(&rt, (len, fails, got), (len, fails, wanted));
     }
     Ok(())
 }
+
+/// What each call answers, and the two bytes behind it.
+const TAKEN: [(Result<usize, SourceFailed>, [u8; 2]); 6] = [
+    (Ok(2), *b"ab"),
+    (Err(SourceFailed), *b"ab"),
+    (Ok(2), *b"cd"),
+    (Err(SourceFailed), *b"cd"),
+    (Ok(1), *b"ed"),
+    (Ok(0), *b"ed"),
+];
 
 #[test]
 fn a_source_fails_in_mid_stream_and_goes_on(rt: HostRuntime) -> Result<(), Fail> {
-    let alloc = rt.alloc();
-    let mut source = MemorySource::of(b"abcde".to_vec(alloc)?, [2, 4].to_vec(alloc)?);
+    let bytes = b"abcde".to_vec(rt.alloc())?;
+    let mut source = MemorySource::of(bytes, [2, 4].to_vec(rt.alloc())?);
     let mut into = [0u8; 2];
-    for (wanted, bytes) in [
-        (Ok(2), b"ab"),
-        (Err(SourceFailed), b"ab"),
-        (Ok(2), b"cd"),
-        (Err(SourceFailed), b"cd"),
-        (Ok(1), b"ed"),
-        (Ok(0), b"ed"),
-    ] {
-        assert_eq!(rt; source.take(&mut into), wanted);
-        assert_eq!(rt; into.as_slice(), bytes.as_slice());
+    for (wanted, bytes) in TAKEN {
+        let taken = source.take(&mut into);
+        same(&rt, (taken, into), (wanted, bytes));
     }
     Ok(())
 }
 
+/// What is put, the answer, and what the sink has then. Its second call fails, and it is full behind four bytes.
+const PUT: [(&[u8], Result<(), SinkFailed>, &[u8]); 3] = [
+    (b"ab", Ok(()), b"ab"),
+    (b"cdef", Err(SinkFailed), b"ab"),
+    (b"cdef", Err(SinkFailed), b"abcd"),
+];
+
 #[test]
 fn a_sink_fails_in_mid_stream_and_where_it_is_full(rt: HostRuntime) -> Result<(), Fail> {
-    let alloc = rt.alloc();
-    let mut sink = MemorySink::of(alloc, 4, [2].to_vec(alloc)?)?;
-    assert_eq!(rt; put_all(&mut sink, b"ab"), Ok(()));
-    assert_eq!(rt; put_all(&mut sink, b"cdef"), Err(SinkFailed));
-    assert_eq!(rt; sink.bytes(), b"ab".as_slice());
-    assert_eq!(rt; put_all(&mut sink, b"cdef"), Err(SinkFailed));
-    assert_eq!(rt; sink.bytes(), b"abcd".as_slice());
-    assert_eq!(rt; sink.put(b""), Ok(0));
+    let mut sink = MemorySink::of(rt.alloc(), 4, [2].to_vec(rt.alloc())?)?;
+    for (bytes, wanted, left) in PUT {
+        let put = put_all(&mut sink, bytes);
+        same(&rt, (put, sink.bytes()), (wanted, left));
+    }
+    same(&rt, sink.put(b""), Ok(0));
     Ok(())
 }
 
 #[test]
-fn the_standard_ones_answer(rt: HostRuntime) {
+fn the_standard_sources_answer(rt: HostRuntime) {
     let mut into = [0u8; 4];
-    assert_eq!(rt; StdSource::new(b"ab".as_slice()).take(&mut into), Ok(2));
-    assert_eq!(rt; StdSource::new(rt.stdin()).take(&mut []), Ok(0));
-    assert_eq!(rt; StdSink::new(rt.stdout()).put(b""), Ok(0));
-    assert_eq!(rt; WatchedSink::new(rt.stdout(), rt.stderr()).put(b""), Ok(0));
+    let taken = StdSource::new(b"ab".as_slice()).take(&mut into);
+    same(&rt, taken, Ok(2));
+    let taken = StdSource::new(rt.stdin()).take(&mut []);
+    same(&rt, taken, Ok(0));
+}
+
+#[test]
+fn the_standard_sinks_answer(rt: HostRuntime) {
+    same(&rt, StdSink::new(rt.stdout()).put(b""), Ok(0));
+    let mut watched = WatchedSink::new(rt.stdout(), rt.stderr());
+    same(&rt, watched.put(b""), Ok(0));
 }

@@ -2,6 +2,8 @@
 #![tactic(auto)]
 
 #[cfg(test)]
+mod compare;
+#[cfg(test)]
 mod disk_file_tests;
 #[cfg(test)]
 mod disk_model_tests;

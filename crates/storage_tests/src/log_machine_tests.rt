@@ -2,11 +2,11 @@
 ghost use Rattle.std.specs.Prelude.{IfOk};
 ghost use Rattle.log_machine.specs.Effect.{WritesBelow};
 
+use crate::compare::same;
 use heap_words::birth;
 use log_machine::{LogState, ReplayError, effect, end_bytes, replay};
 use log_records::{ObjectWords, Record};
 use std::alloc::{AllocError, Global};
-use std::fmt::Debug;
 use std::process::Abort;
 use std::test::Fail;
 
@@ -75,11 +75,6 @@ fn undo(t: u32, field: u16, word: u64) -> Record {
 }
 
 // Each test leaves what it looks at to functions of few lines, since a function's proof takes the square of its length.
-
-/// Compares what was found.
-fn same<T: PartialEq + Debug + Copy>(rt: &impl Abort, found: T, want: T) {
-    assert_eq!(rt; found, want);
-}
 
 /// Takes the record if it can follow.
 fn take(rt: &impl Abort, alloc: Global, state: &mut LogState, record: &Record) -> bool {

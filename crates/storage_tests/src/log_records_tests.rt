@@ -1,18 +1,19 @@
 //! Records byte by byte, one of each kind, and bytes that are none.
+ghost use Rattle.std.specs.Prelude.{◌≤◌, length, IfOk};
+
+use crate::compare::same;
 use byteorder::{ByteOrder, LittleEndian};
 use log_records::{Copies, ObjectCopy, ObjectWords, Record, Writes, decode, encode, length};
 use std::alloc::{AllocError, Global};
 use std::process::Abort;
 use std::test::Fail;
 
-/// A record of each kind: transaction 1 writes the number 7 where null stood; its second object, of two fields, one null and
-/// one a reference to the root, comes to stand at address 262; a field refers to it from then on; the number is put back into
-/// field 2; and transaction 1 is committed, and has ended. The next three are an object without fields, and records of numbers
-/// that no transaction has. The last four are those of a collection.
-fn records(alloc: Global) -> Result<[Record; 13], AllocError> {
-    let two_fields = [9, 1 << 32 | 2, 0, 2];
-    let no_fields = [1, 0];
-    Ok([
+/// Records without words of objects, and their bytes. Transaction 1 writes the number 7 where null stood; a field refers to the
+/// object at address 262 from then on; the number is put back into field 2; and transaction 1 is committed, and has ended. Two
+/// are of numbers that no transaction has, and the last one is of a collection. The bytes of the `Update`, the `Fix` and the
+/// `Commit` stand in `docs/FORMATS.md` too.
+const PLAIN: [(Record, &[u8]); 8] = [
+    (
         Record::Update {
             t: 1,
             object: 0,
@@ -20,106 +21,145 @@ fn records(alloc: Global) -> Result<[Record; 13], AllocError> {
             was: 0,
             word: 29,
         },
-        Record::Base {
-            t: 1,
-            address: 262,
-            words: ObjectWords::new(Vec::from_array(alloc, two_fields)?),
-        },
+        &[
+            1, 1, 0, 0, 0, 0, 0, 0, 0, 0, 0, 0, 0, 0, 0, 0, 0, 0, 0, 29, 0, 0, 0, 0, 0, 0, 0,
+        ],
+    ),
+    (
         Record::Fix {
             t: 1,
             object: 0,
             field: 3,
             word: 1050,
         },
+        &[3, 1, 0, 0, 0, 0, 0, 0, 0, 3, 0, 26, 4, 0, 0, 0, 0, 0, 0],
+    ),
+    (
         Record::Undo {
             t: 1,
             object: 0,
             field: 2,
             word: 29,
         },
-        Record::Commit { t: 1 },
-        Record::End { t: 1 },
-        Record::Base {
-            t: 0,
-            address: u32::MAX,
-            words: ObjectWords::new(Vec::from_array(alloc, no_fields)?),
-        },
-        Record::Commit { t: 0 },
-        Record::End { t: u32::MAX },
-        copy(alloc)?,
-        scan(alloc)?,
-        flip(alloc)?,
-        Record::Collected,
-    ])
-}
-
-/// The object of two fields is copied from address 262 to 64. Its first field refers to a transaction's own object.
-fn copy(alloc: Global) -> Result<Record, AllocError> {
-    let words = ObjectWords::new(Vec::from_array(alloc, [9, 1 << 32 | 2, 3, 1050])?);
-    Ok(Record::Copy {
-        from: 262,
-        to: 64,
-        words,
-    })
-}
-
-/// Two words of page 1 are set, one to a reference to the object at address 68, the other to null.
-fn scan(alloc: Global) -> Result<Record, AllocError> {
-    let writes = Writes::new(Vec::from_array(alloc, [(66, 274), (67, 0)])?);
-    Ok(Record::Scan { page: 1, writes })
-}
-
-/// An object without fields and one of a field are copied, to addresses 64 and 66.
-fn flip(alloc: Global) -> Result<Record, AllocError> {
-    let mut copies = Vec::new(alloc);
-    copies.push(ObjectCopy {
-        from: 0,
-        to: 64,
-        words: ObjectWords::new(Vec::from_array(alloc, [1, 0])?),
-    })?;
-    copies.push(ObjectCopy {
-        from: 262,
-        to: 66,
-        words: ObjectWords::new(Vec::from_array(alloc, [5, 1 << 32 | 2, 3])?),
-    })?;
-    Ok(Record::Flip {
-        copies: Copies::new(copies),
-    })
-}
-
-/// Their bytes. Those of the `Update`, the `Base`, the `Fix` and the `Commit` stand in `docs/FORMATS.md` too.
-const SPELLINGS: [&[u8]; 13] = [
-    &[
-        1, 1, 0, 0, 0, 0, 0, 0, 0, 0, 0, 0, 0, 0, 0, 0, 0, 0, 0, 29, 0, 0, 0, 0, 0, 0, 0,
-    ],
-    &[
-        2, 1, 0, 0, 0, 6, 1, 0, 0, 9, 0, 0, 0, 0, 0, 0, 0, 2, 0, 0, 0, 1, 0, 0, 0, 0, 0, 0, 0, 0,
-        0, 0, 0, 2, 0, 0, 0, 0, 0, 0, 0,
-    ],
-    &[3, 1, 0, 0, 0, 0, 0, 0, 0, 3, 0, 26, 4, 0, 0, 0, 0, 0, 0],
-    &[4, 1, 0, 0, 0, 0, 0, 0, 0, 2, 0, 29, 0, 0, 0, 0, 0, 0, 0],
-    &[5, 1, 0, 0, 0],
-    &[6, 1, 0, 0, 0],
-    &[
-        2, 0, 0, 0, 0, 255, 255, 255, 255, 1, 0, 0, 0, 0, 0, 0, 0, 0, 0, 0, 0, 0, 0, 0, 0,
-    ],
-    &[5, 0, 0, 0, 0],
-    &[6, 255, 255, 255, 255],
-    &[
-        7, 6, 1, 0, 0, 64, 0, 0, 0, 9, 0, 0, 0, 0, 0, 0, 0, 2, 0, 0, 0, 1, 0, 0, 0, 3, 0, 0, 0, 0,
-        0, 0, 0, 26, 4, 0, 0, 0, 0, 0, 0,
-    ],
-    &[
-        8, 1, 0, 0, 0, 2, 0, 66, 0, 0, 0, 18, 1, 0, 0, 0, 0, 0, 0, 67, 0, 0, 0, 0, 0, 0, 0, 0, 0,
-        0, 0,
-    ],
-    &[
-        9, 2, 0, 0, 0, 0, 0, 0, 0, 64, 0, 0, 0, 1, 0, 0, 0, 0, 0, 0, 0, 0, 0, 0, 0, 0, 0, 0, 0, 6,
-        1, 0, 0, 66, 0, 0, 0, 5, 0, 0, 0, 0, 0, 0, 0, 2, 0, 0, 0, 1, 0, 0, 0, 3, 0, 0, 0, 0, 0, 0,
-        0,
-    ],
-    &[10],
+        &[4, 1, 0, 0, 0, 0, 0, 0, 0, 2, 0, 29, 0, 0, 0, 0, 0, 0, 0],
+    ),
+    (Record::Commit { t: 1 }, &[5, 1, 0, 0, 0]),
+    (Record::End { t: 1 }, &[6, 1, 0, 0, 0]),
+    (Record::Commit { t: 0 }, &[5, 0, 0, 0, 0]),
+    (Record::End { t: u32::MAX }, &[6, 255, 255, 255, 255]),
+    (Record::Collected, &[10]),
 ];
+
+/// An object's words, where it stood, if it did, and where it stands.
+type Object = (u32, u32, &'static [u64]);
+
+/// A record with words, as a table can have it.
+enum Listed {
+    Base(u32, u32, &'static [u64]),
+    Copy(Object),
+    Scan(u32, &'static [(u32, u64)]),
+    Flip(Object, Object),
+}
+
+/// Records with words, and their bytes. The second object of transaction 1, of two fields, one null and one a reference to the
+/// root, comes to stand at address 262; an object without fields is of a number that no transaction has; the object of two
+/// fields, the first of which refers to a transaction's own object, is copied from address 262 to 64; two words of page 1 are
+/// set, one to a reference to the object at address 68, the other to null; and an object without fields and one of a field are
+/// copied, to addresses 64 and 66. The bytes of the first `Base` stand in `docs/FORMATS.md` too.
+const LISTED: [(Listed, &[u8]); 5] = [
+    (
+        Listed::Base(1, 262, &[9, 1 << 32 | 2, 0, 2]),
+        &[
+            2, 1, 0, 0, 0, 6, 1, 0, 0, 9, 0, 0, 0, 0, 0, 0, 0, 2, 0, 0, 0, 1, 0, 0, 0, 0, 0, 0, 0,
+            0, 0, 0, 0, 2, 0, 0, 0, 0, 0, 0, 0,
+        ],
+    ),
+    (
+        Listed::Base(0, u32::MAX, &[1, 0]),
+        &[
+            2, 0, 0, 0, 0, 255, 255, 255, 255, 1, 0, 0, 0, 0, 0, 0, 0, 0, 0, 0, 0, 0, 0, 0, 0,
+        ],
+    ),
+    (
+        Listed::Copy((262, 64, &[9, 1 << 32 | 2, 3, 1050])),
+        &[
+            7, 6, 1, 0, 0, 64, 0, 0, 0, 9, 0, 0, 0, 0, 0, 0, 0, 2, 0, 0, 0, 1, 0, 0, 0, 3, 0, 0, 0,
+            0, 0, 0, 0, 26, 4, 0, 0, 0, 0, 0, 0,
+        ],
+    ),
+    (
+        Listed::Scan(1, &[(66, 274), (67, 0)]),
+        &[
+            8, 1, 0, 0, 0, 2, 0, 66, 0, 0, 0, 18, 1, 0, 0, 0, 0, 0, 0, 67, 0, 0, 0, 0, 0, 0, 0, 0,
+            0, 0, 0,
+        ],
+    ),
+    (
+        Listed::Flip((0, 64, &[1, 0]), (262, 66, &[5, 1 << 32 | 2, 3])),
+        &[
+            9, 2, 0, 0, 0, 0, 0, 0, 0, 64, 0, 0, 0, 1, 0, 0, 0, 0, 0, 0, 0, 0, 0, 0, 0, 0, 0, 0, 0,
+            6, 1, 0, 0, 66, 0, 0, 0, 5, 0, 0, 0, 0, 0, 0, 0, 2, 0, 0, 0, 1, 0, 0, 0, 3, 0, 0, 0, 0,
+            0, 0, 0,
+        ],
+    ),
+];
+
+fn object_words(alloc: Global, words: &[u64]) -> Result<ObjectWords, AllocError> {
+    Ok(ObjectWords::new(words.to_vec(alloc)?))
+}
+
+fn base(alloc: Global, t: u32, address: u32, words: &[u64]) -> Result<Record, AllocError> {
+    let words = object_words(alloc, words)?;
+    Ok(Record::Base { t, address, words })
+}
+
+fn copy(alloc: Global, (from, to, words): Object) -> Result<Record, AllocError> {
+    let words = object_words(alloc, words)?;
+    Ok(Record::Copy { from, to, words })
+}
+
+fn scan(
+    rt: &impl Abort,
+    alloc: Global,
+    page: u32,
+    writes: &[(u32, u64)],
+) -> Result<Record, AllocError> {
+    let writes = writes.to_vec(alloc)?;
+    assert!(rt; writes.len() < 99);
+    let writes = Writes::new(writes);
+    Ok(Record::Scan { page, writes })
+}
+
+fn object_copy(rt: &impl Abort, alloc: Global, object: Object) -> Result<ObjectCopy, AllocError>
+    ensures { IfOk result (λ copy. length copy.words ≤ 512) }
+{
+    let (from, to, words) = object;
+    let words = object_words(alloc, words)?;
+    assert!(rt; words.as_slice().len() <= 512);
+    Ok(ObjectCopy { from, to, words })
+}
+
+fn flip(
+    rt: &impl Abort,
+    alloc: Global,
+    first: Object,
+    second: Object,
+) -> Result<Record, AllocError> {
+    let mut copies = Vec::new(alloc);
+    copies.push(object_copy(rt, alloc, first)?)?;
+    copies.push(object_copy(rt, alloc, second)?)?;
+    let copies = Copies::new(copies);
+    Ok(Record::Flip { copies })
+}
+
+fn made(rt: &impl Abort, alloc: Global, listed: &Listed) -> Result<Record, AllocError> {
+    match listed {
+        Listed::Base(t, address, words) => base(alloc, *t, *address, words),
+        Listed::Copy(object) => copy(alloc, *object),
+        Listed::Scan(page, writes) => scan(rt, alloc, *page, writes),
+        Listed::Flip(first, second) => flip(rt, alloc, *first, *second),
+    }
+}
 
 /// Bytes that begin with no record: kinds that are none; and the word 3 * 2^60, which no field has, at each word of an
 /// `Update`, at that of an `Undo`, at that of a `Fix`, at a field of a `Base`, and at that of a `Scan`; and a `Base` whose header
@@ -156,41 +196,67 @@ const NO_RECORDS: [&[u8]; 13] = [
     ],
 ];
 
-/// Compares what is decoded. The tests call it, since the proof of an assertion of their own would take each of them longer.
-fn expect(
+/// Reads a record, and compares it and how many bytes it takes.
+fn read(
     rt: &impl Abort,
     alloc: Global,
     bytes: &[u8],
-    want: &Option<(Record, usize)>,
+    record: &Record,
+    len: usize,
 ) -> Result<(), AllocError> {
-    let found = decode(alloc, bytes)?;
-    assert!(rt; found == *want, "{bytes:?}");
+    let Some((found, taken)) = decode(alloc, bytes)? else {
+        panic!(rt; "no record");
+    };
+    assert!(rt; found == *record && taken == len, "{bytes:?}");
     Ok(())
+}
+
+/// Bytes that begin with no record.
+fn refused(rt: &impl Abort, alloc: Global, bytes: &[u8]) -> Result<(), AllocError> {
+    let found = decode(alloc, bytes)?;
+    assert!(rt; found.is_none(), "{bytes:?}");
+    Ok(())
+}
+
+/// Spells a record, compares the bytes, and spells it once more behind them.
+fn spell(
+    rt: &impl Abort,
+    alloc: Global,
+    record: &Record,
+    bytes: &[u8],
+) -> Result<Vec<u8>, AllocError> {
+    let mut spelled = Vec::new(alloc);
+    encode(record, &mut spelled)?;
+    let found = (spelled.as_slice(), length(record));
+    same(rt, found, (bytes, bytes.len() as u64));
+    encode(record, &mut spelled)?;
+    Ok(spelled)
 }
 
 /// Spells a record, alone and with bytes behind it, and reads it again.
 fn spell_and_read(
     rt: &impl Abort,
     alloc: Global,
-    record: Record,
+    record: &Record,
     bytes: &[u8],
 ) -> Result<(), AllocError> {
-    let mut spelled = Vec::new(alloc);
-    encode(&record, &mut spelled)?;
-    assert_eq!(rt;
-        (spelled.as_slice(), length(&record)),
-        (bytes, bytes.len() as u64)
-    );
-    encode(&record, &mut spelled)?;
-    let want = Some((record, bytes.len()));
-    expect(rt, alloc, bytes, &want)?;
-    expect(rt, alloc, &spelled, &want)
+    let twice = spell(rt, alloc, record, bytes)?;
+    read(rt, alloc, bytes, record, bytes.len())?;
+    read(rt, alloc, &twice, record, bytes.len())
 }
 
 #[test]
 fn spelled_and_read_again(rt: HostRuntime) -> Result<(), Fail> {
-    for (record, bytes) in records(rt.alloc())?.into_iter().zip(SPELLINGS) {
+    for (record, bytes) in &PLAIN {
         spell_and_read(&rt, rt.alloc(), record, bytes)?;
+    }
+    Ok(())
+}
+
+#[test]
+fn records_with_words_are_spelled_and_read_again(rt: HostRuntime) -> Result<(), Fail> {
+    for (listed, bytes) in &LISTED {
+        spell_and_read(&rt, rt.alloc(), &made(&rt, rt.alloc(), listed)?, bytes)?;
     }
     Ok(())
 }
@@ -198,7 +264,7 @@ fn spelled_and_read_again(rt: HostRuntime) -> Result<(), Fail> {
 #[test]
 fn bytes_that_begin_with_no_record_are_refused(rt: HostRuntime) -> Result<(), Fail> {
     for bytes in &NO_RECORDS {
-        expect(&rt, rt.alloc(), bytes, &None)?;
+        refused(&rt, rt.alloc(), bytes)?;
     }
     Ok(())
 }
@@ -206,14 +272,17 @@ fn bytes_that_begin_with_no_record_are_refused(rt: HostRuntime) -> Result<(), Fa
 /// Bytes that are cut off anywhere.
 fn cut_off(rt: &impl Abort, alloc: Global, bytes: &[u8]) -> Result<(), AllocError> {
     for end in 0..bytes.len() {
-        expect(rt, alloc, &bytes[..end], &None)?;
+        refused(rt, alloc, &bytes[..end])?;
     }
     Ok(())
 }
 
 #[test]
 fn records_that_are_cut_off_are_refused(rt: HostRuntime) -> Result<(), Fail> {
-    for bytes in &SPELLINGS {
+    for (_, bytes) in &PLAIN {
+        cut_off(&rt, rt.alloc(), bytes)?;
+    }
+    for (_, bytes) in &LISTED {
         cut_off(&rt, rt.alloc(), bytes)?;
     }
     Ok(())
@@ -231,23 +300,30 @@ const HEADERS: [(u16, Option<usize>); 5] = [
     (2401, None),
 ];
 
+/// How many bytes the `Base` with this header takes.
+fn base_size(alloc: Global, header: u16) -> Result<Option<usize>, AllocError> {
+    let mut bytes = vec![in alloc; 0u8; 5000]?;
+    bytes[0] = BASE;
+    LittleEndian::write_u16(&mut bytes[9..], header);
+    match decode(alloc, &bytes)? {
+        Some((_, size)) => Ok(Some(size)),
+        None => Ok(None),
+    }
+}
+
 #[test]
 fn as_many_words_as_the_header_tells(rt: HostRuntime) -> Result<(), Fail> {
-    let alloc = rt.alloc();
     for (header, expected) in HEADERS {
-        let mut bytes = vec![in alloc; 0u8; 5000]?;
-        bytes[0] = BASE;
-        LittleEndian::write_u16(&mut bytes[9..], header);
-        let size = decode(alloc, &bytes)?.map(|found| found.1);
-        assert_eq!(rt; size, expected, "{header}");
+        let size = base_size(rt.alloc(), header)?;
+        same(&rt, (header, size), (header, expected));
     }
     Ok(())
 }
 
 #[test]
 fn the_words_of_an_object(rt: HostRuntime) -> Result<(), Fail> {
-    let words = ObjectWords::new(Vec::from_array(rt.alloc(), [5, 2, 0])?);
-    assert_eq!(rt; words.as_slice(), [5, 2, 0].as_slice());
-    assert_eq!(rt; words.into_vec().as_slice(), [5, 2, 0].as_slice());
+    let words = object_words(rt.alloc(), &[5, 2, 0])?;
+    same(&rt, words.as_slice(), &[5, 2, 0]);
+    same(&rt, words.into_vec().as_slice(), &[5, 2, 0]);
     Ok(())
 }

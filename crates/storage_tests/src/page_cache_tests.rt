@@ -2,10 +2,12 @@
 ghost use Rattle.std.specs.Prelude.{◌+◌, ◌<◌, length, IfOk};
 ghost use Rattle.log_machine.specs.Effect.{WritesBelow, EachWritesBelow};
 
-use disk_model::{Disk, MemoryDisk, Pick};
+use crate::compare::same;
+use disk_model::{Disk, DiskError, MemoryDisk, Pick};
 use image_plan::Plan;
 use log_records::{ObjectWords, Record};
 use page_cache::PageCache;
+use page_store::OpenError;
 use std::alloc::{AllocError, Global};
 use std::process::Abort;
 use std::test::Fail;
@@ -96,6 +98,20 @@ const ROWS: [Row; 6] = [
     ([(2, 0), (5, 0), (7, 1)], [5, 7, 0, 0]),
 ];
 
+/// A disk of zeros.
+fn new_disk(alloc: Global) -> Result<MemoryDisk, AllocError> {
+    let bytes = vec![in alloc; 0u8; 4352]?;
+    let none = Vec::new(alloc);
+    MemoryDisk::of(alloc, bytes, Pick::AllOnes, 99_999, none, Vec::new(alloc))
+}
+
+// What follows wraps calls with long contracts, since each of their callers would otherwise prove them anew.
+
+fn open(rt: &impl Abort, alloc: Global, disk: &mut MemoryDisk) -> Result<PageCache, OpenError> {
+    assert!(rt; disk.size() >= PLAN.size());
+    PageCache::open(alloc, disk, PLAN)
+}
+
 /// Stores page `p` as it is now.
 fn flush(
     rt: &impl Abort,
@@ -103,13 +119,51 @@ fn flush(
     disk: &mut MemoryDisk,
     p: u32,
     forced: u64,
-) -> Result<(), Fail> {
+) -> Result<(), DiskError> {
     assert!(rt; p < cache.pages() && disk.size() >= cache.plan().size());
     assert!(rt; cache.dirty(p) && !cache.failed());
     assert!(rt; cache.lsn(p) <= forced);
     cache.flush(disk, p, forced)?;
+    check_clean(rt, cache, p);
+    Ok(())
+}
+
+fn check_clean(rt: &impl Abort, cache: &PageCache, p: u32) {
     assert!(rt; p < cache.pages());
-    assert!(rt; !cache.dirty(p));
+    same(rt, cache.dirty(p), false);
+}
+
+/// Puts a record behind so many others on pages that are not ahead of it.
+fn apply(rt: &impl Abort, cache: &mut PageCache, before: u64, rec: &Record)
+    requires { WritesBelow 256 rec.now }
+{
+    assert!(rt; before < 99 && cache.as_slice().len() == 256);
+    match cache.first_past(before) {
+        None => cache.apply(before + 1, rec),
+        Some(p) => panic!(rt; "page {p} is ahead of record {before}"),
+    }
+}
+
+fn redo(rt: &impl Abort, cache: &mut PageCache, records: &[Record])
+    requires { EachWritesBelow 256 records.now }
+{
+    assert!(rt; cache.as_slice().len() == 256 && records.len() < 99);
+    cache.redo_all(1, records);
+}
+
+/// Stores the pages that are flushed behind so many records.
+fn flush_due(
+    rt: &impl Abort,
+    cache: &mut PageCache,
+    disk: &mut MemoryDisk,
+    flushes: [(u64, u32); 3],
+    done: u64,
+) -> Result<(), DiskError> {
+    for (at, p) in flushes {
+        if at == done {
+            flush(rt, cache, disk, p, done)?;
+        }
+    }
     Ok(())
 }
 
@@ -123,20 +177,10 @@ fn play(
 ) -> Result<(), Fail>
     requires { EachWritesBelow 256 records.now }
 {
-    assert!(rt; disk.size() >= PLAN.size());
-    let mut cache = PageCache::open(alloc, disk, PLAN)?;
+    let mut cache = open(rt, alloc, disk)?;
     for (i, rec) in records.iter().enumerate() {
-        let lsn = i as u64 + 1;
-        assert!(rt; cache.as_slice().len() == 256);
-        match cache.first_past(i as u64) {
-            None => cache.apply(lsn, rec),
-            Some(p) => panic!(rt; "page {p} is ahead of record {i}"),
-        }
-        for (at, p) in flushes {
-            if at == lsn {
-                flush(rt, &mut cache, disk, p, lsn)?;
-            }
-        }
+        apply(rt, &mut cache, i as u64, rec);
+        flush_due(rt, &mut cache, disk, flushes, i as u64 + 1)?;
     }
     Ok(())
 }
@@ -165,14 +209,12 @@ fn redone(
     disk: &mut MemoryDisk,
     records: &[Record],
     stored: [u64; 4],
-) -> Result<PageCache, Fail>
+) -> Result<PageCache, OpenError>
     requires { EachWritesBelow 256 records.now }
 {
-    assert!(rt; disk.size() >= PLAN.size());
-    let mut cache = PageCache::open(alloc, disk, PLAN)?;
-    assert_eq!(rt; lsns(rt, &cache), stored);
-    assert!(rt; cache.as_slice().len() == 256 && records.len() < 99);
-    cache.redo_all(1, records);
+    let mut cache = open(rt, alloc, disk)?;
+    same(rt, lsns(rt, &cache), stored);
+    redo(rt, &mut cache, records);
     Ok(cache)
 }
 
@@ -251,45 +293,60 @@ fn replayed(alloc: Global, records: &[Record]) -> Result<Vec<u64>, AllocError> {
     Ok(words)
 }
 
-#[test]
-fn redone_as_replayed(rt: HostRuntime) -> Result<(), Fail> {
-    let alloc = rt.alloc();
-    let records = records(alloc)?;
-    let plain = replayed(alloc, &records)?;
-    for (flushes, stored) in ROWS {
-        let bytes = vec![in alloc; 0u8; 4352]?;
-        let none = Vec::new(alloc);
-        let mut disk = MemoryDisk::of(alloc, bytes, Pick::AllOnes, 99_999, none, Vec::new(alloc))?;
-        play(&rt, alloc, &mut disk, &records, flushes)?;
-        disk.restart();
-        let cache = redone(&rt, alloc, &mut disk, &records, stored)?;
-        assert_eq!(rt; cache.as_slice(), plain.as_slice(), "{stored:?}");
-        assert_eq!(rt; lsns(&rt, &cache), [5, 7, 0, 8]);
-    }
+/// Plays the records, starts the disk again, and compares what redo gives with the words of a plain replay.
+fn check_row(
+    rt: &impl Abort,
+    alloc: Global,
+    records: &[Record],
+    row: Row,
+    plain: &[u64],
+) -> Result<(), Fail>
+    requires { EachWritesBelow 256 records.now }
+{
+    let (flushes, stored) = row;
+    let mut disk = new_disk(alloc)?;
+    play(rt, alloc, &mut disk, records, flushes)?;
+    disk.restart();
+    let cache = redone(rt, alloc, &mut disk, records, stored)?;
+    same(rt, (stored, cache.as_slice()), (stored, plain));
+    same(rt, lsns(rt, &cache), [5, 7, 0, 8]);
     Ok(())
 }
 
 #[test]
-fn words_by_address(rt: HostRuntime) -> Result<(), Fail> {
-    let alloc = rt.alloc();
-    let bytes = vec![in alloc; 0u8; 4352]?;
-    let none = Vec::new(alloc);
-    let mut disk = MemoryDisk::of(alloc, bytes, Pick::AllOnes, 99_999, none, Vec::new(alloc))?;
-    let cache = redone(&rt, alloc, &mut disk, &records(alloc)?, [0; 4])?;
+fn redone_as_replayed(rt: HostRuntime) -> Result<(), Fail> {
+    let records = records(rt.alloc())?;
+    let plain = replayed(rt.alloc(), &records)?;
+    for row in ROWS {
+        check_row(&rt, rt.alloc(), &records, row, &plain)?;
+    }
+    Ok(())
+}
+
+/// The pages of a new disk with the records on them.
+fn redone_on_new(rt: &impl Abort, alloc: Global) -> Result<PageCache, Fail> {
+    let mut disk = new_disk(alloc)?;
+    let records = records(alloc)?;
+    Ok(redone(rt, alloc, &mut disk, &records, [0; 4])?)
+}
+
+/// The words at three addresses.
+fn three_words(rt: &impl Abort, cache: &PageCache) -> [u64; 3] {
     assert!(rt; cache.as_slice().len() == 256);
-    let found = [cache.word(2), cache.word(65), cache.word(255)];
-    assert_eq!(rt; found, [5, 9, 25]);
+    [cache.word(2), cache.word(65), cache.word(255)]
+}
+
+#[test]
+fn words_by_address(rt: HostRuntime) -> Result<(), Fail> {
+    let cache = redone_on_new(&rt, rt.alloc())?;
+    same(&rt, three_words(&rt, &cache), [5, 9, 25]);
     Ok(())
 }
 
 #[test]
 fn pages_ahead_of_a_log(rt: HostRuntime) -> Result<(), Fail> {
-    let alloc = rt.alloc();
-    let bytes = vec![in alloc; 0u8; 4352]?;
-    let none = Vec::new(alloc);
-    let mut disk = MemoryDisk::of(alloc, bytes, Pick::AllOnes, 99_999, none, Vec::new(alloc))?;
-    let cache = redone(&rt, alloc, &mut disk, &records(alloc)?, [0; 4])?;
+    let cache = redone_on_new(&rt, rt.alloc())?;
     let want = [Some(0), Some(0), Some(1), Some(3), None];
-    assert_eq!(rt; firsts_past(&cache), want);
+    same(&rt, firsts_past(&cache), want);
     Ok(())
 }

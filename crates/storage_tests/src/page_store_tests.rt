@@ -1,7 +1,8 @@
 //! Pages on a disk in memory: frames whose bytes are given, and stores that are stopped at each device call.
-use disk_model::{Disk, FuseDisk, MemoryDisk, Pick};
+use crate::compare::same;
+use disk_model::{Disk, DiskError, FuseDisk, MemoryDisk, Pick};
 use image_plan::Plan;
-use page_store::{PAGE_WORDS, PageStore, StoredPage};
+use page_store::{OpenError, PAGE_WORDS, PageStore, StoredPage};
 use std::alloc::{AllocError, Global};
 use std::process::Abort;
 use std::test::Fail;
@@ -12,16 +13,58 @@ const PLAN: Plan = Plan {
     log_bytes: 64,
 };
 
-/// A disk with nothing pending, on which no call fails.
-fn disk_of(alloc: Global, bytes: Vec<u8>, pick: Pick) -> Result<MemoryDisk, AllocError> {
-    MemoryDisk::of(
-        alloc,
-        bytes,
-        pick,
-        100_000,
-        Vec::new(alloc),
-        Vec::new(alloc),
-    )
+/// A disk with nothing pending, on which the listed writes and syncs fail.
+fn disk_of(
+    alloc: Global,
+    bytes: Vec<u8>,
+    pick: Pick,
+    fails: &[u64],
+) -> Result<MemoryDisk, AllocError> {
+    let fails = fails.to_vec(alloc)?;
+    MemoryDisk::of(alloc, bytes, pick, 100_000, fails, Vec::new(alloc))
+}
+
+/// A disk of zeros.
+fn new_disk(alloc: Global, pick: Pick, fails: &[u64]) -> Result<MemoryDisk, AllocError> {
+    disk_of(alloc, vec![in alloc; 0u8; 2240]?, pick, fails)
+}
+
+// What follows wraps calls with long contracts, since each of their callers would otherwise prove them anew.
+
+fn open(
+    rt: &impl Abort,
+    alloc: Global,
+    disk: &mut MemoryDisk,
+) -> Result<(PageStore, Vec<u64>), OpenError> {
+    assert!(rt; disk.size() >= PLAN.size());
+    PageStore::open(alloc, disk, PLAN)
+}
+
+fn load(
+    rt: &impl Abort,
+    store: &PageStore,
+    disk: &mut MemoryDisk,
+    p: u32,
+) -> Result<StoredPage, DiskError> {
+    assert!(rt; p < store.pages() && !store.failed());
+    assert!(rt; disk.size() >= store.plan().size());
+    let page = store.load(disk, p)?;
+    same(rt, page.lsn, store.stored_lsn(p));
+    Ok(page)
+}
+
+/// Whether the page is stored.
+fn is_stored<D: Disk>(
+    rt: &impl Abort,
+    store: &mut PageStore,
+    disk: &mut D,
+    p: u32,
+    page: &StoredPage,
+) -> bool {
+    assert!(rt; p < store.pages() && !store.failed());
+    assert!(rt; store.stored_lsn(p) < page.lsn);
+    assert!(rt; disk.size() >= store.plan().size());
+    store.store(disk, p, page.lsn, &page.words).is_ok()
 }
 
 /// The pages that loads give, each with the words that an opening gives.
@@ -29,19 +72,13 @@ fn pages_on(
     rt: &impl Abort,
     alloc: Global,
     disk: &mut MemoryDisk,
-) -> Result<Vec<StoredPage>, Fail> {
-    assert!(rt; disk.size() >= PLAN.size());
-    let (store, words) = PageStore::open(alloc, disk, PLAN)?;
-    let mut pages = Vec::new(alloc);
-    let mut loaded = Vec::new(alloc);
-    for p in 0..store.pages() {
-        assert!(rt; disk.size() >= store.plan().size());
-        let page = store.load(disk, p)?;
-        assert_eq!(rt; page.lsn, store.stored_lsn(p));
-        loaded.extend_from_slice(&page.words)?;
-        pages.push(page)?;
+) -> Result<[StoredPage; 2], Fail> {
+    let (store, words) = open(rt, alloc, disk)?;
+    same(rt, (store.pages(), words.len()), (2, 2 * PAGE_WORDS));
+    let pages = [load(rt, &store, disk, 0)?, load(rt, &store, disk, 1)?];
+    for (page, words) in pages.iter().zip(words.chunks(PAGE_WORDS)) {
+        same(rt, page.words.as_slice(), words);
     }
-    assert_eq!(rt; words.as_slice(), loaded.as_slice());
     Ok(pages)
 }
 
@@ -56,54 +93,68 @@ fn first_page(p: u32) -> StoredPage {
 
 #[test]
 fn never_stored(rt: HostRuntime) -> Result<(), Fail> {
-    let alloc = rt.alloc();
-    let mut disk = disk_of(alloc, vec![in alloc; 0u8; 2240]?, Pick::Newest)?;
-    let pages = pages_on(&rt, alloc, &mut disk)?;
-    assert_eq!(rt; pages.as_slice(), [first_page(0), first_page(1)].as_slice());
+    let mut disk = new_disk(rt.alloc(), Pick::Newest, &[])?;
+    let pages = pages_on(&rt, rt.alloc(), &mut disk)?;
+    same(&rt, pages, [first_page(0), first_page(1)]);
     Ok(())
 }
 
-/// The gates and LSNs of both frames of page 0, and its LSN with the byte that fills its words. The first frame is filled with
-/// the byte 17, the second with 34.
-const FRAMES: [(u8, u64, u8, u64, u64, u8); 7] = [
-    (1, 5, 1, 9, 9, 34),
-    (1, 9, 1, 5, 9, 17),
-    (1, 7, 1, 7, 7, 17),
-    (1, 5, 0, 9, 5, 17),
-    (255, 9, 1, 5, 5, 34),
-    (1, 0, 2, 1, 0, 17),
-    (0, 0, 1, 0, 0, 34),
+/// A frame's gate, its LSN, and the byte that fills its words.
+type Frame = (u8, u64, u8);
+
+/// Both frames of page 0, and the one that counts.
+const FRAMES: [[Frame; 3]; 7] = [
+    [(1, 5, 17), (1, 9, 34), (1, 9, 34)],
+    [(1, 9, 17), (1, 5, 34), (1, 9, 17)],
+    [(1, 7, 17), (1, 7, 34), (1, 7, 17)],
+    [(1, 5, 17), (0, 9, 34), (1, 5, 17)],
+    [(255, 9, 17), (1, 5, 34), (1, 5, 34)],
+    [(1, 0, 17), (2, 1, 34), (1, 0, 17)],
+    [(0, 0, 17), (1, 0, 34), (1, 0, 34)],
 ];
 
 /// Adds a frame, in whose seven unused bytes something stands.
-fn add_frame(bytes: &mut Vec<u8>, gate: u8, lsn: u64, fill: u8) -> Result<(), Fail> {
+fn add_frame(bytes: &mut Vec<u8>, (gate, lsn, fill): Frame) -> Result<(), AllocError> {
     bytes.push(gate)?;
     bytes.extend_from_slice(&[9; 7])?;
     bytes.extend_from_slice(&lsn.to_le_bytes())?;
-    bytes.extend_from_slice(&[fill; 512])?;
+    bytes.extend_from_slice(&[fill; 512])
+}
+
+/// An image of these frames.
+fn image_of(alloc: Global, frames: [Frame; 4]) -> Result<Vec<u8>, AllocError> {
+    let mut bytes = vec![in alloc; 0u8; 128]?;
+    for frame in frames {
+        add_frame(&mut bytes, frame)?;
+    }
+    Ok(bytes)
+}
+
+/// The page that a frame gives.
+fn page_of((_, lsn, fill): Frame) -> StoredPage {
+    StoredPage {
+        lsn,
+        words: [u64::from_le_bytes([fill; 8]); PAGE_WORDS],
+    }
+}
+
+/// Compares the pages behind two frames of page 0, and two of page 1 that are not open.
+fn check_frames(
+    rt: &impl Abort,
+    alloc: Global,
+    [first, second, counts]: [Frame; 3],
+) -> Result<(), Fail> {
+    let bytes = image_of(alloc, [first, second, (0, 9, 51), (255, 9, 51)])?;
+    let mut disk = disk_of(alloc, bytes, Pick::Newest, &[])?;
+    let pages = pages_on(rt, alloc, &mut disk)?;
+    same(rt, pages, [page_of(counts), first_page(1)]);
     Ok(())
 }
 
 #[test]
 fn the_newest_open_frame_counts(rt: HostRuntime) -> Result<(), Fail> {
-    let alloc = rt.alloc();
-    for (gate, lsn, gate2, lsn2, found, fill) in FRAMES {
-        let mut bytes = vec![in alloc; 0u8; 128]?;
-        add_frame(&mut bytes, gate, lsn, 17)?;
-        add_frame(&mut bytes, gate2, lsn2, 34)?;
-        add_frame(&mut bytes, 0, 9, 51)?;
-        add_frame(&mut bytes, 255, 9, 51)?;
-        let mut disk = disk_of(alloc, bytes, Pick::Newest)?;
-        let pages = pages_on(&rt, alloc, &mut disk)?;
-        let page = StoredPage {
-            lsn: found,
-            words: [u64::from_le_bytes([fill; 8]); PAGE_WORDS],
-        };
-        assert_eq!(rt;
-            pages.as_slice(),
-            [page, first_page(1)].as_slice(),
-            "{gate} {lsn} {gate2} {lsn2}"
-        );
+    for frames in FRAMES {
+        check_frames(&rt, rt.alloc(), frames)?;
     }
     Ok(())
 }
@@ -129,13 +180,15 @@ fn image_with_them(alloc: Global) -> Result<Vec<u8>, AllocError> {
 
 #[test]
 fn a_stored_frame_byte_by_byte(rt: HostRuntime) -> Result<(), Fail> {
-    let alloc = rt.alloc();
-    let mut disk = disk_of(alloc, vec![in alloc; 0u8; 2240]?, Pick::Newest)?;
-    assert!(rt; disk.size() >= PLAN.size());
-    let (mut store, _) = PageStore::open(alloc, &mut disk, PLAN)?;
-    assert!(rt; store.stored_lsn(1) < 258);
-    store.store(&mut disk, 1, 258, &words_at_both_ends())?;
-    assert_eq!(rt; disk.contents(), image_with_them(alloc)?.as_slice());
+    let mut disk = new_disk(rt.alloc(), Pick::Newest, &[])?;
+    let mut store = open(&rt, rt.alloc(), &mut disk)?.0;
+    let page = StoredPage {
+        lsn: 258,
+        words: words_at_both_ends(),
+    };
+    same(&rt, is_stored(&rt, &mut store, &mut disk, 1, &page), true);
+    let want = image_with_them(rt.alloc())?;
+    same(&rt, disk.contents(), want.as_slice());
     Ok(())
 }
 
@@ -166,16 +219,14 @@ fn store_page<D: Disk>(
     rt: &impl Abort,
     store: &mut PageStore,
     disk: &mut D,
-    pages: &mut Vec<StoredPage>,
+    pages: &mut [StoredPage; 2],
     p: u32,
-    page: StoredPage,
+    page: &StoredPage,
 ) -> bool {
-    assert!(rt; p < store.pages() && (p as usize) < pages.len());
-    assert!(rt; store.stored_lsn(p) < page.lsn && disk.size() >= store.plan().size());
-    assert!(rt; !store.failed());
-    let done = store.store(disk, p, page.lsn, &page.words).is_ok();
+    assert!(rt; p < 2);
+    let done = is_stored(rt, store, disk, p, page);
     if done {
-        pages[p as usize] = page;
+        pages[p as usize] = *page;
     }
     done
 }
@@ -185,11 +236,11 @@ fn play<D: Disk>(
     rt: &impl Abort,
     store: &mut PageStore,
     disk: &mut D,
-    pages: &mut Vec<StoredPage>,
+    pages: &mut [StoredPage; 2],
 ) -> Option<(u32, StoredPage)> {
     for (p, lsn, first) in SCRIPT {
         let page = page_from(lsn, first);
-        if !store_page(rt, store, disk, pages, p, page) {
+        if !store_page(rt, store, disk, pages, p, &page) {
             return Some((p, page));
         }
     }
@@ -197,41 +248,53 @@ fn play<D: Disk>(
 }
 
 /// Opens the pages again, and stores each of them once more.
-fn goes_on(
+fn go_on(
     rt: &impl Abort,
     alloc: Global,
     disk: &mut MemoryDisk,
-    pages: &mut Vec<StoredPage>,
+    pages: &mut [StoredPage; 2],
 ) -> Result<(), Fail> {
-    assert!(rt; disk.size() >= PLAN.size());
-    let (mut store, _) = PageStore::open(alloc, disk, PLAN)?;
+    let mut store = open(rt, alloc, disk)?.0;
+    let page = page_from(100, 500);
     for p in 0..2 {
-        let page = page_from(100, 500);
-        assert!(rt; store_page(rt, &mut store, disk, pages, p, page));
+        let done = store_page(rt, &mut store, disk, pages, p, &page);
+        same(rt, done, true);
     }
     Ok(())
 }
 
-/// Plays the script on a disk that stops, starts it again, and compares its pages with a plain list; then stores go on.
-fn stopped_at(rt: &impl Abort, alloc: Global, pick: Pick, limit: u64) -> Result<(), Fail> {
-    let mut disk = disk_of(alloc, vec![in alloc; 0u8; 2240]?, pick)?;
+/// Where a disk stops, and what its restart leaves.
+type Stop = (u64, Pick);
+
+/// Compares the pages with a plain list, of which one may have been stored; then stores go on.
+fn check_left(
+    rt: &impl Abort,
+    alloc: Global,
+    disk: &mut MemoryDisk,
+    old: &[StoredPage; 2],
+    cut: Option<(u32, StoredPage)>,
+    stop: Stop,
+) -> Result<(), Fail> {
+    let mut found = pages_on(rt, alloc, disk)?;
+    for ((p, page), old) in (0u32..).zip(&found).zip(old) {
+        assert!(rt; page == old || cut == Some((p, *page)), "{p} at {stop:?}");
+    }
+    go_on(rt, alloc, disk, &mut found)?;
+    same(rt, pages_on(rt, alloc, disk)?, found);
+    Ok(())
+}
+
+/// Plays the script on a disk that stops, starts it again, and looks at what is left.
+fn check_stop(rt: &impl Abort, alloc: Global, (limit, pick): Stop) -> Result<(), Fail> {
+    let mut disk = new_disk(alloc, pick, &[])?;
     let mut pages = pages_on(rt, alloc, &mut disk)?;
-    assert!(rt; disk.size() >= PLAN.size());
-    let (mut store, _) = PageStore::open(alloc, &mut disk, PLAN)?;
+    let mut store = open(rt, alloc, &mut disk)?.0;
     let mut fuse = FuseDisk::new(disk, limit);
     let cut = play(rt, &mut store, &mut fuse, &mut pages);
-    assert_eq!(rt; cut.is_none(), limit == CALLS, "{limit}");
+    same(rt, (limit, cut.is_none()), (limit, limit == CALLS));
     let mut disk = fuse.into_inner();
     disk.restart();
-    let mut found = pages_on(rt, alloc, &mut disk)?;
-    for (p, page) in (0u32..).zip(&found) {
-        let old = pages.get(p as usize) == Some(page);
-        assert!(rt; old || cut == Some((p, *page)), "{p} at {limit}, {pick:?}");
-    }
-    goes_on(rt, alloc, &mut disk, &mut found)?;
-    let last = pages_on(rt, alloc, &mut disk)?;
-    assert_eq!(rt; last.as_slice(), found.as_slice());
-    Ok(())
+    check_left(rt, alloc, &mut disk, &pages, cut, (limit, pick))
 }
 
 /// What a restart may leave.
@@ -239,39 +302,43 @@ const PICKS: [Pick; 4] = [Pick::Synced, Pick::Newest, Pick::AllOnes, Pick::AllOp
 
 #[test]
 fn old_or_new_at_each_stop(rt: HostRuntime) -> Result<(), Fail> {
-    let alloc = rt.alloc();
     for pick in PICKS {
         for limit in 0..CALLS + 1 {
-            stopped_at(&rt, alloc, pick, limit)?;
+            check_stop(&rt, rt.alloc(), (limit, pick))?;
         }
     }
     Ok(())
 }
 
-/// A disk whose tenth write or sync fails: the sync after the write by which the third store of a page closes a gate.
-fn failing_disk(alloc: Global, pick: Pick) -> Result<MemoryDisk, AllocError> {
-    let bytes = vec![in alloc; 0u8; 2240]?;
-    let fails = vec![in alloc; 10]?;
-    MemoryDisk::of(alloc, bytes, pick, 9_999, fails, Vec::new(alloc))
+/// Stores page 0 three times, the last time in vain.
+fn store_in_vain(
+    rt: &impl Abort,
+    store: &mut PageStore,
+    disk: &mut MemoryDisk,
+    pages: &mut [StoredPage; 2],
+) {
+    for lsn in 1..4 {
+        let page = page_from(lsn, 7 * lsn);
+        let done = store_page(rt, store, disk, pages, 0, &page);
+        same(rt, (lsn, done, store.failed()), (lsn, lsn < 3, lsn == 3));
+    }
+}
+
+/// The tenth write or sync fails: the sync after the write by which the third store of a page closes a gate.
+fn check_failing(rt: &impl Abort, alloc: Global, pick: Pick) -> Result<(), Fail> {
+    let mut disk = new_disk(alloc, pick, &[10])?;
+    let mut pages = pages_on(rt, alloc, &mut disk)?;
+    let mut store = open(rt, alloc, &mut disk)?.0;
+    store_in_vain(rt, &mut store, &mut disk, &mut pages);
+    disk.restart();
+    same(rt, (pick, pages_on(rt, alloc, &mut disk)?), (pick, pages));
+    Ok(())
 }
 
 #[test]
 fn failed_where_a_gate_closes_in_vain(rt: HostRuntime) -> Result<(), Fail> {
-    let alloc = rt.alloc();
     for pick in PICKS {
-        let mut disk = failing_disk(alloc, pick)?;
-        let mut pages = pages_on(&rt, alloc, &mut disk)?;
-        assert!(rt; disk.size() >= PLAN.size());
-        let (mut store, _) = PageStore::open(alloc, &mut disk, PLAN)?;
-        for lsn in 1..4 {
-            let page = page_from(lsn, 7 * lsn);
-            let done = store_page(&rt, &mut store, &mut disk, &mut pages, 0, page);
-            assert_eq!(rt; done, !store.failed());
-        }
-        assert!(rt; store.failed());
-        disk.restart();
-        let found = pages_on(&rt, alloc, &mut disk)?;
-        assert_eq!(rt; found.as_slice(), pages.as_slice(), "{pick:?}");
+        check_failing(&rt, rt.alloc(), pick)?;
     }
     Ok(())
 }
