@@ -3,6 +3,7 @@
 ghost use Rattle.std.specs.Prelude.{IsTrue};
 ghost use Rattle.heap_engine.specs.EngineState.{LiesWithin, HasNotFailed};
 
+use crate::compare::same;
 use disk_model::{Disk, MemoryDisk, Pick};
 use gated_log::Log;
 use graph_model::{Event, Refusal, Reply};
@@ -12,7 +13,6 @@ use image_plan::Plan;
 use object_layout::Words;
 use page_cache::PageCache;
 use std::alloc::{AllocError, Global};
-use std::fmt::Debug;
 use std::process::Abort;
 use std::test::Fail;
 use txn_table::TxnTable;
@@ -40,12 +40,17 @@ struct Opened {
     ghost unfailed: { IsTrue works → HasNotFailed engine },
 }
 
-// A heap of that plan, when it is new.
+/// A disk of so many zeros.
+fn new_disk(alloc: Global, size: u64) -> Result<MemoryDisk, AllocError> {
+    let bytes = vec![in alloc; 0u8; size as usize]?;
+    let none = Vec::new(alloc);
+    MemoryDisk::of(alloc, bytes, Pick::Newest, 1000, none, Vec::new(alloc))
+}
+
+/// A heap of that plan, when it is new.
 fn new_heap(rt: &impl Abort, alloc: Global, plan: Plan) -> Result<Opened, Fail> {
     assert!(rt; plan.pages == 1 && plan.log_bytes > 0);
-    let bytes = vec![in alloc; 0u8; plan.size() as usize]?;
-    let none = Vec::new(alloc);
-    let mut disk = MemoryDisk::of(alloc, bytes, Pick::Newest, 1000, none, Vec::new(alloc))?;
+    let mut disk = new_disk(alloc, plan.size())?;
     assert!(rt; disk.size() >= plan.size());
     let (log, _) = Log::open(alloc, &mut disk, plan.log_at(), plan.log_bytes)?;
     assert!(rt; disk.size() >= plan.size());
@@ -352,11 +357,6 @@ const ROOM: [Step; 4] = [
     ),
 ];
 
-/// Compares what was found.
-fn same<T: PartialEq + Debug + Copy>(rt: &impl Abort, found: T, want: T) {
-    assert_eq!(rt; found, want);
-}
-
 /// Asks an event, whose session, if it has one, is from 1 to 32.
 fn ask(rt: &impl Abort, heap: &mut Opened, event: Event) -> Result<Reply, AllocError> {
     assert!(rt; heap.works && event.is_of_session());
@@ -389,35 +389,64 @@ fn committed(alloc: Global, heap: &Opened, at: u32) -> Result<Option<u64>, Alloc
     Ok(words.word(at).ok())
 }
 
-#[test]
-fn what_was_sealed_stays(rt: HostRuntime) -> Result<(), Fail> {
-    let mut heap = new_heap(&rt, rt.alloc(), PLAN)?;
-    play(&rt, &mut heap, &MADE)?;
-    play(&rt, &mut heap, &WRITTEN_IN_VAIN)?;
-    same(&rt, committed(rt.alloc(), &heap, 9)?, Some(29));
-    same(&rt, heap.engine.pending(), true);
-    play(&rt, &mut heap, &FORCED)?;
-    same(&rt, heap.engine.pending(), false);
-    play(&rt, &mut heap, &TOO_LARGE)?;
+/// What is done with a heap, and what is then found.
+enum Part {
+    Play(&'static [Step]),
+    /// A word address, and the committed word there.
+    Committed(u32, u64),
+    Pending(bool),
+}
+
+fn do_part(rt: &impl Abort, alloc: Global, heap: &mut Opened, part: &Part) -> Result<(), Fail> {
+    match part {
+        Part::Play(steps) => play(rt, heap, steps)?,
+        Part::Committed(at, word) => same(rt, committed(alloc, heap, *at)?, Some(*word)),
+        Part::Pending(pending) => same(rt, heap.engine.pending(), *pending),
+    }
     Ok(())
 }
+
+/// Does these one after another with a new heap.
+fn do_parts(rt: &impl Abort, alloc: Global, plan: Plan, parts: &[Part]) -> Result<(), Fail> {
+    let mut heap = new_heap(rt, alloc, plan)?;
+    for part in parts {
+        do_part(rt, alloc, &mut heap, part)?;
+    }
+    Ok(())
+}
+
+const SEALED: [Part; 7] = [
+    Part::Play(&MADE),
+    Part::Play(&WRITTEN_IN_VAIN),
+    Part::Committed(9, 29),
+    Part::Pending(true),
+    Part::Play(&FORCED),
+    Part::Pending(false),
+    Part::Play(&TOO_LARGE),
+];
+
+#[test]
+fn what_was_sealed_stays(rt: HostRuntime) -> Result<(), Fail> {
+    do_parts(&rt, rt.alloc(), PLAN, &SEALED)
+}
+
+const SIDE_BY_SIDE: [Part; 6] = [
+    Part::Play(&THREE),
+    Part::Play(&READERS_FIRST),
+    Part::Play(&UNSEEN),
+    Part::Committed(2, 0),
+    Part::Play(&SEEN),
+    Part::Committed(2, 21),
+];
 
 #[test]
 fn sessions_give_way(rt: HostRuntime) -> Result<(), Fail> {
-    let mut heap = new_heap(&rt, rt.alloc(), PLAN)?;
-    play(&rt, &mut heap, &THREE)?;
-    play(&rt, &mut heap, &READERS_FIRST)?;
-    play(&rt, &mut heap, &UNSEEN)?;
-    same(&rt, committed(rt.alloc(), &heap, 2)?, Some(0));
-    play(&rt, &mut heap, &SEEN)?;
-    same(&rt, committed(rt.alloc(), &heap, 2)?, Some(21));
-    Ok(())
+    do_parts(&rt, rt.alloc(), PLAN, &SIDE_BY_SIDE)
 }
+
+const FULL: [Part; 2] = [Part::Play(&THREE), Part::Play(&ROOM)];
 
 #[test]
 fn the_log_keeps_room_for_the_ends(rt: HostRuntime) -> Result<(), Fail> {
-    let mut heap = new_heap(&rt, rt.alloc(), SMALL)?;
-    play(&rt, &mut heap, &THREE)?;
-    play(&rt, &mut heap, &ROOM)?;
-    Ok(())
+    do_parts(&rt, rt.alloc(), SMALL, &FULL)
 }

@@ -2,7 +2,11 @@
 #![tactic(auto)]
 
 #[cfg(test)]
+mod areas;
+#[cfg(test)]
 mod committed_words_tests;
+#[cfg(test)]
+mod compare;
 #[cfg(test)]
 mod engine_tests;
 #[cfg(test)]

@@ -1,123 +1,79 @@
 //! Walks of small spaces in memory, and the objects that are found in them.
-use object_layout::{WalkError, WordSlice, fields, object_at, stand, walk};
+use crate::compare::same;
+use object_layout::{WalkError, WordSlice, Words, fields, object_at, stand, walk};
+use std::alloc::Global;
 use std::process::Abort;
-use std::test::Fail;
 
-#[derive(Drop)]
-struct Case<'a> {
-    words: &'a [u64],
-    base: u32,
-    used: u32,
-    want: Result<(), WalkError>,
-}
+/// Words, where a space begins in them, how many of its words are used, and what a walk of it gives.
+type Case = (&'static [u64], u32, u32, Result<(), WalkError>);
 
-fn damaged(address: u32) -> Result<(), WalkError> {
-    Err(WalkError::Damaged { address })
+const AT_ROOT: Result<(), WalkError> = Err(WalkError::Damaged { address: 0 });
+
+const AT_SECOND: Result<(), WalkError> = Err(WalkError::Damaged { address: 6 });
+
+const CASES: [Case; 12] = [
+    // The root alone, with a number, a reference to itself and two nulls.
+    (&[17, 0, 29, 2, 0, 0], 0, 6, Ok(())),
+    // A second object, to which the root refers, and one of no fields that ends the used words.
+    (&[17, 0, 26, 0, 0, 0, 5, 1, 2, 1, 2, 9], 0, 11, Ok(())),
+    // A space that does not begin the words.
+    (&[0, 0, 17, 0, 10, 0, 0, 0], 2, 6, Ok(())),
+    // No root: another birth, another length, a header that is a forwarding word.
+    (&[17, 1, 0, 0, 0, 0], 0, 6, AT_ROOT),
+    (&[13, 0, 0, 0, 0], 0, 5, AT_ROOT),
+    (&[18, 0, 0, 0, 0, 0], 0, 6, AT_ROOT),
+    // The second object ends behind the used words, or has no header; both before a field that leads elsewhere.
+    (&[17, 0, 3, 0, 0, 0, 9, 1, 0, 0], 0, 9, AT_SECOND),
+    (&[17, 0, 3, 0, 0, 0, 0, 1, 0], 0, 9, AT_SECOND),
+    // A field that is no field word, a volatile one, a reference into an object, one behind the used words.
+    (&[17, 0, 0, 0, 0, 4], 0, 6, AT_ROOT),
+    (&[17, 0, 0, 0, 0, 0, 5, 1, 3], 0, 9, AT_SECOND),
+    (&[17, 0, 0, 0, 0, 0, 5, 1, 6], 0, 9, AT_SECOND),
+    (&[17, 0, 0, 0, 0, 26, 1, 1], 0, 6, AT_ROOT),
+];
+
+fn check(rt: &impl Abort, alloc: Global, case: Case) {
+    let (words, base, used, want) = case;
+    assert!(rt; words.len() < 99);
+    let mut words = WordSlice::of(words);
+    assert!(rt; used <= words.size());
+    assert!(rt; base <= words.size() - used);
+    same(rt, walk(alloc, &mut words, base, used), want);
 }
 
 #[test]
-fn spaces_are_walked(rt: HostRuntime) -> Result<(), Fail> {
-    let cases = [
-        // The root alone, with a number, a reference to itself and two nulls.
-        Case {
-            words: &[17, 0, 29, 2, 0, 0],
-            base: 0,
-            used: 6,
-            want: Ok(()),
-        },
-        // A second object, to which the root refers, and one of no fields that ends the used words.
-        Case {
-            words: &[17, 0, 26, 0, 0, 0, 5, 1, 2, 1, 2, 9],
-            base: 0,
-            used: 11,
-            want: Ok(()),
-        },
-        // A space that does not begin the words.
-        Case {
-            words: &[0, 0, 17, 0, 10, 0, 0, 0],
-            base: 2,
-            used: 6,
-            want: Ok(()),
-        },
-        // No root: another birth, another length, a header that is a forwarding word.
-        Case {
-            words: &[17, 1, 0, 0, 0, 0],
-            base: 0,
-            used: 6,
-            want: damaged(0),
-        },
-        Case {
-            words: &[13, 0, 0, 0, 0],
-            base: 0,
-            used: 5,
-            want: damaged(0),
-        },
-        Case {
-            words: &[18, 0, 0, 0, 0, 0],
-            base: 0,
-            used: 6,
-            want: damaged(0),
-        },
-        // The second object ends behind the used words, or has no header; both before a field that leads elsewhere.
-        Case {
-            words: &[17, 0, 3, 0, 0, 0, 9, 1, 0, 0],
-            base: 0,
-            used: 9,
-            want: damaged(6),
-        },
-        Case {
-            words: &[17, 0, 3, 0, 0, 0, 0, 1, 0],
-            base: 0,
-            used: 9,
-            want: damaged(6),
-        },
-        // A field that is no field word, a volatile one, a reference into an object, one behind the used words.
-        Case {
-            words: &[17, 0, 0, 0, 0, 4],
-            base: 0,
-            used: 6,
-            want: damaged(0),
-        },
-        Case {
-            words: &[17, 0, 0, 0, 0, 0, 5, 1, 3],
-            base: 0,
-            used: 9,
-            want: damaged(6),
-        },
-        Case {
-            words: &[17, 0, 0, 0, 0, 0, 5, 1, 6],
-            base: 0,
-            used: 9,
-            want: damaged(6),
-        },
-        Case {
-            words: &[17, 0, 0, 0, 0, 26, 1, 1],
-            base: 0,
-            used: 6,
-            want: damaged(0),
-        },
-    ];
-    for case in &cases {
-        let mut words = WordSlice::of(case.words);
-        let got = walk(rt.alloc(), &mut words, case.base, case.used);
-        assert_eq!(rt; got, case.want);
+fn spaces_are_walked(rt: HostRuntime) {
+    for case in CASES {
+        check(&rt, rt.alloc(), case);
     }
-    Ok(())
+}
+
+/// An object of two fields at address 8, and its old place at 0.
+const MOVED: [u64; 12] = [34, 0, 0, 0, 0, 0, 0, 0, 9, 4, 1, 2];
+
+/// Addresses, and how many fields the object there has, if there is one.
+const OBJECTS: [(u32, Option<u32>); 3] = [(8, Some(2)), (0, None), (12, None)];
+
+/// Addresses, and where the object stands that they lead to.
+const STAND: [(u32, Option<u32>); 3] = [(0, Some(8)), (8, Some(8)), (9, None)];
+
+#[test]
+fn objects_are_found(rt: HostRuntime) {
+    let mut words = WordSlice::of(&MOVED);
+    for (at, want) in OBJECTS {
+        let found = object_at(&mut words, at);
+        same(&rt, (at, found), (at, Ok(want)));
+    }
+    for (at, want) in STAND {
+        let found = stand(&mut words, at);
+        same(&rt, (at, found), (at, Ok(want)));
+    }
 }
 
 #[test]
-fn objects_are_found(rt: HostRuntime) -> Result<(), Fail> {
-    let words = [34, 0, 0, 0, 0, 0, 0, 0, 9, 4, 1, 2];
-    let mut words = WordSlice::of(&words);
-    assert_eq!(rt; object_at(&mut words, 8), Ok(Some(2)));
-    assert_eq!(rt; object_at(&mut words, 0), Ok(None));
-    assert_eq!(rt; object_at(&mut words, 12), Ok(None));
-    assert_eq!(rt; stand(&mut words, 0), Ok(Some(8)));
-    assert_eq!(rt; stand(&mut words, 8), Ok(Some(8)));
-    assert_eq!(rt; stand(&mut words, 9), Ok(None));
-    match fields(rt.alloc(), &mut words, 8) {
-        Ok(Some(fields)) => assert_eq!(rt; fields.as_slice(), [1, 2].as_slice()),
+fn fields_are_read(rt: HostRuntime) {
+    match fields(rt.alloc(), &mut WordSlice::of(&MOVED), 8) {
+        Ok(Some(fields)) => same(&rt, fields.as_slice(), &[1, 2]),
         _ => panic!(rt; "no fields were read"),
     }
-    Ok(())
 }

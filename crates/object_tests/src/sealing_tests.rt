@@ -3,7 +3,9 @@ ghost use Rattle.std.specs.Prelude.{◌<◌, length, reverse};
 ghost use Rattle.std.specs.List.{AllByRecursion};
 ghost use Rattle.log_machine.specs.Machine.{field_at};
 
-use heap_words::{Word, birth, encode};
+use crate::areas::{area_of, refer, set};
+use crate::compare::same;
+use heap_words::{Word, encode};
 use log_machine::UndoEntry;
 use log_records::{ObjectWords, Record};
 use sealing::Sealing;
@@ -39,13 +41,46 @@ const UNDO: [UndoEntry; 4] = [
     },
 ];
 
-/// The words of the root object, and what a seal takes and appends then.
+/// The words of the root object, and what a seal takes and appends then: objects at addresses, and words in fields of the root
+/// object, before the commit.
 #[derive(Drop)]
 struct Case {
     words: [u64; 6],
     need: u64,
-    records: Vec<Record>,
+    bases: &'static [(u32, &'static [u64])],
+    fixes: &'static [(u16, u64)],
 }
+
+/// The births of the root object and of the two that transaction 2 made.
+const ROOT: u64 = 1 << 32 | 1;
+
+const FIRST: u64 = 2 << 32 | 1;
+
+const SECOND: u64 = 2 << 32 | 2;
+
+const CASES: [Case; 3] = [
+    // A number, and the first object.
+    Case {
+        words: [17, ROOT, 29, 3, 0, 0],
+        need: 7,
+        bases: &[(6, &[9, FIRST, 0, 42]), (10, &[5, SECOND, 21])],
+        fixes: &[(1, 26)],
+    },
+    // The second object, twice.
+    Case {
+        words: [17, ROOT, 0, 19, 0, 19],
+        need: 3,
+        bases: &[(6, &[5, SECOND, 21])],
+        fixes: &[(1, 26), (3, 26)],
+    },
+    // A number, null, and the root object.
+    Case {
+        words: [17, ROOT, 29, 0, 0, 2],
+        need: 0,
+        bases: &[],
+        fixes: &[],
+    },
+];
 
 /// How many words the seal of these writes takes, and its records.
 fn promote(
@@ -80,61 +115,33 @@ fn fix(field: u16, word: u64) -> Record {
     }
 }
 
+fn records(alloc: Global, case: &Case) -> Result<Vec<Record>, AllocError> {
+    let mut records = Vec::new(alloc);
+    for (address, words) in case.bases {
+        records.push(base(alloc, *address, words)?)?;
+    }
+    for (field, word) in case.fixes {
+        records.push(fix(*field, *word))?;
+    }
+    records.push(Record::Commit { t: 2 })?;
+    Ok(records)
+}
+
+fn check(rt: &impl Abort, alloc: Global, area: &Area, case: &Case) -> Result<(), AllocError> {
+    let (need, found) = promote(rt, alloc, area, &case.words, &UNDO)?;
+    same(rt, (case.words, need), (case.words, case.need));
+    let want = records(alloc, case)?;
+    same(rt, found.as_slice(), want.as_slice());
+    Ok(())
+}
+
 #[test]
 fn reached_objects_get_addresses(rt: HostRuntime) -> Result<(), Fail> {
-    let alloc = rt.alloc();
-    let mut area = Area::new(alloc, 2);
-    assert_eq!(rt; area.new_object(2)?, 0);
-    assert_eq!(rt; area.new_object(1)?, 4);
-    assert!(rt; area.is_object(0));
-    assert_eq!(rt; area.length(0), 2);
-    area.set(0, 1, encode(Word::Volatile(4)));
-    assert!(rt; area.is_object(4));
-    assert_eq!(rt; area.length(4), 1);
-    area.set(4, 0, encode(Word::Int(5)));
-
-    let root = birth(1, 1);
-    let first = 2 << 32 | 1;
-    let second = 2 << 32 | 2;
-    let cases = [
-        // A number, and the first object.
-        Case {
-            words: [17, root, 29, 3, 0, 0],
-            need: 7,
-            records: vec![in alloc;
-                base(alloc, 6, &[9, first, 0, 42])?,
-                base(alloc, 10, &[5, second, 21])?,
-                fix(1, 26),
-                Record::Commit { t: 2 },
-            ]?,
-        },
-        // The second object, twice.
-        Case {
-            words: [17, root, 0, 19, 0, 19],
-            need: 3,
-            records: vec![in alloc;
-                base(alloc, 6, &[5, second, 21])?,
-                fix(1, 26),
-                fix(3, 26),
-                Record::Commit { t: 2 },
-            ]?,
-        },
-        // A number, null, and the root object.
-        Case {
-            words: [17, root, 29, 0, 0, 2],
-            need: 0,
-            records: vec![in alloc; Record::Commit { t: 2 }]?,
-        },
-    ];
-    for case in &cases {
-        let (need, records) = promote(&rt, alloc, &area, &case.words, &UNDO)?;
-        let words = case.words;
-        assert_eq!(rt; need, case.need, "from {words:?}");
-        assert_eq!(rt;
-            records.as_slice(),
-            case.records.as_slice(),
-            "from {words:?}"
-        );
+    let mut area = area_of(&rt, rt.alloc(), 2, &[(2, 0), (1, 4)]);
+    refer(&rt, &mut area, 0, 1, 4);
+    set(&rt, &mut area, 4, 0, encode(Word::Int(5)));
+    for case in &CASES {
+        check(&rt, rt.alloc(), &area, case)?;
     }
     Ok(())
 }

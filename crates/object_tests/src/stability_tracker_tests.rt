@@ -1,38 +1,29 @@
 //! What a few objects that refer to one another have promoted.
-use heap_words::{Word, encode};
+use crate::areas::{area_of, refer};
+use crate::compare::same;
 use stability_tracker::promotion;
-use std::alloc::Global;
+use std::alloc::{AllocError, Global};
 use std::process::Abort;
 use std::test::Fail;
 use volatile_area::Area;
 
 #[derive(Drop)]
-struct Case<'a> {
-    written: &'a [u64],
-    objects: &'a [u32],
+struct Case {
+    written: &'static [u64],
+    objects: &'static [u32],
     need: u64,
 }
 
-/// Sets a field of an object of the area.
-fn set(rt: &impl Abort, area: &mut Area, (object, field): (u32, u32), to: u32) {
-    assert!(rt; area.is_object(object) && field < area.length(object) && to < 4096);
-    area.set(object, field, encode(Word::Volatile(to)));
-}
-
 /// Four objects, of which the first and the fourth refer to each other, and the second to the third.
-fn four(rt: &impl Abort, alloc: Global) -> Result<Area, Fail> {
-    let mut area = Area::new(alloc, 3);
-    for (fields, at) in &[(2, 0), (1, 4), (0, 7), (3, 9)] {
-        assert!(rt; *fields <= 510);
-        assert_eq!(rt; area.new_object(*fields)?, *at);
-    }
-    set(rt, &mut area, (0, 1), 9);
-    set(rt, &mut area, (4, 0), 7);
-    set(rt, &mut area, (9, 2), 0);
-    Ok(area)
+fn four(rt: &impl Abort, alloc: Global) -> Area {
+    let mut area = area_of(rt, alloc, 3, &[(2, 0), (1, 4), (0, 7), (3, 9)]);
+    refer(rt, &mut area, 0, 1, 9);
+    refer(rt, &mut area, 4, 0, 7);
+    refer(rt, &mut area, 9, 2, 0);
+    area
 }
 
-const CASES: [Case<'static>; 5] = [
+const CASES: [Case; 5] = [
     Case {
         written: &[],
         objects: &[],
@@ -61,14 +52,18 @@ const CASES: [Case<'static>; 5] = [
     },
 ];
 
+fn check(rt: &impl Abort, alloc: Global, area: &Area, case: &Case) -> Result<(), AllocError> {
+    let (objects, need) = promotion(alloc, area, case.written)?;
+    let found = (case.written, objects.as_slice(), need);
+    same(rt, found, (case.written, case.objects, case.need));
+    Ok(())
+}
+
 #[test]
 fn reached_objects_are_promoted(rt: HostRuntime) -> Result<(), Fail> {
-    let area = four(&rt, rt.alloc())?;
+    let area = four(&rt, rt.alloc());
     for case in &CASES {
-        let (objects, need) = promotion(rt.alloc(), &area, case.written)?;
-        let written = case.written;
-        let found = (objects.as_slice(), need);
-        assert_eq!(rt; found, (case.objects, case.need), "from {written:?}");
+        check(&rt, rt.alloc(), &area, case)?;
     }
     Ok(())
 }
