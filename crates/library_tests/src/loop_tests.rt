@@ -6,7 +6,7 @@ use graph_model::Event;
 use std::test::Fail;
 
 /// A transaction of session 1 that is on the disk, and one of session 2 beside it that no force has reached.
-const EVENTS: [Event; 9] = [
+static EVENTS: [Event; 9] = [
     Event::Begin { s: 2 },
     Event::Begin { s: 1 },
     Event::Root { s: 1, h: 0 },

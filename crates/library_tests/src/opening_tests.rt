@@ -4,9 +4,9 @@ ghost use Rattle.std.specs.Prelude.{◌≡◌, None};
 ghost use Rattle.heap_core.specs.HeapState.{failed_at};
 
 use disk_model::{Disk, FuseDisk, MemoryDisk, Pick};
-use gated_log::Log;
+use gated_log::{Log, LogError};
 use graph_model::{Event, Reply};
-use heap_core::{Heap, OpenError};
+use heap_core::{GraphError, Heap, OpenError};
 use log_records::Record;
 use std::alloc::{AllocError, Global};
 use std::fmt::Debug;
@@ -27,7 +27,7 @@ pub const PICKS: [Pick; 4] = [Pick::Synced, Pick::Newest, Pick::AllOnes, Pick::A
 const OPENING_CALLS: u64 = 4;
 
 /// Transaction 1 is committed, and of transaction 2 two writes are on the disk.
-const EVENTS: [Event; 9] = [
+static EVENTS: [Event; 9] = [
     Event::Begin { s: 1 },
     Event::Root { s: 1, h: 0 },
     Event::Put {
@@ -99,12 +99,33 @@ pub fn compare<T: PartialEq + Debug + Copy>(rt: &impl Abort, found: T, want: T) 
     assert_eq!(rt; found, want);
 }
 
-/// An empty heap of one page.
-pub fn make_heap(rt: &impl Abort, alloc: Global, pick: Pick) -> Result<MemoryDisk, AllocError> {
-    match Heap::format(make_disk(alloc, pick)?, 1, LOG_BYTES, 1) {
-        Ok(disk) => Ok(disk),
+/// Makes an empty heap of so many pages a space.
+pub fn format(rt: &impl Abort, disk: MemoryDisk, pages: u32) -> MemoryDisk {
+    assert!(rt; 1 <= pages && pages <= 16_384);
+    match Heap::format(disk, pages, LOG_BYTES, 1) {
+        Ok(disk) => disk,
         Err((e, _)) => panic!(rt; "not made: {e:?}"),
     }
+}
+
+/// An empty heap of one page.
+pub fn make_heap(rt: &impl Abort, alloc: Global, pick: Pick) -> Result<MemoryDisk, AllocError> {
+    Ok(format(rt, make_disk(alloc, pick)?, 1))
+}
+
+/// Closes a heap, and starts its disk again.
+pub fn crash(heap: Heap<MemoryDisk>) -> MemoryDisk {
+    let mut disk = heap.close();
+    disk.restart();
+    disk
+}
+
+/// The commits of a heap, and the text of its graph.
+pub fn found(alloc: Global, heap: &Heap<MemoryDisk>) -> Result<(u64, Vec<u8>), GraphError>
+    requires { failed_at heap.now ≡ None }
+{
+    let text = heap.graph(alloc)?;
+    Ok((heap.commits(), text))
 }
 
 /// Opens the heap, compares its commits and its graph, and closes it.
@@ -114,42 +135,58 @@ pub fn expect(
     disk: MemoryDisk,
     commits: u64,
     graph: &str,
-) -> Result<MemoryDisk, Fail> {
+) -> Result<MemoryDisk, GraphError> {
     let heap = open(rt, alloc, disk);
-    let text = heap.graph(alloc)?;
-    compare(
-        rt,
-        (heap.commits(), text.as_slice()),
-        (commits, graph.as_bytes()),
-    );
+    let (number, text) = found(alloc, &heap)?;
+    compare(rt, (number, text.as_slice()), (commits, graph.as_bytes()));
     Ok(heap.close())
 }
 
 /// Makes a step, which asks nothing but memory to succeed.
-pub fn ask(
+pub fn ask<D: Disk + Drop>(
     rt: &impl Abort,
-    heap: &mut Heap<MemoryDisk>,
+    heap: &mut Heap<D>,
     event: Event,
 ) -> Result<Reply, AllocError> {
     assert!(rt; event.is_of_session());
     heap.step(event)
 }
 
+/// Makes these steps, whatever they are answered.
+pub fn ask_all<D: Disk + Drop>(
+    rt: &impl Abort,
+    heap: &mut Heap<D>,
+    events: &[Event],
+) -> Result<(), AllocError> {
+    for event in events {
+        ask(rt, heap, *event)?;
+    }
+    Ok(())
+}
+
 /// A disk that was stopped behind these events, and started again.
 fn make_unended(rt: &impl Abort, alloc: Global, pick: Pick) -> Result<MemoryDisk, AllocError> {
     let mut heap = open(rt, alloc, make_heap(rt, alloc, pick)?);
-    for event in &EVENTS {
-        ask(rt, &mut heap, *event)?;
-    }
-    let mut disk = heap.close();
-    disk.restart();
-    Ok(disk)
+    ask_all(rt, &mut heap, &EVENTS)?;
+    Ok(crash(heap))
 }
 
-/// The records that the log of a closed heap ends with.
-fn check_rollback(rt: &impl Abort, alloc: Global, mut disk: MemoryDisk) -> Result<(), Fail> {
+/// The records of the log of a closed heap.
+pub fn read_log(
+    rt: &impl Abort,
+    alloc: Global,
+    disk: &mut MemoryDisk,
+) -> Result<Vec<Record>, LogError> {
     assert!(rt; LOG_AT + u64::from(LOG_BYTES) <= disk.size());
-    let (_, records) = Log::open(alloc, &mut disk, LOG_AT, LOG_BYTES)?;
+    match Log::open(alloc, disk, LOG_AT, LOG_BYTES) {
+        Ok((_, records)) => Ok(records),
+        Err(error) => Err(error),
+    }
+}
+
+/// What the log of a closed heap ends with.
+fn check_rollback(rt: &impl Abort, alloc: Global, mut disk: MemoryDisk) -> Result<(), LogError> {
+    let records = read_log(rt, alloc, &mut disk)?;
     assert!(rt; records.ends_with(&ROLLBACK));
     Ok(())
 }
@@ -162,27 +199,39 @@ fn writes_are_taken_back(rt: HostRuntime) -> Result<(), Fail> {
     let begun = ask(&rt, &mut heap, Event::Begin { s: 1 })?;
     compare(&rt, begun, Reply::Begun { n: 3 });
     let disk = expect(&rt, alloc, heap.close(), 1, GRAPH)?;
-    check_rollback(&rt, alloc, disk)
+    check_rollback(&rt, alloc, disk)?;
+    Ok(())
+}
+
+/// Why the heap is not opened, and its disk.
+pub fn refused<D: Disk + Drop>(rt: &impl Abort, alloc: Global, disk: D) -> (OpenError, D) {
+    match Heap::open(alloc, disk) {
+        Ok(_) => panic!(rt; "not refused"),
+        Err(refused) => refused,
+    }
 }
 
 /// Stops an opening after so many calls.
 fn cut_off(rt: &impl Abort, alloc: Global, disk: MemoryDisk, calls: u64) -> MemoryDisk {
-    let Err((e, fuse)) = Heap::open(alloc, FuseDisk::new(disk, calls)) else {
-        panic!(rt; "opened with {calls} calls");
-    };
-    compare(rt, e, OpenError::Stopped);
+    let (error, fuse) = refused(rt, alloc, FuseDisk::new(disk, calls));
+    compare(rt, (calls, error), (calls, OpenError::Stopped));
     let mut disk = fuse.into_inner();
     disk.restart();
     disk
 }
 
+/// Stops an opening after so many calls, and compares what another one finds.
+fn check_cut_off(rt: &impl Abort, alloc: Global, pick: Pick, calls: u64) -> Result<(), Fail> {
+    let disk = make_unended(rt, alloc, pick)?;
+    expect(rt, alloc, cut_off(rt, alloc, disk, calls), 1, GRAPH)?;
+    Ok(())
+}
+
 #[test]
 fn stopped_at_each_call(rt: HostRuntime) -> Result<(), Fail> {
-    let alloc = rt.alloc();
-    for pick in &PICKS {
+    for pick in PICKS {
         for calls in 0..OPENING_CALLS {
-            let disk = make_unended(&rt, alloc, *pick)?;
-            expect(&rt, alloc, cut_off(&rt, alloc, disk, calls), 1, GRAPH)?;
+            check_cut_off(&rt, rt.alloc(), pick, calls)?;
         }
     }
     Ok(())

@@ -1,9 +1,8 @@
 //! Objects that transactions make, on a disk that is stopped and started again: what a sealed one made reachable is there, and what
 //! another made is not.
-use crate::opening_tests::{LOG_BYTES, PICKS, ask, compare, expect, make_heap, open};
-use disk_model::{Disk, MemoryDisk, Pick};
+use crate::opening_tests::{PICKS, ask, compare, crash, expect, format, make_heap, open};
+use disk_model::{MemoryDisk, Pick};
 use graph_model::{Event, Reply};
-use heap_core::Heap;
 use std::alloc::{AllocError, Global};
 use std::process::Abort;
 use std::test::Fail;
@@ -107,20 +106,23 @@ pub fn play(
         let found = ask(rt, &mut heap, *event)?;
         compare(rt, (*event, found), (*event, *reply));
     }
-    let mut disk = heap.close();
-    disk.restart();
-    Ok(disk)
+    Ok(crash(heap))
+}
+
+/// Plays both sessions on one disk, and compares what each of them leaves.
+fn check_both(rt: &impl Abort, alloc: Global, pick: Pick) -> Result<(), Fail> {
+    let disk = make_heap(rt, alloc, pick)?;
+    let disk = play(rt, alloc, disk, &first_session())?;
+    let disk = expect(rt, alloc, disk, 1, FIRST_GRAPH)?;
+    let disk = play(rt, alloc, disk, &second_session())?;
+    expect(rt, alloc, disk, 2, SECOND_GRAPH)?;
+    Ok(())
 }
 
 #[test]
 fn what_was_sealed_is_reached(rt: HostRuntime) -> Result<(), Fail> {
-    let alloc = rt.alloc();
-    for pick in &PICKS {
-        let disk = make_heap(&rt, alloc, *pick)?;
-        let disk = play(&rt, alloc, disk, &first_session())?;
-        let disk = expect(&rt, alloc, disk, 1, FIRST_GRAPH)?;
-        let disk = play(&rt, alloc, disk, &second_session())?;
-        expect(&rt, alloc, disk, 2, SECOND_GRAPH)?;
+    for pick in PICKS {
+        check_both(&rt, rt.alloc(), pick)?;
     }
     Ok(())
 }
@@ -131,29 +133,29 @@ const MOST_PAGES: u32 = 16_384;
 /// The bytes of a heap of so many pages: the superblock, the log, and two frames for each page of both spaces.
 const LARGEST_BYTES: usize = 34_604_096;
 
-fn make_largest(rt: &impl Abort, alloc: Global) -> Result<MemoryDisk, AllocError> {
+fn make_largest(alloc: Global) -> Result<MemoryDisk, AllocError> {
     let zeros = vec![in alloc; 0u8; LARGEST_BYTES]?;
     let room = LARGEST_BYTES + 65_536;
     let none = Vec::new(alloc);
-    let disk = MemoryDisk::of(alloc, zeros, Pick::Synced, room, none, Vec::new(alloc))?;
-    match Heap::format(disk, MOST_PAGES, LOG_BYTES, 1) {
-        Ok(disk) => Ok(disk),
-        Err((e, _)) => panic!(rt; "not made: {e:?}"),
-    }
+    MemoryDisk::of(alloc, zeros, Pick::Synced, room, none, Vec::new(alloc))
 }
 
-#[test]
-fn the_largest_heap_is_made_and_opened(rt: HostRuntime) -> Result<(), Fail> {
-    let alloc = rt.alloc();
-    let steps = [
+/// A transaction in the largest heap.
+fn largest_steps() -> [Step; 6] {
+    [
         begin(1),
         root(0),
         new(1, 1),
         link(0, 3, 1),
         seal(1),
         force(1),
-    ];
-    let disk = play(&rt, alloc, make_largest(&rt, alloc)?, &steps)?;
-    expect(&rt, alloc, disk, 1, "graph 2\n0: - - - @1\n1: -\n")?;
+    ]
+}
+
+#[test]
+fn the_largest_heap_is_made_and_opened(rt: HostRuntime) -> Result<(), Fail> {
+    let disk = format(&rt, make_largest(rt.alloc())?, MOST_PAGES);
+    let disk = play(&rt, rt.alloc(), disk, &largest_steps())?;
+    expect(&rt, rt.alloc(), disk, 1, "graph 2\n0: - - - @1\n1: -\n")?;
     Ok(())
 }

@@ -1,7 +1,9 @@
 //! Two sessions side by side, on a disk that is stopped and started again: what the one has sealed is there, and what the other wrote is not.
 use crate::opening_tests::{PICKS, ask, compare, expect, make_heap, open};
 use crate::reached_tests::{Step, play};
+use disk_model::MemoryDisk;
 use graph_model::{Event, Refusal, Reply};
+use heap_core::Heap;
 use std::test::Fail;
 
 fn begin(s: u32, n: u64) -> Step {
@@ -63,24 +65,34 @@ fn side_by_side() -> [Step; 21] {
     ]
 }
 
+const GRAPH: &str = "graph 3\n0: @1 @2 - -\n1: 5\n2: -\n";
+
 #[test]
 fn what_the_other_session_wrote_is_taken_back(rt: HostRuntime) -> Result<(), Fail> {
-    let alloc = rt.alloc();
-    for pick in &PICKS {
-        let disk = make_heap(&rt, alloc, *pick)?;
-        let disk = play(&rt, alloc, disk, &side_by_side())?;
-        expect(&rt, alloc, disk, 2, "graph 3\n0: @1 @2 - -\n1: 5\n2: -\n")?;
+    for pick in PICKS {
+        let disk = make_heap(&rt, rt.alloc(), pick)?;
+        let disk = play(&rt, rt.alloc(), disk, &side_by_side())?;
+        expect(&rt, rt.alloc(), disk, 2, GRAPH)?;
     }
     Ok(())
 }
 
+/// Which of some numbers are those of active sessions.
+fn active(heap: &Heap<MemoryDisk>) -> [bool; 5] {
+    [
+        heap.active(0),
+        heap.active(1),
+        heap.active(31),
+        heap.active(32),
+        heap.active(33),
+    ]
+}
+
 #[test]
 fn the_last_session_is_one(rt: HostRuntime) -> Result<(), Fail> {
-    let alloc = rt.alloc();
-    let mut heap = open(&rt, alloc, make_heap(&rt, alloc, PICKS[0])?);
+    let mut heap = open(&rt, rt.alloc(), make_heap(&rt, rt.alloc(), PICKS[0])?);
     let begun = ask(&rt, &mut heap, Event::Begin { s: 32 })?;
     compare(&rt, begun, Reply::Begun { n: 1 });
-    let active = [0, 1, 31, 32, 33].map(|s| heap.active(s));
-    compare(&rt, active, [false, false, false, true, false]);
+    compare(&rt, active(&heap), [false, false, false, true, false]);
     Ok(())
 }

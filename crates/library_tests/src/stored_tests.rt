@@ -1,10 +1,12 @@
 //! Images whose pages were stored at different times: an opening redoes on each page what it lacks, and nothing else.
-use crate::opening_tests::{LOG_BYTES, ask, compare, expect, make_disk, make_heap, open};
+use crate::opening_tests::{
+    LOG_BYTES, ask, ask_all, compare, crash, expect, format, found, make_disk, make_heap, open,
+    read_log, refused,
+};
 use crate::reached_tests::{Step, begin, force, get, link, new, play, put, root, seal};
-use disk_model::{Disk, FuseDisk, MemoryDisk, Pick};
-use gated_log::Log;
+use disk_model::{Disk, DiskError, FuseDisk, MemoryDisk, Pick};
 use graph_model::{Event, Refusal, Reply};
-use heap_core::{Heap, OpenError};
+use heap_core::{GraphError, Heap, OpenError};
 use heap_recovery::At;
 use image_plan::Plan;
 use log_machine::replay;
@@ -53,22 +55,17 @@ fn steps() -> [Step; 21] {
 
 /// A disk on which these steps were made, and no page is stored.
 fn make_played(rt: &impl Abort, alloc: Global) -> Result<MemoryDisk, AllocError> {
-    match Heap::format(
-        make_disk(alloc, Pick::Newest)?,
-        PLAN.pages,
-        PLAN.log_bytes,
-        1,
-    ) {
-        Ok(disk) => play(rt, alloc, disk, &steps()),
-        Err((e, _)) => panic!(rt; "not made: {e:?}"),
-    }
+    let disk = format(rt, make_disk(alloc, Pick::Newest)?, PLAN.pages);
+    play(rt, alloc, disk, &steps())
 }
 
-/// The records of the log.
-fn read_log(rt: &impl Abort, alloc: Global, disk: &mut MemoryDisk) -> Result<Vec<Record>, Fail> {
+fn open_pages(
+    rt: &impl Abort,
+    alloc: Global,
+    disk: &mut MemoryDisk,
+) -> Result<PageCache, page_store::OpenError> {
     assert!(rt; disk.size() >= PLAN.size());
-    let (_, records) = Log::open(alloc, disk, PLAN.log_at(), PLAN.log_bytes)?;
-    Ok(records)
+    PageCache::open(alloc, disk, PLAN)
 }
 
 /// Redoes these records on the pages.
@@ -87,19 +84,33 @@ fn flush(
     disk: &mut MemoryDisk,
     p: u32,
     forced: u64,
-) -> Result<(), Fail> {
+) -> Result<(), DiskError> {
     assert!(rt; p < cache.pages() && disk.size() >= cache.plan().size());
-    if cache.dirty(p) {
-        assert!(rt; !cache.failed() && cache.lsn(p) <= forced);
-        cache.flush(disk, p, forced)?;
+    if !cache.dirty(p) {
+        return Ok(());
     }
-    Ok(())
+    assert!(rt; !cache.failed() && cache.lsn(p) <= forced);
+    cache.flush(disk, p, forced)
 }
 
 /// When a page is stored: behind so many of the log's records.
 type Store = (usize, u32);
 
-/// Stores a page as it is then, if it isn't stored as it was later.
+/// Stores a page as it is behind these records, if it isn't stored as it was later.
+fn store_behind(
+    rt: &impl Abort,
+    alloc: Global,
+    disk: &mut MemoryDisk,
+    records: &[Record],
+    p: u32,
+) -> Result<(), Fail> {
+    let mut cache = open_pages(rt, alloc, disk)?;
+    redo(rt, alloc, &mut cache, records);
+    flush(rt, &mut cache, disk, p, RECORDS as u64)?;
+    Ok(())
+}
+
+/// Stores a page as it is behind so many of the log's records.
 fn store(
     rt: &impl Abort,
     alloc: Global,
@@ -108,37 +119,51 @@ fn store(
 ) -> Result<(), Fail> {
     let records = read_log(rt, alloc, disk)?;
     compare(rt, records.len(), RECORDS);
-    assert!(rt; after <= records.len() && disk.size() >= PLAN.size());
-    let mut cache = PageCache::open(alloc, disk, PLAN)?;
-    redo(rt, alloc, &mut cache, &records[..after]);
-    flush(rt, &mut cache, disk, p, records.len() as u64)
+    assert!(rt; after <= records.len());
+    store_behind(rt, alloc, disk, &records[..after], p)
 }
 
 /// How many commits are found on the disk, and which graph.
-fn found(rt: &impl Abort, alloc: Global, disk: MemoryDisk) -> Result<(u64, Vec<u8>), Fail> {
-    let heap = open(rt, alloc, disk);
-    Ok((heap.commits(), heap.graph(alloc)?))
+fn opened(rt: &impl Abort, alloc: Global, disk: MemoryDisk) -> Result<(u64, Vec<u8>), GraphError> {
+    found(alloc, &open(rt, alloc, disk))
 }
 
-/// Stores pages one after another, and compares what is then found.
-fn check(rt: &impl Abort, alloc: Global, stores: [Store; 3], graph: &[u8]) -> Result<(), Fail> {
+/// A disk on which pages were stored one after another.
+fn make_stored(rt: &impl Abort, alloc: Global, stores: [Store; 3]) -> Result<MemoryDisk, Fail> {
     let mut disk = make_played(rt, alloc)?;
     for at in stores {
         store(rt, alloc, &mut disk, at)?;
     }
-    let now = found(rt, alloc, disk)?;
-    compare(rt, (stores, now.0, now.1.as_slice()), (stores, 2, graph));
+    Ok(disk)
+}
+
+/// Stores pages one after another, and compares what is then found.
+fn check(rt: &impl Abort, alloc: Global, stores: [Store; 3], graph: &[u8]) -> Result<(), Fail> {
+    let disk = make_stored(rt, alloc, stores)?;
+    let (commits, found) = opened(rt, alloc, disk)?;
+    compare(rt, (stores, commits, found.as_slice()), (stores, 2, graph));
     Ok(())
+}
+
+/// Stores both pages, behind so many records each, and one of them twice.
+fn check_ages(
+    rt: &impl Abort,
+    alloc: Global,
+    first: usize,
+    second: usize,
+    graph: &[u8],
+) -> Result<(), Fail> {
+    check(rt, alloc, [(first, 0), (second, 1), (0, 0)], graph)?;
+    check(rt, alloc, [(first, 1), (second, 0), (second, 1)], graph)
 }
 
 #[test]
 fn pages_of_any_age_give_the_same_graph(rt: HostRuntime) -> Result<(), Fail> {
-    let alloc = rt.alloc();
-    let graph = found(&rt, alloc, make_played(&rt, alloc)?)?.1;
+    let disk = make_played(&rt, rt.alloc())?;
+    let graph = opened(&rt, rt.alloc(), disk)?.1;
     for first in 0..=RECORDS {
         for second in 0..=RECORDS {
-            check(&rt, alloc, [(first, 0), (second, 1), (0, 0)], &graph)?;
-            check(&rt, alloc, [(first, 1), (second, 0), (second, 1)], &graph)?;
+            check_ages(&rt, rt.alloc(), first, second, &graph)?;
         }
     }
     Ok(())
@@ -175,19 +200,27 @@ fn wrong_page() -> [u64; 64] {
     page
 }
 
-/// A disk on which these steps were made and page `p` is stored wrongly, with this LSN.
-fn make_wrong(rt: &impl Abort, alloc: Global, p: u32, lsn: u64) -> Result<MemoryDisk, Fail> {
-    let mut disk = play(
-        rt,
-        alloc,
-        make_heap(rt, alloc, Pick::Newest)?,
-        &small_steps(),
-    )?;
+/// Stores page `p` wrongly, with this LSN.
+fn store_wrong(
+    rt: &impl Abort,
+    alloc: Global,
+    disk: &mut MemoryDisk,
+    p: u32,
+    lsn: u64,
+) -> Result<(), Fail> {
     assert!(rt; disk.size() >= SMALL.size());
-    let (mut store, _) = PageStore::open(alloc, &mut disk, SMALL)?;
+    let mut store = PageStore::open(alloc, disk, SMALL)?.0;
     assert!(rt; p < store.pages() && disk.size() >= store.plan().size());
     assert!(rt; store.stored_lsn(p) < lsn && !store.failed());
-    store.store(&mut disk, p, lsn, &wrong_page())?;
+    store.store(disk, p, lsn, &wrong_page())?;
+    Ok(())
+}
+
+/// A disk on which these steps were made and page `p` is stored wrongly, with this LSN.
+fn make_wrong(rt: &impl Abort, alloc: Global, p: u32, lsn: u64) -> Result<MemoryDisk, Fail> {
+    let disk = make_heap(rt, alloc, Pick::Newest)?;
+    let mut disk = play(rt, alloc, disk, &small_steps())?;
+    store_wrong(rt, alloc, &mut disk, p, lsn)?;
     Ok(disk)
 }
 
@@ -228,12 +261,10 @@ fn what_redo_changed_is_dirty(rt: HostRuntime) -> Result<(), Fail> {
 
 #[test]
 fn a_page_ahead_of_the_log_is_refused(rt: HostRuntime) -> Result<(), Fail> {
-    let alloc = rt.alloc();
     for p in 0..2 {
-        let Err((e, _)) = Heap::open(alloc, make_wrong(&rt, alloc, p, 5)?) else {
-            panic!(rt; "page {p} is not refused");
-        };
-        compare(&rt, e, OpenError::Damaged { at: At::Page(p) });
+        let disk = make_wrong(&rt, rt.alloc(), p, 5)?;
+        let error = refused(&rt, rt.alloc(), disk).0;
+        compare(&rt, error, OpenError::Damaged { at: At::Page(p) });
     }
     Ok(())
 }
@@ -288,14 +319,12 @@ fn a_flushed_page_is_clean(rt: HostRuntime) -> Result<(), Fail> {
     for step in flush_steps() {
         expect_step(&rt, &mut heap, step)?;
     }
-    let mut disk = heap.close();
-    disk.restart();
-    compare(&rt, dirty(&rt, alloc, disk), [false, false, false]);
+    compare(&rt, dirty(&rt, alloc, crash(heap)), [false, false, false]);
     Ok(())
 }
 
 /// A flush of a page whose record waits.
-const FLUSH_WAITING: [Event; 4] = [
+static FLUSH_WAITING: [Event; 4] = [
     Event::Begin { s: 1 },
     Event::Root { s: 1, h: 0 },
     Event::Put {
@@ -308,7 +337,7 @@ const FLUSH_WAITING: [Event; 4] = [
 ];
 
 /// A flush of a page whose record is on the disk.
-const FLUSH_FORCED: [Event; 5] = [
+static FLUSH_FORCED: [Event; 5] = [
     Event::Begin { s: 1 },
     Event::Root { s: 1, h: 0 },
     Event::Put {
@@ -322,6 +351,24 @@ const FLUSH_FORCED: [Event; 5] = [
 ];
 
 /// Makes events of which the last one stops after so many calls. What waited before it waits, though a force of its own may be done.
+fn stopped(
+    rt: &impl Abort,
+    alloc: Global,
+    events: &[Event],
+    calls: u64,
+    waits: bool,
+) -> Result<MemoryDisk, AllocError> {
+    let disk = FuseDisk::new(make_heap(rt, alloc, Pick::Newest)?, calls);
+    let mut heap = open(rt, alloc, disk);
+    ask_all(rt, &mut heap, events)?;
+    let (entry, found) = (events.len() as u64, (heap.failed(), heap.pending()));
+    compare(rt, (calls, found), (calls, (Some(entry), waits)));
+    let mut disk = heap.close().into_inner();
+    disk.restart();
+    Ok(disk)
+}
+
+/// Stops the last one of these events, and finds the empty heap.
 fn expect_stopped(
     rt: &impl Abort,
     alloc: Global,
@@ -329,16 +376,7 @@ fn expect_stopped(
     calls: u64,
     waits: bool,
 ) -> Result<(), Fail> {
-    let disk = FuseDisk::new(make_heap(rt, alloc, Pick::Newest)?, calls);
-    let mut heap = open(rt, alloc, disk);
-    for event in events {
-        assert!(rt; event.is_of_session());
-        heap.step(*event)?;
-    }
-    let (entry, found) = (events.len() as u64, (heap.failed(), heap.pending()));
-    compare(rt, (calls, found), (calls, (Some(entry), waits)));
-    let mut disk = heap.close().into_inner();
-    disk.restart();
+    let disk = stopped(rt, alloc, events, calls, waits)?;
     expect(rt, alloc, disk, 0, "graph 1\n0: - - - -\n")?;
     Ok(())
 }
