@@ -5,7 +5,12 @@ use crate::compare::same;
 use disk_file::{FileDisk, SIZE};
 use disk_model::{Disk, DiskError};
 use std::fs;
+use std::process::Abort;
 use std::test::Fail;
+
+const FOLDER: &str = "disk_file_test";
+
+const PATH: &str = "disk_file_test/heap.img";
 
 type RealDisk<'a> = FileDisk<&'a HostRuntime>;
 
@@ -21,61 +26,36 @@ fn bytes_at<D: Disk>(disk: &mut D, at: u64) -> Result<[u8; 5], DiskError>
     Ok(bytes)
 }
 
-/// Makes a folder anew.
-fn make_folder(rt: &HostRuntime, folder: &str) -> Result<(), Fail> {
-    let _ = fs::remove_dir_all(rt, folder);
-    Ok(fs::create_dir(rt, folder)?)
-}
-
-/// The bytes that a read or nothing gives.
+/// The bytes that a read gives.
 type Found = Result<[u8; 5], DiskError>;
 
-/// What a file that was never written gives before its end, and whether it is made.
-fn unwritten(rt: &HostRuntime, disk: &mut RealDisk, path: &str) -> (bool, Found) {
-    let is_made = fs::metadata(rt, path).is_ok();
-    (is_made, bytes_at(disk, 4_294_967_291))
-}
-
-fn write(disk: &mut RealDisk) -> Result<(), DiskError> {
+/// Whether a new file is made, what it gives before its end, how long it is once something is written, and what it gives then.
+fn written(rt: &HostRuntime, disk: &mut RealDisk) -> Result<(bool, Found, u64, Found), Fail> {
+    let is_made = fs::metadata(rt, PATH).is_ok();
+    let before = bytes_at(disk, 4_294_967_291);
     disk.write(10, b"abc")?;
-    disk.sync()
-}
-
-#[test]
-fn a_file_is_a_disk(rt: HostRuntime) -> Result<(), Fail> {
-    make_folder(&rt, "disk_file_test")?;
-    let path = "disk_file_test/heap.img";
-    let mut disk = disk_of(&rt, path)?;
-    same(&rt, disk.size(), SIZE);
-    same(&rt, unwritten(&rt, &mut disk, path), (false, Ok([0; 5])));
-    same(&rt, write(&mut disk), Ok(()));
-    same(&rt, fs::metadata(&rt, path)?.len(), 13);
+    disk.sync()?;
+    let len = fs::metadata(rt, PATH)?.len();
     disk.restart();
-    same(&rt, bytes_at(&mut disk, 9), Ok(*b"\0abc\0"));
-    fs::remove_dir_all(&rt, "disk_file_test")?;
-    Ok(())
+    Ok((is_made, before, len, bytes_at(disk, 9)))
 }
 
 /// Whether another disk holds the file, and what a read and a sync are answered.
-fn asked(disk: &mut RealDisk) -> (bool, Found, Result<(), DiskError>) {
+type Asked = (bool, Found, Result<(), DiskError>);
+
+fn asked(disk: &mut RealDisk) -> Asked {
     (disk.is_in_use(), bytes_at(disk, 9), disk.sync())
 }
 
-#[test]
-fn a_file_is_held_by_one_disk(rt: HostRuntime) -> Result<(), Fail> {
-    make_folder(&rt, "held_file_test")?;
-    let path = "held_file_test/heap.img";
-    let mut disk = disk_of(&rt, path)?;
-    same(&rt, write(&mut disk), Ok(()));
-    let mut other = disk_of(&rt, path)?;
-    let (failed, free) = (DiskError::Failed, Ok(*b"\0abc\0"));
-    same(&rt, asked(&mut other), (true, Err(failed), Err(failed)));
-    same(&rt, asked(&mut disk), (false, free, Ok(())));
+/// What a second disk of the file is answered, what this one is then, and what the second one is once this one is let go; and
+/// whether the file is in use for a third one then.
+fn shared(rt: &HostRuntime, mut disk: RealDisk) -> Result<([Asked; 3], bool), Fail> {
+    let mut other = disk_of(rt, PATH)?;
+    let second = asked(&mut other);
+    let first = asked(&mut disk);
     drop(disk);
-    same(&rt, asked(&mut other), (false, free, Ok(())));
-    same(&rt, disk_of(&rt, path)?.is_in_use(), true);
-    fs::remove_dir_all(&rt, "held_file_test")?;
-    Ok(())
+    let asked = [second, first, asked(&mut other)];
+    Ok((asked, disk_of(rt, PATH)?.is_in_use()))
 }
 
 /// Whether the file of that path is in use, and what a write there is answered.
@@ -84,13 +64,25 @@ fn opened(rt: &HostRuntime, path: &str) -> Result<(bool, Result<(), DiskError>),
     Ok((disk.is_in_use(), disk.write(0, b"abc")))
 }
 
+fn check_lost(rt: &impl Abort, opened: (bool, Result<(), DiskError>)) {
+    same(rt, opened, (false, Err(DiskError::Failed)));
+}
+
 #[test]
-fn what_can_not_be_opened(rt: HostRuntime) -> Result<(), Fail> {
-    make_folder(&rt, "lost_file_test")?;
-    for path in ["lost_file_test", "lost_file_test/missing/heap.img"] {
-        let failed = (false, Err(DiskError::Failed));
-        same(&rt, opened(&rt, path)?, failed);
-    }
-    fs::remove_dir_all(&rt, "lost_file_test")?;
+fn a_file_is_a_disk(rt: HostRuntime) -> Result<(), Fail> {
+    let _ = fs::remove_dir_all(&rt, FOLDER);
+    fs::create_dir(&rt, FOLDER)?;
+    let mut disk = disk_of(&rt, PATH)?;
+    same(&rt, disk.size(), SIZE);
+    let bytes = Ok(*b"\0abc\0");
+    let found = written(&rt, &mut disk)?;
+    same(&rt, found, (false, Ok([0; 5]), 13, bytes));
+    let failed = DiskError::Failed;
+    let free = (false, bytes, Ok(()));
+    let held = (true, Err(failed), Err(failed));
+    same(&rt, shared(&rt, disk)?, ([held, free, free], true));
+    check_lost(&rt, opened(&rt, FOLDER)?);
+    check_lost(&rt, opened(&rt, "disk_file_test/missing/heap.img")?);
+    fs::remove_dir_all(&rt, FOLDER)?;
     Ok(())
 }

@@ -71,101 +71,126 @@ const FAILED: Result<(), DiskError> = Err(DiskError::Failed);
 
 const STOPPED: Result<(), DiskError> = Err(DiskError::Stopped);
 
+/// A disk: what its restart leaves, how much room its record has, and which of its writes and syncs fail.
+type Made = (Pick, usize, &'static [u64]);
+
 /// A disk, what it answers, what it has then, and what a restart leaves of that.
-#[derive(Drop)]
-struct Case {
-    pick: Pick,
-    room: usize,
-    fails: &'static [u64],
-    answers: [Result<(), DiskError>; 4],
-    newest: [u8; 6],
-    left: [u8; 6],
-}
+type Case = (Made, [Result<(), DiskError>; 4], [u8; 6], [u8; 6]);
 
-fn check(rt: &impl Abort, alloc: Global, case: &Case) -> Result<(), AllocError> {
-    let mut disk = disk_of_six(alloc, case.pick, case.room, case.fails, &[])?;
-    same(rt, answers(&mut disk), case.answers);
-    same(rt, disk.contents(), &case.newest);
-    disk.restart();
-    same(rt, disk.contents(), &case.left);
-    Ok(())
-}
-
-/// What is picked, by its number.
-const PICKED: [(u8, Pick, [u8; 6]); 4] = [
-    (0, Pick::Synced, [10, 21, 22, 13, 14, 15]),
-    (1, Pick::Newest, [10, 21, 32, 33, 44, 15]),
-    (2, Pick::AllOnes, [10, 21, 255, 255, 255, 15]),
-    (3, Pick::AllOpen, [10, 21, 1, 1, 1, 15]),
-];
-
-#[test]
-fn a_restart_leaves_what_its_pick_says(rt: HostRuntime) -> Result<(), Fail> {
-    for (number, pick, left) in PICKED {
-        same(&rt, Pick::try_from(number), Ok(pick));
-        let case = Case {
-            pick,
-            room: 1000,
-            fails: &[],
-            answers: [DONE; 4],
-            newest: [10, 21, 32, 33, 44, 15],
-            left,
-        };
-        check(&rt, rt.alloc(), &case)?;
-    }
-    Ok(())
-}
-
-/// A numbered call that fails: which, the answers, what they leave, and what a restart leaves of it.
-type Listed = (&'static [u64], [Result<(), DiskError>; 4], [u8; 6], [u8; 6]);
-
-const LISTED: [Listed; 5] = [
+static CASES: [Case; 13] = [
+    // Each pick.
     (
-        &[1],
+        (Pick::Synced, 1000, &[]),
+        [DONE, DONE, DONE, DONE],
+        [10, 21, 32, 33, 44, 15],
+        [10, 21, 22, 13, 14, 15],
+    ),
+    (
+        (Pick::Newest, 1000, &[]),
+        [DONE, DONE, DONE, DONE],
+        [10, 21, 32, 33, 44, 15],
+        [10, 21, 32, 33, 44, 15],
+    ),
+    (
+        (Pick::AllOnes, 1000, &[]),
+        [DONE, DONE, DONE, DONE],
+        [10, 21, 32, 33, 44, 15],
+        [10, 21, 255, 255, 255, 15],
+    ),
+    (
+        (Pick::AllOpen, 1000, &[]),
+        [DONE, DONE, DONE, DONE],
+        [10, 21, 32, 33, 44, 15],
+        [10, 21, 1, 1, 1, 15],
+    ),
+    // A numbered call fails, and changes nothing.
+    (
+        (Pick::Synced, 1000, &[1]),
         [FAILED, DONE, DONE, DONE],
         [10, 11, 32, 33, 44, 15],
         [10, 11, 12, 13, 14, 15],
     ),
     (
-        &[2],
+        (Pick::Synced, 1000, &[2]),
         [DONE, FAILED, DONE, DONE],
         [10, 21, 32, 33, 44, 15],
         [10, 11, 12, 13, 14, 15],
     ),
     (
-        &[3],
+        (Pick::Synced, 1000, &[3]),
         [DONE, DONE, FAILED, DONE],
         [10, 21, 22, 13, 44, 15],
         [10, 21, 22, 13, 14, 15],
     ),
     (
-        &[4],
+        (Pick::Synced, 1000, &[4]),
         [DONE, DONE, DONE, FAILED],
         [10, 21, 32, 33, 14, 15],
         [10, 21, 22, 13, 14, 15],
     ),
     (
-        &[5],
+        (Pick::Synced, 1000, &[5]),
         [DONE, DONE, DONE, DONE],
         [10, 21, 32, 33, 44, 15],
         [10, 21, 22, 13, 14, 15],
     ),
+    // A record that is full has writes alone fail.
+    (
+        (Pick::Newest, 65, &[]),
+        [FAILED, DONE, FAILED, DONE],
+        [10, 11, 12, 13, 44, 15],
+        [10, 11, 12, 13, 44, 15],
+    ),
+    (
+        (Pick::Newest, 66, &[]),
+        [DONE, DONE, FAILED, FAILED],
+        [10, 21, 22, 13, 14, 15],
+        [10, 21, 22, 13, 14, 15],
+    ),
+    (
+        (Pick::Newest, 131, &[]),
+        [DONE, DONE, FAILED, DONE],
+        [10, 21, 22, 13, 44, 15],
+        [10, 21, 22, 13, 44, 15],
+    ),
+    (
+        (Pick::Newest, 197, &[]),
+        [DONE, DONE, DONE, DONE],
+        [10, 21, 32, 33, 44, 15],
+        [10, 21, 32, 33, 44, 15],
+    ),
+];
+
+fn check(rt: &impl Abort, alloc: Global, case: &Case) -> Result<(), AllocError> {
+    let ((pick, room, fails), answered, newest, left) = case;
+    let mut disk = disk_of_six(alloc, *pick, *room, fails, &[])?;
+    same(rt, answers(&mut disk), *answered);
+    same(rt, disk.contents(), newest);
+    disk.restart();
+    same(rt, disk.contents(), left);
+    Ok(())
+}
+
+#[test]
+fn what_is_answered_and_left(rt: HostRuntime) -> Result<(), Fail> {
+    for case in &CASES {
+        check(&rt, rt.alloc(), case)?;
+    }
+    Ok(())
+}
+
+static NUMBERS: [(u8, Pick); 4] = [
+    (0, Pick::Synced),
+    (1, Pick::Newest),
+    (2, Pick::AllOnes),
+    (3, Pick::AllOpen),
 ];
 
 #[test]
-fn a_listed_call_fails_and_changes_nothing(rt: HostRuntime) -> Result<(), Fail> {
-    for (fails, answers, newest, left) in LISTED {
-        let case = Case {
-            pick: Pick::Synced,
-            room: 1000,
-            fails,
-            answers,
-            newest,
-            left,
-        };
-        check(&rt, rt.alloc(), &case)?;
+fn picks_have_numbers(rt: HostRuntime) {
+    for (number, pick) in &NUMBERS {
+        same(&rt, Pick::try_from(*number), Ok(*pick));
     }
-    Ok(())
 }
 
 #[test]
@@ -178,30 +203,6 @@ fn a_listed_read_fails(rt: HostRuntime) -> Result<(), Fail> {
     ];
     same(&rt, read, [Ok(10), Err(DiskError::Failed), Ok(15)]);
     same(&rt, disk.size(), 6);
-    Ok(())
-}
-
-/// How much room the record has, the answers, and what they leave.
-const FULL: [(usize, [Result<(), DiskError>; 4], [u8; 6]); 4] = [
-    (65, [FAILED, DONE, FAILED, DONE], [10, 11, 12, 13, 44, 15]),
-    (66, [DONE, DONE, FAILED, FAILED], [10, 21, 22, 13, 14, 15]),
-    (131, [DONE, DONE, FAILED, DONE], [10, 21, 22, 13, 44, 15]),
-    (197, [DONE, DONE, DONE, DONE], [10, 21, 32, 33, 44, 15]),
-];
-
-#[test]
-fn a_full_record_fails_writes_alone(rt: HostRuntime) -> Result<(), Fail> {
-    for (room, answers, newest) in FULL {
-        let case = Case {
-            pick: Pick::Newest,
-            room,
-            fails: &[],
-            answers,
-            newest,
-            left: newest,
-        };
-        check(&rt, rt.alloc(), &case)?;
-    }
     Ok(())
 }
 
@@ -226,11 +227,8 @@ const FUSES: [Fuse; 5] = [
     (5, [DONE, DONE, DONE, DONE], Ok(44), 4),
 ];
 
-fn check_fuse(
-    rt: &impl Abort,
-    alloc: Global,
-    (limit, expected, read, passed): Fuse,
-) -> Result<(), AllocError> {
+fn check_fuse(rt: &impl Abort, alloc: Global, fuse: &Fuse) -> Result<(), AllocError> {
+    let (limit, expected, read, passed) = *fuse;
     let disk = disk_of_six(alloc, Pick::Newest, 1000, &[], &[])?;
     let mut fuse = FuseDisk::new(disk, limit);
     same(rt, (limit, byte_at(&mut fuse, 4)), (limit, Ok(14)));
@@ -244,7 +242,7 @@ fn check_fuse(
 #[test]
 fn a_fuse_stops_at_its_limit(rt: HostRuntime) -> Result<(), Fail> {
     for fuse in FUSES {
-        check_fuse(&rt, rt.alloc(), fuse)?;
+        check_fuse(&rt, rt.alloc(), &fuse)?;
     }
     Ok(())
 }

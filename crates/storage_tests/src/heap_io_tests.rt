@@ -26,7 +26,7 @@ fn read_all(
 /// long one and the second of a short one find the end.
 type Read = (usize, u64, usize, Result<usize, TakeAllError>);
 
-const READS: [Read; 11] = [
+static READS: [Read; 11] = [
     (0, 9, 0, Ok(0)),
     (5, 9, 5, Ok(5)),
     (5, 3, 9, Ok(5)),
@@ -42,9 +42,9 @@ const READS: [Read; 11] = [
 
 #[test]
 fn reads_a_stream_to_its_end(rt: HostRuntime) -> Result<(), Fail> {
-    for (len, fails, most, wanted) in READS {
-        let got = read_all(rt.alloc(), len, fails, most)?;
-        same(&rt, (len, fails, got), (len, fails, wanted));
+    for (len, fails, most, wanted) in &READS {
+        let got = read_all(rt.alloc(), *len, *fails, *most)?;
+        same(&rt, (len, fails, got), (len, fails, *wanted));
     }
     Ok(())
 }

@@ -131,7 +131,7 @@ type Promotion = (u32, u32, u32, u32, u64, bool, u32);
 /// An object of two fields comes to stand in a space of one page, and one of 52, which takes all that is left. At an address
 /// beside the next free one, with another transaction's birth, with index 0, with references to volatile objects, and where no
 /// room is left, none can.
-const PROMOTIONS: [Promotion; 13] = [
+static PROMOTIONS: [Promotion; 13] = [
     (7, 3, 1, 2, 2, false, 6),
     (5, 3, 1, 2, 2, false, 6),
     (0, 3, 1, 2, 2, false, 6),
@@ -148,7 +148,7 @@ const PROMOTIONS: [Promotion; 13] = [
 ];
 
 /// Fields of objects, words, and whether a `Fix` that puts the word there can follow the promotions of the table above.
-const FIXES: [(u32, u16, u64, bool); 9] = [
+static FIXES: [(u32, u16, u64, bool); 9] = [
     (0, 1, 26, true),
     (0, 1, 29, false),
     (0, 1, 3, false),

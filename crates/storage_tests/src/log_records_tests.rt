@@ -66,7 +66,7 @@ enum Listed {
 /// fields, the first of which refers to a transaction's own object, is copied from address 262 to 64; two words of page 1 are
 /// set, one to a reference to the object at address 68, the other to null; and an object without fields and one of a field are
 /// copied, to addresses 64 and 66. The bytes of the first `Base` stand in `docs/FORMATS.md` too.
-const LISTED: [(Listed, &[u8]); 5] = [
+static LISTED: [(Listed, &[u8]); 5] = [
     (
         Listed::Base(1, 262, &[9, 1 << 32 | 2, 0, 2]),
         &[
@@ -164,7 +164,7 @@ fn made(rt: &impl Abort, alloc: Global, listed: &Listed) -> Result<Record, Alloc
 /// Bytes that begin with no record: kinds that are none; and the word 3 * 2^60, which no field has, at each word of an
 /// `Update`, at that of an `Undo`, at that of a `Fix`, at a field of a `Base`, and at that of a `Scan`; and a `Base` whose header
 /// is one of a moved object, and one of 511 fields; and a `Flip` of one object that counts 4,294,967,295.
-const NO_RECORDS: [&[u8]; 13] = [
+static NO_RECORDS: [&[u8]; 13] = [
     &[],
     &[0, 1, 0, 0, 0],
     &[
@@ -245,10 +245,24 @@ fn spell_and_read(
     read(rt, alloc, &twice, record, bytes.len())
 }
 
+/// Bytes that are cut off anywhere.
+fn cut_off(rt: &impl Abort, alloc: Global, bytes: &[u8]) -> Result<(), AllocError> {
+    for end in 0..bytes.len() {
+        refused(rt, alloc, &bytes[..end])?;
+    }
+    Ok(())
+}
+
+/// Spells a record and reads it again, and cuts its bytes off anywhere.
+fn check(rt: &impl Abort, alloc: Global, record: &Record, bytes: &[u8]) -> Result<(), AllocError> {
+    spell_and_read(rt, alloc, record, bytes)?;
+    cut_off(rt, alloc, bytes)
+}
+
 #[test]
-fn spelled_and_read_again(rt: HostRuntime) -> Result<(), Fail> {
+fn plain_records_are_spelled_and_read_again(rt: HostRuntime) -> Result<(), Fail> {
     for (record, bytes) in &PLAIN {
-        spell_and_read(&rt, rt.alloc(), record, bytes)?;
+        check(&rt, rt.alloc(), record, bytes)?;
     }
     Ok(())
 }
@@ -256,7 +270,8 @@ fn spelled_and_read_again(rt: HostRuntime) -> Result<(), Fail> {
 #[test]
 fn records_with_words_are_spelled_and_read_again(rt: HostRuntime) -> Result<(), Fail> {
     for (listed, bytes) in &LISTED {
-        spell_and_read(&rt, rt.alloc(), &made(&rt, rt.alloc(), listed)?, bytes)?;
+        let record = made(&rt, rt.alloc(), listed)?;
+        check(&rt, rt.alloc(), &record, bytes)?;
     }
     Ok(())
 }
@@ -269,30 +284,11 @@ fn bytes_that_begin_with_no_record_are_refused(rt: HostRuntime) -> Result<(), Fa
     Ok(())
 }
 
-/// Bytes that are cut off anywhere.
-fn cut_off(rt: &impl Abort, alloc: Global, bytes: &[u8]) -> Result<(), AllocError> {
-    for end in 0..bytes.len() {
-        refused(rt, alloc, &bytes[..end])?;
-    }
-    Ok(())
-}
-
-#[test]
-fn records_that_are_cut_off_are_refused(rt: HostRuntime) -> Result<(), Fail> {
-    for (_, bytes) in &PLAIN {
-        cut_off(&rt, rt.alloc(), bytes)?;
-    }
-    for (_, bytes) in &LISTED {
-        cut_off(&rt, rt.alloc(), bytes)?;
-    }
-    Ok(())
-}
-
 /// The byte that a `Base` begins with.
 const BASE: u8 = 2;
 
 /// Headers of 0, 1, 510, 511 and 600 fields, and the bytes of the `Base` that begins so, if there is one.
-const HEADERS: [(u16, Option<usize>); 5] = [
+static HEADERS: [(u16, Option<usize>); 5] = [
     (1, Some(25)),
     (5, Some(33)),
     (2041, Some(4105)),
@@ -313,9 +309,9 @@ fn base_size(alloc: Global, header: u16) -> Result<Option<usize>, AllocError> {
 
 #[test]
 fn as_many_words_as_the_header_tells(rt: HostRuntime) -> Result<(), Fail> {
-    for (header, expected) in HEADERS {
-        let size = base_size(rt.alloc(), header)?;
-        same(&rt, (header, size), (header, expected));
+    for (header, expected) in &HEADERS {
+        let size = base_size(rt.alloc(), *header)?;
+        same(&rt, (header, size), (header, *expected));
     }
     Ok(())
 }

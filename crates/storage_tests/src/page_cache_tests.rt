@@ -298,12 +298,12 @@ fn check_row(
     rt: &impl Abort,
     alloc: Global,
     records: &[Record],
-    row: Row,
+    row: &Row,
     plain: &[u64],
 ) -> Result<(), Fail>
     requires { EachWritesBelow 256 records.now }
 {
-    let (flushes, stored) = row;
+    let (flushes, stored) = *row;
     let mut disk = new_disk(alloc)?;
     play(rt, alloc, &mut disk, records, flushes)?;
     disk.restart();
@@ -318,7 +318,7 @@ fn redone_as_replayed(rt: HostRuntime) -> Result<(), Fail> {
     let records = records(rt.alloc())?;
     let plain = replayed(rt.alloc(), &records)?;
     for row in ROWS {
-        check_row(&rt, rt.alloc(), &records, row, &plain)?;
+        check_row(&rt, rt.alloc(), &records, &row, &plain)?;
     }
     Ok(())
 }

@@ -103,7 +103,7 @@ fn never_stored(rt: HostRuntime) -> Result<(), Fail> {
 type Frame = (u8, u64, u8);
 
 /// Both frames of page 0, and the one that counts.
-const FRAMES: [[Frame; 3]; 7] = [
+static FRAMES: [[Frame; 3]; 7] = [
     [(1, 5, 17), (1, 9, 34), (1, 9, 34)],
     [(1, 9, 17), (1, 5, 34), (1, 9, 17)],
     [(1, 7, 17), (1, 7, 34), (1, 7, 17)],
@@ -139,11 +139,8 @@ fn page_of((_, lsn, fill): Frame) -> StoredPage {
 }
 
 /// Compares the pages behind two frames of page 0, and two of page 1 that are not open.
-fn check_frames(
-    rt: &impl Abort,
-    alloc: Global,
-    [first, second, counts]: [Frame; 3],
-) -> Result<(), Fail> {
+fn check_frames(rt: &impl Abort, alloc: Global, frames: &[Frame; 3]) -> Result<(), Fail> {
+    let [first, second, counts] = *frames;
     let bytes = image_of(alloc, [first, second, (0, 9, 51), (255, 9, 51)])?;
     let mut disk = disk_of(alloc, bytes, Pick::Newest, &[])?;
     let pages = pages_on(rt, alloc, &mut disk)?;
@@ -153,7 +150,7 @@ fn check_frames(
 
 #[test]
 fn the_newest_open_frame_counts(rt: HostRuntime) -> Result<(), Fail> {
-    for frames in FRAMES {
+    for frames in &FRAMES {
         check_frames(&rt, rt.alloc(), frames)?;
     }
     Ok(())
