@@ -1,5 +1,6 @@
 //! The bank of `docs/LIBRARY.md`, on a disk in memory.
 use crate::bank::{audit, open_accounts, work_beside};
+use crate::playing::{opened, same};
 use disk_model::{MemoryDisk, Pick};
 use graph_model::{Entry, Reply};
 use heap_core::Heap;
@@ -15,26 +16,28 @@ fn make_heap(rt: &impl Abort, alloc: Global) -> Result<Heap<MemoryDisk>, AllocEr
     let Ok(disk) = Heap::format(disk, 1, 65_536, 1) else {
         panic!(rt; "not made")
     };
-    let Ok(heap) = Heap::open(alloc, disk) else {
-        panic!(rt; "not opened")
-    };
-    Ok(heap)
+    Ok(opened(rt, alloc, disk))
 }
 
 fn is_collected(entry: &Entry) -> bool {
     matches!(entry.reply, Reply::Collected { .. })
 }
 
+/// Money was moved, a collection ended meanwhile, and the accounts have in all what they had at first.
+fn expect_kept(rt: &impl Abort, heap: &mut Heap<MemoryDisk>) {
+    let collected = heap.history().iter().any(|entry| is_collected(&entry));
+    same(rt, (1 < heap.commits(), collected), (true, true));
+    same(rt, audit(heap), Some(400));
+}
+
 #[test]
 fn the_accounts_keep_their_sum(rt: HostRuntime) -> Result<(), Fail> {
     let alloc = rt.alloc();
     let mut heap = make_heap(&rt, alloc)?;
-    assert!(rt; open_accounts(&mut heap).is_some());
+    same(&rt, open_accounts(&mut heap).is_some(), true);
     let Ok(mut heap) = work_beside(&rt, alloc, heap) else {
         panic!(rt; "memory was refused")
     };
-    // Money was moved, and a collection ended meanwhile.
-    assert!(rt; 1 < heap.commits() && heap.history().iter().any(|entry| is_collected(&entry)));
-    assert!(rt; audit(&mut heap) == Some(400));
+    expect_kept(&rt, &mut heap);
     Ok(())
 }

@@ -1,6 +1,6 @@
 //! A session that is answered busy tries again, and gives up after its last try.
 use crate::meeting::Sign;
-use crate::playing::{Played, disk_of, image_of, lines_of_session, plays_again, run_on, same};
+use crate::playing::{Played, disk_of, expect_again, image_of, lines_of_session, run_on, same};
 use disk_model::{MemoryDisk, Pick};
 use heap_program::Status;
 use heap_workers::Gate;
@@ -85,8 +85,7 @@ fn a_session_that_is_refused_at_each_try_gives_up(rt: HostRuntime) -> Result<(),
         let (played, left, kept) = run_kept(&rt, alloc, &image, tries)?;
         same(&rt, (tries, kept), (tries, true));
         check_lines(&rt, alloc, &played, tries)?;
-        let again = plays_again(&rt, alloc, &image, &played, &left)?;
-        same(&rt, (tries, again), (tries, true));
+        expect_again(&rt, alloc, &image, (tries as u64, &played), &left)?;
     }
     Ok(())
 }

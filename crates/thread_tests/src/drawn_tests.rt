@@ -1,6 +1,6 @@
 //! Drawn scripts are played by threads, and what they made alone again: the same is written, and the same bytes are left.
 use crate::drawn::{SESSIONS, SHARED, draw_script};
-use crate::playing::{Played, count_lines, image_of, plays_again, run_well, same};
+use crate::playing::{Played, count_lines, expect_again, image_of, run_well, same};
 use heap_program::Status;
 use std::alloc::Global;
 use std::process::Abort;
@@ -33,8 +33,7 @@ fn check_scripts<R: Threads + Wait + Abort + Sync>(
         let script = draw_script(alloc, seed)?;
         let (played, left) = run_well(rt, alloc, LINE, script.as_str(), &image)?;
         check_done(rt, &played, seed);
-        let again = plays_again(rt, alloc, &image, &played, &left)?;
-        same(rt, (seed, again), (seed, true));
+        expect_again(rt, alloc, &image, (seed, &played), &left)?;
     }
     Ok(())
 }

@@ -2,10 +2,10 @@
 //! acknowledged.
 use crate::drawn::{SHARED, draw_call, draw_script};
 use crate::playing::{
-    FRESH_BYTES, Played, count_lines, disk_of, image_of, plays_again, run_on, run_well, same,
+    FRESH_BYTES, Played, count_lines, disk_of, expect_again, image_of, opened, run_on, run_well,
+    same,
 };
 use disk_model::{Disk, MemoryDisk, Pick};
-use heap_core::Heap;
 use heap_program::Status;
 use heap_workers::OpenGate;
 use std::alloc::{AllocError, Global};
@@ -91,16 +91,10 @@ fn graph_in(text: &str) -> &str {
 }
 
 /// How many commits an image has.
-fn commits_of(
-    rt: &impl Abort,
-    alloc: Global,
-    disk: MemoryDisk,
-) -> Result<(u64, MemoryDisk), AllocError> {
-    let Ok(heap) = Heap::open(alloc, disk) else {
-        panic!(rt; "not opened")
-    };
+fn commits_of(rt: &impl Abort, alloc: Global, disk: MemoryDisk) -> (u64, MemoryDisk) {
+    let heap = opened(rt, alloc, disk);
     let commits = heap.commits();
-    Ok((commits, heap.close()))
+    (commits, heap.close())
 }
 
 /// Whether the graph of what was left is the one behind so many commits, which a play of the events up to the last of them makes.
@@ -146,7 +140,7 @@ fn check_left<R: Threads + Wait + Abort + Sync>(
     mut left: MemoryDisk,
 ) -> Result<(), Fail> {
     left.restart();
-    let (commits, left) = commits_of(rt, alloc, left)?;
+    let (commits, left) = commits_of(rt, alloc, left);
     let commits = commits.saturating_sub(BEFORE);
     check_commits(rt, text, commits, seed);
     let behind = is_graph_behind(rt, alloc, image, (text, commits), &left)?;
@@ -166,8 +160,7 @@ fn check_script<R: Threads + Wait + Abort + Sync>(
     if failed {
         check_failed(rt, &played, seed);
     } else {
-        let again = plays_again(rt, alloc, image, &played, &left)?;
-        same(rt, (seed, again), (seed, true));
+        expect_again(rt, alloc, image, (seed, &played), &left)?;
     }
     check_left(rt, alloc, image, (seed, played.text()), left)?;
     Ok(failed)

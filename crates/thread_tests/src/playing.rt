@@ -1,5 +1,6 @@
 //! How the tests run the program on disks in memory, and play again what was printed.
 use disk_model::{MemoryDisk, Pick};
+use heap_core::{Heap, OpenError};
 use heap_io::{MemorySink, MemorySource};
 use heap_program::Status;
 use heap_workers::{Gate, OpenGate};
@@ -61,6 +62,31 @@ pub fn disk_of(
     MemoryDisk::of(alloc, bytes, pick, RECORD_BYTES, fails, Vec::new(alloc))
 }
 
+/// Runs the program. It has no clause, so that what follows a run has nothing of what is promised of it to prove with.
+fn run_words<R: Threads + Wait + Sync, G: Gate + Sync>(
+    rt: &R,
+    alloc: Global,
+    words: &[String],
+    disk: MemoryDisk,
+    (source, sink): (&mut MemorySource, &mut MemorySink),
+    gate: &G,
+) -> (Status, MemoryDisk) {
+    run(rt, alloc, words, disk, source, sink, gate)
+}
+
+/// Opens a heap, also without a clause.
+fn open(alloc: Global, disk: MemoryDisk) -> Result<Heap<MemoryDisk>, (OpenError, MemoryDisk)> {
+    Heap::open(alloc, disk)
+}
+
+/// Opens a heap that is there.
+pub fn opened(rt: &impl Abort, alloc: Global, disk: MemoryDisk) -> Heap<MemoryDisk> {
+    match open(alloc, disk) {
+        Ok(heap) => heap,
+        Err(_) => panic!(rt; "not opened"),
+    }
+}
+
 /// Runs the program on a disk, with a source and a sink whose listed calls fail.
 pub fn run_on<R: Threads + Wait + Sync, G: Gate + Sync>(
     rt: &R,
@@ -73,7 +99,8 @@ pub fn run_on<R: Threads + Wait + Sync, G: Gate + Sync>(
     let words = words_of(alloc, line)?;
     let mut source = MemorySource::of(script.as_bytes().to_vec(alloc)?, fails.0);
     let mut sink = MemorySink::of(alloc, SINK_BYTES, fails.1)?;
-    let (status, disk) = run(rt, alloc, &words, disk, &mut source, &mut sink, gate);
+    let streams = (&mut source, &mut sink);
+    let (status, disk) = run_words(rt, alloc, &words, disk, streams, gate);
     let output = sink.bytes().to_vec(alloc)?;
     Ok((Played { status, output }, disk))
 }
@@ -131,7 +158,7 @@ pub fn count_lines(output: &str, part: &str) -> usize {
 }
 
 /// Whether the printed events, played alone on an equal image, write the same and leave the same bytes.
-pub fn plays_again<R: Threads + Wait + Sync>(
+fn plays_again<R: Threads + Wait + Sync>(
     rt: &R,
     alloc: Global,
     image: &[u8],
@@ -145,6 +172,19 @@ pub fn plays_again<R: Threads + Wait + Sync>(
             && again.output.as_slice() == played.output.as_slice()
             && disk.contents() == left.contents(),
     )
+}
+
+/// They do, of the run of that number.
+pub fn expect_again<R: Threads + Wait + Abort + Sync>(
+    rt: &R,
+    alloc: Global,
+    image: &[u8],
+    (number, played): (u64, &Played),
+    left: &MemoryDisk,
+) -> Result<(), AllocError> {
+    let again = plays_again(rt, alloc, image, played, left)?;
+    same(rt, (number, again), (number, true));
+    Ok(())
 }
 
 /// Compares what was found. The tests call it, since the proof of an assertion of their own would take each of them longer.

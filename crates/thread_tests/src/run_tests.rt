@@ -1,8 +1,8 @@
 //! Scripts that are played by threads: sessions run beside each other and a collection, and what they made is played again.
 use crate::meeting::Sign;
 use crate::playing::{
-    FRESH_BYTES, Played, TWO_OBJECTS, count_lines, disk_of, events_of, image_of, lines_of_session,
-    plays_again, run_on, run_well, same,
+    FRESH_BYTES, Played, TWO_OBJECTS, count_lines, disk_of, events_of, expect_again, image_of,
+    lines_of_session, run_on, run_well, same,
 };
 use disk_model::{MemoryDisk, Pick};
 use heap_program::Status;
@@ -70,7 +70,7 @@ fn each_session_writes_its_own_object_beside_a_collection(rt: HostRuntime) -> Re
     let (played, left) = run_well(&rt, alloc, "heap threads", script.as_str(), image)?;
     check_each(&rt, &played);
     check_sessions(&rt, alloc, &played)?;
-    same(&rt, plays_again(&rt, alloc, image, &played, &left)?, true);
+    expect_again(&rt, alloc, image, (0, &played), &left)?;
     Ok(())
 }
 
@@ -111,6 +111,16 @@ impl Gate for Meeting {
     }
 }
 
+/// The first session's events come in the order of its lines.
+fn check_own(rt: &impl Abort, alloc: Global, played: &Played) -> Result<(), AllocError> {
+    same(rt, played.status, Status::Done);
+    let own = lines_of_session(alloc, played.text(), "1 ")?;
+    let events = events_of(alloc, own.as_str())?;
+    let want = "1 begin\n1 new 0 1\n1 put 0 0 5\n1 seal\n";
+    same(rt, events.as_str(), want);
+    Ok(())
+}
+
 #[test]
 fn two_sessions_meet_and_what_they_made_is_played_again(rt: HostRuntime) -> Result<(), Fail> {
     let alloc = rt.alloc();
@@ -120,16 +130,9 @@ fn two_sessions_meet_and_what_they_made_is_played_again(rt: HostRuntime) -> Resu
         two: Sign::new(),
     };
     let (played, left) = run_at(&rt, alloc, APART, &image, &gate)?;
-    same(&rt, played.status, Status::Done);
     same(&rt, (gate.one.came(), gate.two.came()), (true, true));
-    let own = lines_of_session(alloc, played.text(), "1 ")?;
-    let events = events_of(alloc, own.as_str())?;
-    same(
-        &rt,
-        events.as_str(),
-        "1 begin\n1 new 0 1\n1 put 0 0 5\n1 seal\n",
-    );
-    same(&rt, plays_again(&rt, alloc, &image, &played, &left)?, true);
+    check_own(&rt, alloc, &played)?;
+    expect_again(&rt, alloc, &image, (0, &played), &left)?;
     Ok(())
 }
 
@@ -184,6 +187,15 @@ impl Gate for Counting {
 /// Each worker of `APART` and how many events its lines have.
 const TURNS: [(u32, u64); 4] = [(1, 5), (2, 5), (COLLECTOR, 3), (FLUSHER, 1)];
 
+/// Each worker passed as often, always with its next turn, and no other one passed.
+fn check_turns(rt: &impl Abort, gate: &Counting) {
+    for (worker, turns) in &TURNS {
+        same(rt, (*worker, gate.turns_of(*worker)), (*worker, *turns));
+    }
+    let wrong = gate.wrong.load(Ordering::SeqCst);
+    same(rt, (gate.all(), wrong), (14, 0));
+}
+
 #[test]
 fn each_worker_passes_the_gate_before_each_of_its_events(rt: HostRuntime) -> Result<(), Fail> {
     let alloc = rt.alloc();
@@ -191,13 +203,6 @@ fn each_worker_passes_the_gate_before_each_of_its_events(rt: HostRuntime) -> Res
     let gate = Counting::new(alloc)?;
     let (played, _) = run_at(&rt, alloc, APART, &image, &gate)?;
     same(&rt, played.status, Status::Done);
-    for (worker, turns) in &TURNS {
-        same(&rt, (*worker, gate.turns_of(*worker)), (*worker, *turns));
-    }
-    same(
-        &rt,
-        (gate.all(), gate.wrong.load(Ordering::SeqCst)),
-        (14, 0),
-    );
+    check_turns(&rt, &gate);
     Ok(())
 }

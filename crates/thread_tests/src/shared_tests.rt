@@ -6,6 +6,7 @@ ghost use Rattle.shared_heap.specs.Shared.{IsPass};
 ghost use Rattle.shared_heap.specs.Workers.{HasPass};
 ghost use Rattle.turn_lock.specs.Passes.{label_of, pass_numbers, passes_of};
 
+use crate::playing::{opened, same};
 use disk_model::{MemoryDisk, Pick};
 use graph_model::{Event, Reply};
 use heap_core::Heap;
@@ -25,10 +26,7 @@ fn make_heap(rt: &impl Abort, alloc: Global) -> Result<Heap<MemoryDisk>, AllocEr
     let Ok(disk) = Heap::format(disk, 1, 1024, 1) else {
         panic!(rt; "not made")
     };
-    let Ok(heap) = Heap::open(alloc, disk) else {
-        panic!(rt; "not opened")
-    };
-    Ok(heap)
+    Ok(opened(rt, alloc, disk))
 }
 
 // The three passes of a list.
@@ -115,7 +113,7 @@ fn a_closed_heap_has_the_calls(rt: HostRuntime) -> Result<(), Fail> {
     let (shared, mut one, two, three) = share(&rt, alloc, heap);
     put_one(&rt, &shared, &mut one, 1, 7)?;
     let heap = close_three(alloc, shared, one, two, three)?;
-    assert!(rt; heap.history().len() == 4 && heap.commits() == 1);
+    same(&rt, (heap.history().len(), heap.commits()), (4, 1));
     Ok(())
 }
 
@@ -125,9 +123,17 @@ fn a_commit_shows_at_once(rt: HostRuntime) -> Result<(), Fail> {
     let heap = make_heap(&rt, alloc)?;
     let (shared, mut writer, _, mut other) = share(&rt, alloc, heap);
     let sealed = put_one(&rt, &shared, &mut writer, 1, 7)?;
-    assert!(rt; sealed == Reply::Sealed { n: 1 } && shared.front(&mut other) == 0);
+    same(
+        &rt,
+        (sealed, shared.front(&mut other)),
+        (Reply::Sealed { n: 1 }, 0),
+    );
     let durable = shared.call(&rt, &mut writer, Event::Force)?;
-    assert!(rt; durable == Reply::Durable { n: 1 } && shared.front(&mut other) == 1);
+    same(
+        &rt,
+        (durable, shared.front(&mut other)),
+        (Reply::Durable { n: 1 }, 1),
+    );
     Ok(())
 }
 
@@ -189,7 +195,7 @@ fn two_workers_commit_beside_each_other(rt: HostRuntime) -> Result<(), Fail> {
     let alloc = rt.alloc();
     let heap = make_heap(&rt, alloc)?;
     let (shared, one, two, mut other) = share(&rt, alloc, heap);
-    assert!(rt; work_beside(&rt, alloc, &shared, one, two)?);
-    assert!(rt; shared.front(&mut other) == 2);
+    let worked = work_beside(&rt, alloc, &shared, one, two)?;
+    same(&rt, (worked, shared.front(&mut other)), (true, 2));
     Ok(())
 }

@@ -1,9 +1,10 @@
 //! How a run by threads ends that can't read its script, finds no heap, or can't write its output.
 use crate::playing::{
-    FRESH_BYTES, IMAGE_BYTES, Played, TWO_OBJECTS, disk_of, image_of, run_on, run_well, same,
+    FRESH_BYTES, IMAGE_BYTES, Played, TWO_OBJECTS, disk_of, image_of, opened, run_on, run_well,
+    same,
 };
 use disk_model::{MemoryDisk, Pick};
-use heap_core::Heap;
+use heap_core::At;
 use heap_program::Status;
 use heap_workers::OpenGate;
 use std::alloc::{AllocError, Global};
@@ -21,44 +22,43 @@ const LINES: u64 = 12;
 
 const GRAPH: &str = "graph 3\n0: @1 @2 - -\n1: 5\n2: 6\n";
 
-/// Runs a script on a disk with these bytes, with a source and a sink whose listed calls fail.
+/// Runs a script on a disk with these bytes, with a source and a sink whose call of that number fails.
 fn run_failing<R: Threads + Wait + Sync>(
     rt: &R,
     alloc: Global,
     words: (&str, &str),
     image: &[u8],
-    fails: (Vec<u64>, Vec<u64>),
+    (read, write): (Option<u64>, Option<u64>),
 ) -> Result<(Played, MemoryDisk), AllocError> {
     let disk = disk_of(alloc, image, Pick::Newest, Vec::new(alloc))?;
+    let fails = (list_of(alloc, read)?, list_of(alloc, write)?);
     run_on(rt, alloc, words, disk, fails, &OpenGate)
 }
 
-/// Compares a run's status, and that it wrote nothing, to the sink or to the disk.
-fn check_untouched(
-    rt: &impl Abort,
+/// A list of one call, which is to fail, or of none.
+fn list_of(alloc: Global, call: Option<u64>) -> Result<Vec<u64>, AllocError> {
+    let mut calls = Vec::new(alloc);
+    if let Some(call) = call {
+        calls.push(call)?;
+    }
+    Ok(calls)
+}
+
+/// Runs a command with a source whose call of that number fails, and compares its status, and that it wrote nothing, to the sink or to the disk.
+fn expect_untouched<R: Threads + Wait + Abort + Sync>(
+    rt: &R,
+    alloc: Global,
     (line, script): (&str, &str),
-    (played, left): &(Played, MemoryDisk),
+    (image, read): (&[u8], Option<u64>),
     status: Status,
-    image: &[u8],
-) {
+) -> Result<(), Fail> {
+    let (played, left) = run_failing(rt, alloc, (line, script), image, (read, None))?;
     let found = (played.status, played.text(), left.contents() == image);
     same(
         rt,
         (line, script, found),
         (line, script, (status, "", true)),
     );
-}
-
-/// Runs a command where nothing fails, and compares its status, and that it wrote nothing.
-fn expect_untouched<R: Threads + Wait + Abort + Sync>(
-    rt: &R,
-    alloc: Global,
-    (line, script): (&str, &str),
-    status: Status,
-    image: &[u8],
-) -> Result<(), Fail> {
-    let run = run_well(rt, alloc, line, script, image)?;
-    check_untouched(rt, (line, script), &run, status, image);
     Ok(())
 }
 
@@ -69,136 +69,126 @@ const LINES_OF_THREADS: [&str; 3] = [
     "heap threads --tries 2 --fresh 1",
 ];
 
-#[test]
-fn a_source_that_fails_leaves_all(rt: HostRuntime) -> Result<(), Fail> {
-    let alloc = rt.alloc();
-    let image = image_of(&rt, alloc, TWO_OBJECTS)?;
-    for line in &LINES_OF_THREADS {
-        // The first call gives the script, and the second one says that it has ended.
-        for call in 1..3u64 {
-            let fails = (vec![in alloc; call]?, Vec::new(alloc));
-            let run = run_failing(&rt, alloc, (*line, ONE_EACH), &image, fails)?;
-            check_untouched(&rt, (*line, ONE_EACH), &run, Status::ReadFault, &image);
-        }
-    }
-    Ok(())
-}
-
-/// Scripts and the first bad line of each.
-const BAD: [(&str, u64); 6] = [
-    ("1 begin\n1 root 0\n1 pu", 3),
-    ("1 begin\n33 root 0\n", 2),
-    ("0 begin\n", 1),
-    ("\n\nforce 1\n", 3),
-    ("flip\n1 scan\n2 pu\n", 2),
-    (" 1 begin\n", 1),
+/// Scripts, the call of their source that fails, and how a run ends that can't read them. The first call gives the script, and the second one says that
+/// it has ended. Of a bad script the first bad line is told.
+const UNREAD: [(&str, Option<u64>, Status); 8] = [
+    (ONE_EACH, Some(1), Status::ReadFault),
+    (ONE_EACH, Some(2), Status::ReadFault),
+    ("1 begin\n1 root 0\n1 pu", None, Status::Script { line: 3 }),
+    ("1 begin\n33 root 0\n", None, Status::Script { line: 2 }),
+    ("0 begin\n", None, Status::Script { line: 1 }),
+    ("\n\nforce 1\n", None, Status::Script { line: 3 }),
+    ("flip\n1 scan\n2 pu\n", None, Status::Script { line: 2 }),
+    (" 1 begin\n", None, Status::Script { line: 1 }),
 ];
 
 #[test]
-fn a_bad_script_leaves_all(rt: HostRuntime) -> Result<(), Fail> {
-    let alloc = rt.alloc();
-    let image = image_of(&rt, alloc, TWO_OBJECTS)?;
-    for (script, bad) in &BAD {
-        let status = Status::Script { line: *bad };
+fn a_script_that_is_not_read_leaves_all(rt: HostRuntime) -> Result<(), Fail> {
+    let image = image_of(&rt, rt.alloc(), TWO_OBJECTS)?;
+    for (script, read, status) in &UNREAD {
         for line in &LINES_OF_THREADS {
-            expect_untouched(&rt, alloc, (*line, *script), status, &image)?;
+            let words = (*line, *script);
+            expect_untouched(&rt, rt.alloc(), words, (&image, *read), *status)?;
         }
     }
     Ok(())
 }
 
-#[test]
-fn a_disk_that_is_too_small_is_left(rt: HostRuntime) -> Result<(), Fail> {
-    let alloc = rt.alloc();
-    let image = image_of(&rt, alloc, TWO_OBJECTS)?;
-    let status = Status::TooSmall {
-        size: IMAGE_BYTES as u64,
-        need: FRESH_BYTES as u64,
-    };
-    let line = "heap threads --fresh 1";
-    expect_untouched(&rt, alloc, (line, ONE_EACH), status, &image)
-}
+/// A place in the image, and another byte for it.
+type Change = (usize, u8);
 
-/// The image with one byte changed.
-fn spoiled(image: &[u8], alloc: Global, at: usize, byte: u8) -> Result<Vec<u8>, AllocError> {
+/// Command lines, what is changed of the image, and how a run ends that finds no command, too small a disk, no heap, or a damaged one.
+const REFUSED: [(&str, &[Change], Status); 15] = [
+    ("heap threads 1", &[], Status::Usage),
+    ("heap threads --tries", &[], Status::Usage),
+    ("heap threads --tries 0", &[], Status::Usage),
+    ("heap threads --tries 1000001", &[], Status::Usage),
+    ("heap threads --tries 2 --tries 2", &[], Status::Usage),
+    ("heap threads --fresh 0", &[], Status::Usage),
+    ("heap threads --fresh 16385", &[], Status::Usage),
+    ("heap threads --stop 1", &[], Status::Usage),
+    ("heap threads --again 1", &[], Status::Usage),
+    (
+        "heap threads --fresh 1",
+        &[],
+        Status::TooSmall {
+            size: IMAGE_BYTES as u64,
+            need: FRESH_BYTES as u64,
+        },
+    ),
+    // The gate of the superblock, its letters, its limits, and its zeros.
+    ("heap threads", &[(0, 0)], Status::NotHeap),
+    ("heap threads", &[(1, b'S')], Status::NotHeap),
+    ("heap threads", &[(12, 0)], Status::NotHeap),
+    ("heap threads", &[(63, 1)], Status::NotHeap),
+    // The length of the log's first batch.
+    (
+        "heap threads",
+        &[(65, 255)],
+        Status::Damaged { at: At::Batch(0) },
+    ),
+];
+
+/// The image with these bytes changed.
+fn spoiled(alloc: Global, image: &[u8], changes: &[Change]) -> Result<Vec<u8>, AllocError> {
     let mut bytes = image.to_vec(alloc)?;
-    if let Some(place) = bytes.get_mut(at) {
-        *place = byte;
+    for (at, byte) in changes {
+        if let Some(place) = bytes.get_mut(*at) {
+            *place = *byte;
+        }
     }
     Ok(bytes)
 }
 
 #[test]
-fn what_is_no_heap_is_left(rt: HostRuntime) -> Result<(), Fail> {
+fn what_is_refused_is_left(rt: HostRuntime) -> Result<(), Fail> {
     let alloc = rt.alloc();
     let image = image_of(&rt, alloc, TWO_OBJECTS)?;
-    // The gate of the superblock, its letters, its limits, and its zeros.
-    for (at, byte) in &[(0, 0), (1, b'S'), (12, 0), (63, 1)] {
-        let bytes = spoiled(&image, alloc, *at, *byte)?;
-        let words = ("heap threads", ONE_EACH);
-        expect_untouched(&rt, alloc, words, Status::NotHeap, &bytes)?;
+    for (line, changes, status) in &REFUSED {
+        let bytes = spoiled(alloc, &image, changes)?;
+        expect_untouched(&rt, alloc, (*line, ONE_EACH), (&bytes, None), *status)?;
     }
     Ok(())
 }
 
-#[test]
-fn a_damaged_heap_is_left(rt: HostRuntime) -> Result<(), Fail> {
-    let alloc = rt.alloc();
-    let image = image_of(&rt, alloc, TWO_OBJECTS)?;
-    // The length of the log's first batch.
-    let bytes = spoiled(&image, alloc, 65, 255)?;
-    let (played, left) = run_well(&rt, alloc, "heap threads", ONE_EACH, &bytes)?;
-    same(&rt, (played.status.code(), played.text()), (8, ""));
-    same(&rt, left.contents() == bytes.as_slice(), true);
+/// All events were made: both commits are there, and the graph.
+fn expect_made<R: Threads + Wait + Abort + Sync>(
+    rt: &R,
+    alloc: Global,
+    piece: u64,
+    left: MemoryDisk,
+) -> Result<(), Fail> {
+    let (found, _) = run_well(rt, alloc, "heap graph", "", left.contents())?;
+    let commits = opened(rt, alloc, left).commits();
+    same(rt, (piece, found.text(), commits), (piece, GRAPH, 3));
     Ok(())
 }
 
-#[test]
-fn other_words_of_threads_are_no_command(rt: HostRuntime) -> Result<(), Fail> {
-    let alloc = rt.alloc();
-    let image = image_of(&rt, alloc, TWO_OBJECTS)?;
-    for line in &[
-        "heap threads 1",
-        "heap threads --tries",
-        "heap threads --tries 0",
-        "heap threads --tries 1000001",
-        "heap threads --tries 2 --tries 2",
-        "heap threads --fresh 0",
-        "heap threads --fresh 16385",
-        "heap threads --stop 1",
-        "heap threads --again 1",
-    ] {
-        expect_untouched(&rt, alloc, (*line, ONE_EACH), Status::Usage, &image)?;
-    }
-    Ok(())
-}
-
-/// How many commits a disk has.
-fn commits_of(rt: &impl Abort, alloc: Global, disk: MemoryDisk) -> u64 {
-    let Ok(heap) = Heap::open(alloc, disk) else {
-        panic!(rt; "not opened")
+/// A run whose sink failed was refused and wrote no whole graph, and another one is done and did. Says whether it was refused.
+fn was_refused(rt: &impl Abort, piece: u64, played: &Played) -> bool {
+    let text = played.text();
+    let refused = played.status == Status::WriteFault;
+    let want = if refused {
+        (Status::WriteFault, false, false)
+    } else {
+        (Status::Done, true, true)
     };
-    heap.commits()
+    let found = (played.status, text.ends_with(GRAPH), text.contains(GRAPH));
+    same(rt, (piece, found), (piece, want));
+    refused
 }
 
-/// Runs a script whose output is refused at one piece, and says whether it was. All events were made: both commits are there.
+/// Runs a script whose output is refused at one piece, and says whether it was.
 fn check_refused<R: Threads + Wait + Abort + Sync>(
     rt: &R,
     alloc: Global,
     image: &[u8],
     piece: u64,
 ) -> Result<bool, Fail> {
-    let fails = (Vec::new(alloc), vec![in alloc; piece]?);
     let words = ("heap threads", ONE_EACH);
-    let (played, left) = run_failing(rt, alloc, words, image, fails)?;
-    let (found, _) = run_well(rt, alloc, "heap graph", "", left.contents())?;
-    same(rt, (piece, found.text()), (piece, GRAPH));
-    same(rt, (piece, commits_of(rt, alloc, left)), (piece, 3));
-    let refused = played.status == Status::WriteFault;
-    let whole = played.status == Status::Done && played.text().ends_with(GRAPH);
-    same(rt, (piece, refused || whole), (piece, true));
-    same(rt, (piece, played.text().contains(GRAPH)), (piece, whole));
-    Ok(refused)
+    let (played, left) = run_failing(rt, alloc, words, image, (None, Some(piece)))?;
+    expect_made(rt, alloc, piece, left)?;
+    Ok(was_refused(rt, piece, &played))
 }
 
 /// More pieces than the output has.
