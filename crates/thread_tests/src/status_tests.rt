@@ -183,9 +183,10 @@ fn check_refused<R: Threads + Wait + Abort + Sync>(
     rt: &R,
     alloc: Global,
     image: &[u8],
+    script: &str,
     piece: u64,
 ) -> Result<bool, Fail> {
-    let words = ("heap threads", ONE_EACH);
+    let words = ("heap threads", script);
     let (played, left) = run_failing(rt, alloc, words, image, (None, Some(piece)))?;
     expect_made(rt, alloc, piece, left)?;
     Ok(was_refused(rt, piece, &played))
@@ -194,21 +195,38 @@ fn check_refused<R: Threads + Wait + Abort + Sync>(
 /// More pieces than the output has.
 const MOST_PIECES: u64 = 100;
 
-#[test]
-fn a_sink_that_fails_finds_all_events_made(rt: HostRuntime) -> Result<(), Fail> {
-    let alloc = rt.alloc();
-    let image = image_of(&rt, alloc, TWO_OBJECTS)?;
+/// The same sessions, which seal alone: what they have sealed is forced by the event that ends the run.
+const SEALED: &str =
+    "1 begin\n1 root 0\n1 get 0 0 1\n1 put 1 0 5\n1 seal\n2 begin\n2 root 0\n2 get 0 1 1\n2 put 1 0 6\n2 seal\n";
+
+/// The lines of that, with the force.
+const SEALED_LINES: u64 = 11;
+
+/// How many pieces of a script's output may be refused.
+fn pieces_refused<R: Threads + Wait + Abort + Sync>(
+    rt: &R,
+    alloc: Global,
+    image: &[u8],
+    script: &str,
+) -> Result<u64, Fail> {
     let mut refused = 0u64;
     for piece in 1..MOST_PIECES {
-        if !check_refused(&rt, alloc, &image, piece)? {
+        if !check_refused(rt, alloc, image, script, piece)? {
             break;
         }
         refused = piece;
     }
-    same(
-        &rt,
-        (refused, LINES < refused && refused < MOST_PIECES - 1),
-        (refused, true),
-    );
+    Ok(refused)
+}
+
+#[test]
+fn a_sink_that_fails_finds_all_events_made(rt: HostRuntime) -> Result<(), Fail> {
+    let alloc = rt.alloc();
+    let image = image_of(&rt, alloc, TWO_OBJECTS)?;
+    for (script, lines) in [(ONE_EACH, LINES), (SEALED, SEALED_LINES)] {
+        let refused = pieces_refused(&rt, alloc, &image, script)?;
+        let is_all = lines < refused && refused < MOST_PIECES - 1;
+        same(&rt, (refused, is_all), (refused, true));
+    }
     Ok(())
 }
