@@ -4,9 +4,10 @@
     bench/openings.py [--quick] [RUNS]
 
 A log of 64 MiB and one of 128 MiB are full of commits of one write each, on a heap of one page a space; another heap has 16,384 pages a space, all of
-them stored. The images are written here, byte by byte as docs/FORMATS.md has them, and each is opened by `graph`. Memory is what a run had at most,
-without that of a run whose words are no command. Times are of the processor, the least of RUNS, 5 if it is left out. It needs gcc. With --quick the
-program is that which is compiled with nothing proved; it has checks at each step, and is many times slower where it computes.
+them stored. The images are written here, byte by byte as docs/FORMATS.md has them, and each is opened by `graph`, in turn with the C program
+openings.c, which reads the bytes and decodes them. Both have to find what was written. Memory is what a run had at most, without that of a run whose
+words are no command. Times are of the processor, of whole runs, the least of RUNS, 5 if it is left out. It needs gcc. With --quick the program is
+that which is compiled with nothing proved; it has checks at each step, and is many times slower where it computes.
 """
 import os
 import struct
@@ -55,47 +56,56 @@ def write_pages_image():
         image.write((frame(1, [0] * 64) + bytes(528)) * (2 * MANY - 1))
 
 
-def measured(tool, words):
-    """The seconds and the KiB of a run of the program, and its status."""
-    ran = subprocess.run([tool, "run", PROGRAM, *words], stdin=subprocess.DEVNULL, stdout=subprocess.PIPE, check=True)
+def measured(tool, *words):
+    """The seconds and the KiB of a run of these words, and its status."""
+    ran = subprocess.run([tool, "run", *words], stdin=subprocess.DEVNULL, stdout=subprocess.PIPE, check=True)
     seconds, peak, status = ran.stdout.split()
     return float(seconds), int(peak), int(status)
 
 
-def opening(tool, runs):
-    """The least seconds and the most KiB of some openings."""
-    all_runs = [measured(tool, ["graph"]) for _ in range(runs)]
-    if any(status for _, _, status in all_runs):
+def check_found(words, text):
+    """Ends the bench where a program does not print what was written."""
+    found = subprocess.run(words, stdin=subprocess.DEVNULL, stdout=subprocess.PIPE, text=True).stdout
+    if found != text:
+        sys.exit(f"openings: {text!r} was written, and {os.path.basename(words[0])} found {found!r}")
+
+
+def opening(tool, runs, commits):
+    """The least seconds of some openings, their most KiB, and the least seconds of the C program over the image."""
+    ours, theirs = [PROGRAM, "graph"], [tool, "read", "heap.img"]
+    # the last commit has put its number into the root
+    check_found(ours, f"graph 1\n0: {commits} - - -\n")
+    check_found(theirs, f"commits {commits}\nrecords {2 * commits}\nroot {commits}\n")
+    rounds = [(measured(tool, *ours), measured(tool, *theirs)) for _ in range(runs)]
+    if any(status for both in rounds for _, _, status in both):
         sys.exit("openings: the image was not opened")
-    return min(seconds for seconds, _, _ in all_runs), max(peak for _, peak, _ in all_runs)
-
-
-def reading(tool):
-    ran = subprocess.run([tool, "read", "heap.img", str(MANY)], stdout=subprocess.PIPE, check=True)
-    return float(ran.stdout.split()[0])
+    return min(ran[0] for ran, _ in rounds), max(ran[1] for ran, _ in rounds), min(ran[0] for _, ran in rounds)
 
 
 def main(tool):
     words = sys.argv[1 + QUICK:]
     runs = int(words[0]) if words else 5
     subprocess.run([os.path.join(TOP, "heap"), *["--quick"] * QUICK, "play", "--fresh", "1"], stdin=subprocess.DEVNULL, stdout=subprocess.PIPE, check=True)
-    _, empty, _ = measured(tool, ["none"])
+    print(f"load {os.getloadavg()[0]:.1f}")
+    _, empty, _ = measured(tool, PROGRAM, "none")
     times = []
     for size in (64, 128):
         commits = write_log_image(size * MIB)
-        seconds, peak = opening(tool, runs)
+        seconds, peak, c = opening(tool, runs, commits)
         times.append(seconds)
-        print(f"a log of {size} MiB, {commits} commits: {(peak - empty) / 1024:.1f} MiB above the empty program's {empty / 1024:.1f}, {seconds:.2f} s")
+        print(f"a log of {size} MiB, {commits} commits: {(peak - empty) / 1024:.1f} MiB above the empty program's {empty / 1024:.1f}, {seconds:.3f} s")
+        print(f"against C, which reads and decodes it in {c:.3f} s: {seconds / c:.2f} times as long")
     print(f"128 MiB against 64: {times[1] / times[0]:.2f} times as long")
     write_pages_image()
-    seconds, peak = opening(tool, runs)
-    read = min(reading(tool) for _ in range(runs))
-    print(f"{MANY} pages a space against C: {seconds / read:.2f} times as long, {seconds:.3f} s; {(peak - empty) / 1024:.1f} MiB above the empty program")
+    seconds, peak, c = opening(tool, runs, 1)
+    print(f"{MANY} pages a space: {(peak - empty) / 1024:.1f} MiB above the empty program, {seconds:.3f} s")
+    print(f"against C, which reads and decodes them in {c:.3f} s: {seconds / c:.2f} times as long")
+    print(f"load {os.getloadavg()[0]:.1f}")
 
 
 if __name__ == "__main__":
     with tempfile.TemporaryDirectory() as room:
         os.chdir(room)
         built = os.path.join(room, "openings")
-        subprocess.run(["gcc", "-O2", "-Wall", "-Wextra", "-o", built, os.path.join(TOP, "bench", "openings.c")], check=True)
+        subprocess.run(["gcc", "-std=c11", "-O2", "-Wall", "-Wextra", "-o", built, os.path.join(TOP, "bench", "openings.c")], check=True)
         main(built)
