@@ -43,6 +43,15 @@ printed() {
     made "$1.out" "$examples/$1.sh" $quick
 }
 
+# ends_without_memory: where `rt run` has left that program in its crate, no end of a transaction lacks memory.
+ends_without_memory() {
+    program=$top/crates/ends_without_memory/out/ends_without_memory
+    if [ -x "$program" ]; then
+        "$examples/tools/refused.py" "$program" >"$out"
+        report tools/refused.py $? 0 0
+    fi
+}
+
 # complains ERROR STATUS LINES WORDS..: nothing on standard output, and these last lines on standard error.
 complains() {
     wanted=$1 expected=$2 lines=$3
@@ -148,6 +157,7 @@ made terminal.out "$examples/terminal.py" $quick
 
 is_unseen
 inspects
+ends_without_memory
 printed tools/remade
 printed clients/python
 if command -v cc >/dev/null; then printed clients/c; fi

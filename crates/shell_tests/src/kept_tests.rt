@@ -57,6 +57,32 @@ fn image_of(rt: &impl Abort, alloc: Global, runs: &[Run]) -> Result<Vec<u8>, Fai
 
 const FORMATTED: Run = (SMALL_FORMAT_LINE, "", Status::Done, "formatted 67712\n");
 
+/// The smallest logs. What is refused leaves room for the end of each transaction, which is told to the byte, and so each one ends.
+const FULL_LOG_RUNS: [Run; 4] = [
+    ("heap format 1 128 1", "", Status::Done, "formatted 2304\n"),
+    (
+        "heap play",
+        "1 begin\n1 root 0\n1 put 0 0 1\n1 put 0 0 2\n1 put 0 0 3\n1 abort\n1 begin\n1 root 0\n1 put 0 0 1\n1 seal\nforce\n1 begin\n1 seal\n2 begin\n1 begin\n",
+        Status::Done,
+        "1 begin -> begun 1\n1 root 0 -> done\n1 put 0 0 1 -> done\n1 put 0 0 2 -> done\n1 put 0 0 3 -> logfull 60 27 67\n1 abort -> aborted\n1 begin -> begun 2\n1 root 0 -> done\n1 put 0 0 1 -> logfull 103 27 29\n1 seal -> sealed 1\nforce -> durable 1\n1 begin -> begun 3\n1 seal -> sealed 2\n2 begin -> begun 4\n1 begin -> logfull 118 0 20\n2 abort -> aborted\nforce -> durable 2\ngraph 1\n0: - - - -\n",
+    ),
+    ("heap format 1 64 1", "", Status::Done, "formatted 2240\n"),
+    (
+        "heap play",
+        "1 begin\n1 root 0\n1 put 0 0 1\n1 commit\n1 begin\n1 root 0\n1 put 0 0 2\n1 seal\n2 begin\n2 seal\n3 begin\n4 begin\n",
+        Status::Done,
+        "1 begin -> begun 1\n1 root 0 -> done\n1 put 0 0 1 -> done\n1 seal -> sealed 1\nforce -> durable 1\n1 begin -> begun 2\n1 root 0 -> done\n1 put 0 0 2 -> logfull 38 32 29\n1 seal -> sealed 2\n2 begin -> begun 3\n2 seal -> sealed 3\n3 begin -> begun 4\n4 begin -> logfull 53 0 20\n3 abort -> aborted\nforce -> durable 3\ngraph 1\n0: 1 - - -\n",
+    ),
+];
+
+#[test]
+fn the_smallest_logs_keep_room_for_each_end(rt: HostRuntime) -> Result<(), Fail> {
+    let alloc = rt.alloc();
+    let disk = make_disk(alloc, SMALL_IMAGE, Pick::Newest)?;
+    expect_runs(&rt, alloc, disk, &FULL_LOG_RUNS)?;
+    Ok(())
+}
+
 /// A heap is made, played on and printed. The next number follows the log's greatest, and seals are counted from the opening on.
 const KEPT_RUNS: [Run; 8] = [
     FORMATTED,
