@@ -1,6 +1,6 @@
 //! Drawn scripts of several sessions with flips, scans and flushes between their lines. What is expected comes from the slow heap.
-use crate::playing::{PICKS, new_image, play, same};
-use crate::told::{Told, check_stop, without_collector};
+use crate::playing::{play, same};
+use crate::told::{Told, check_stops, without_collector};
 use disk_model::Pick;
 use heap_program::Status;
 use std::alloc::{AllocError, Global};
@@ -167,32 +167,52 @@ fn more_drawn_scripts_print_what_the_slow_heap_does(rt: HostRuntime) -> Result<(
     check_whole(&rt, rt.alloc(), (10, 20))
 }
 
-/// More calls than a script of so few lines makes.
-const MOST_CALLS: usize = 200;
-
 /// How many lines are drawn of a script that is stopped at each of its calls.
 const STOPPED_LINES: usize = 60;
 
-/// Stops a drawn script at each of its calls until none stops, and the recovery behind it at one of its own, by one pick after another.
-fn check_stops(rt: &impl Abort, alloc: Global, seed: u64) -> Result<(), Fail> {
+/// Draws a script, and stops it and its recoveries at each of their calls.
+fn check_drawn(rt: &impl Abort, alloc: Global, seed: u64, pick: Pick) -> Result<(), Fail> {
     let script = draw_script(alloc, seed, STOPPED_LINES)?;
-    let told = Told::of(rt, alloc, script.as_str())?;
-    let image = new_image(alloc, FORMAT)?;
-    for stop in 0..MOST_CALLS {
-        let pick = PICKS[stop % 4];
-        if !check_stop(rt, alloc, &told, &image, pick, (stop, stop / 4 % 5))? {
-            return Ok(());
-        }
-    }
-    panic!(rt; "it stops at each call");
+    check_stops(rt, alloc, FORMAT, script.as_str(), pick)
+}
+
+// A test for each script and pick, since code that is only tried plays slowly, and each has a minute.
+#[test]
+fn a_drawn_script_comes_back_from_synced_bytes(rt: HostRuntime) -> Result<(), Fail> {
+    check_drawn(&rt, rt.alloc(), 3, Pick::Synced)
 }
 
 #[test]
-fn a_drawn_script_comes_back_from_each_stop(rt: HostRuntime) -> Result<(), Fail> {
-    check_stops(&rt, rt.alloc(), 3)
+fn a_drawn_script_comes_back_from_newest_bytes(rt: HostRuntime) -> Result<(), Fail> {
+    check_drawn(&rt, rt.alloc(), 3, Pick::Newest)
 }
 
 #[test]
-fn another_drawn_script_comes_back_from_each_stop(rt: HostRuntime) -> Result<(), Fail> {
-    check_stops(&rt, rt.alloc(), 4)
+fn a_drawn_script_comes_back_from_bytes_of_ones(rt: HostRuntime) -> Result<(), Fail> {
+    check_drawn(&rt, rt.alloc(), 3, Pick::AllOnes)
+}
+
+#[test]
+fn a_drawn_script_comes_back_from_open_gates(rt: HostRuntime) -> Result<(), Fail> {
+    check_drawn(&rt, rt.alloc(), 3, Pick::AllOpen)
+}
+
+#[test]
+fn another_drawn_script_comes_back_from_synced_bytes(rt: HostRuntime) -> Result<(), Fail> {
+    check_drawn(&rt, rt.alloc(), 4, Pick::Synced)
+}
+
+#[test]
+fn another_drawn_script_comes_back_from_newest_bytes(rt: HostRuntime) -> Result<(), Fail> {
+    check_drawn(&rt, rt.alloc(), 4, Pick::Newest)
+}
+
+#[test]
+fn another_drawn_script_comes_back_from_bytes_of_ones(rt: HostRuntime) -> Result<(), Fail> {
+    check_drawn(&rt, rt.alloc(), 4, Pick::AllOnes)
+}
+
+#[test]
+fn another_drawn_script_comes_back_from_open_gates(rt: HostRuntime) -> Result<(), Fail> {
+    check_drawn(&rt, rt.alloc(), 4, Pick::AllOpen)
 }

@@ -1,18 +1,10 @@
 //! Scripts with collections, stopped at each of their calls by each pick of a restart, and once more at each call of the recovery.
-use crate::playing::{PICKS, expect_done, new_image, play};
-use crate::told::{Told, check_stop};
+use crate::playing::{PICKS, expect_done, play};
+use crate::told::{RECOVERY_CALLS, check_stops};
 use disk_model::Pick;
-use std::alloc::Global;
-use std::process::Abort;
 use std::test::Fail;
 
 const FORMAT: &str = "heap format 4 8192 1";
-
-/// More calls than the scripts make.
-const MOST_CALLS: usize = 64;
-
-/// The calls of a recovery that has a transaction to take back.
-const RECOVERY_CALLS: usize = 4;
 
 /// A transaction writes over the only reference to an object, and never ends.
 const CLEARED: &str =
@@ -22,61 +14,45 @@ const CLEARED: &str =
 const BESIDE: &str =
     "1 begin\n1 root 0\n1 new 1 2\n1 new 2 60\n1 new 3 60\n1 new 4 1\n1 put 4 0 9\n1 link 1 0 2\n1 link 2 0 3\n1 link 3 0 4\n1 link 1 1 4\n1 link 0 0 1\n1 commit\n1 begin\n1 root 0\n1 get 0 0 1\n1 get 1 0 2\n1 get 2 0 2\n1 put 2 1 5\n1 drop 2\n2 begin\n2 root 0\n2 get 0 0 1\n2 get 1 1 3\n2 new 2 1\n2 link 2 0 3\n2 drop 1\n2 drop 3\nflip\nforce\n2 get 2 0 1\n2 get 1 0 4\n2 put 1 0 6\nscan\nflush 4\n1 clear 1 0\n1 get 1 0 2\n1 get 2 0 3\n1 put 3 2 6\nforce\n2 link 1 0 2\n2 seal\nscan\n1 abort\n2 begin\n2 root 0\n2 link 0 1 0\nscan\n2 seal\nflush 5\nforce\n";
 
-/// Stops the script at each of its calls until none stops, and the recovery at each of its own and behind them.
-fn check_stops(rt: &impl Abort, alloc: Global, script: &str, pick: Pick) -> Result<(), Fail> {
-    let told = Told::of(rt, alloc, script)?;
-    let image = new_image(alloc, FORMAT)?;
-    for stop in 0..MOST_CALLS {
-        let mut stopped = false;
-        for again in 0..=RECOVERY_CALLS {
-            stopped = check_stop(rt, alloc, &told, &image, pick, (stop, again))?;
-        }
-        if !stopped {
-            return Ok(());
-        }
-    }
-    panic!(rt; "it stops at each call");
-}
-
 // A test for each script and pick, since code that is only tried plays slowly, and each has a minute.
 #[test]
 fn a_cleared_field_comes_back_from_synced_bytes(rt: HostRuntime) -> Result<(), Fail> {
-    check_stops(&rt, rt.alloc(), CLEARED, Pick::Synced)
+    check_stops(&rt, rt.alloc(), FORMAT, CLEARED, Pick::Synced)
 }
 
 #[test]
 fn a_cleared_field_comes_back_from_newest_bytes(rt: HostRuntime) -> Result<(), Fail> {
-    check_stops(&rt, rt.alloc(), CLEARED, Pick::Newest)
+    check_stops(&rt, rt.alloc(), FORMAT, CLEARED, Pick::Newest)
 }
 
 #[test]
 fn a_cleared_field_comes_back_from_bytes_of_ones(rt: HostRuntime) -> Result<(), Fail> {
-    check_stops(&rt, rt.alloc(), CLEARED, Pick::AllOnes)
+    check_stops(&rt, rt.alloc(), FORMAT, CLEARED, Pick::AllOnes)
 }
 
 #[test]
 fn a_cleared_field_comes_back_from_open_gates(rt: HostRuntime) -> Result<(), Fail> {
-    check_stops(&rt, rt.alloc(), CLEARED, Pick::AllOpen)
+    check_stops(&rt, rt.alloc(), FORMAT, CLEARED, Pick::AllOpen)
 }
 
 #[test]
 fn two_sessions_come_back_from_synced_bytes(rt: HostRuntime) -> Result<(), Fail> {
-    check_stops(&rt, rt.alloc(), BESIDE, Pick::Synced)
+    check_stops(&rt, rt.alloc(), FORMAT, BESIDE, Pick::Synced)
 }
 
 #[test]
 fn two_sessions_come_back_from_newest_bytes(rt: HostRuntime) -> Result<(), Fail> {
-    check_stops(&rt, rt.alloc(), BESIDE, Pick::Newest)
+    check_stops(&rt, rt.alloc(), FORMAT, BESIDE, Pick::Newest)
 }
 
 #[test]
 fn two_sessions_come_back_from_bytes_of_ones(rt: HostRuntime) -> Result<(), Fail> {
-    check_stops(&rt, rt.alloc(), BESIDE, Pick::AllOnes)
+    check_stops(&rt, rt.alloc(), FORMAT, BESIDE, Pick::AllOnes)
 }
 
 #[test]
 fn two_sessions_come_back_from_open_gates(rt: HostRuntime) -> Result<(), Fail> {
-    check_stops(&rt, rt.alloc(), BESIDE, Pick::AllOpen)
+    check_stops(&rt, rt.alloc(), FORMAT, BESIDE, Pick::AllOpen)
 }
 
 /// The one script of these of which all that is printed is written down: a flip, a force, and then the disk stops.

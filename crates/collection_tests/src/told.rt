@@ -1,6 +1,6 @@
 //! What the slow heap answers to a script. It has no spaces and no pages, so the lines of flips, scans and flushes are left out of what is
 //! compared: but for these a collection changes nothing of what is printed.
-use crate::playing::{Played, disk_of, play_on, same};
+use crate::playing::{Played, disk_of, new_image, play_on, same};
 use disk_model::Pick;
 use graph_model::{Entry, Event};
 use heap_program::Status;
@@ -129,7 +129,7 @@ fn check_stopped(
 }
 
 /// Plays the script on a heap with a stop, and one more in the recovery, and compares what came back. It says whether the first stop came.
-pub fn check_stop(
+fn check_stop(
     rt: &impl Abort,
     alloc: Global,
     told: &Told<'_>,
@@ -141,4 +141,32 @@ pub fn check_stop(
     let disk = disk_of(alloc, image.to_vec(alloc)?, pick)?;
     let (played, _) = play_on(alloc, line.as_str(), told.script, disk)?;
     check_stopped(rt, alloc, told, &played, line.as_str())
+}
+
+/// More calls than the scripts make.
+const MOST_CALLS: usize = 200;
+
+/// The calls of a recovery that has a transaction to take back.
+pub const RECOVERY_CALLS: usize = 4;
+
+/// Stops the script at each of its calls until none stops, and the recovery at each of its own and behind them.
+pub fn check_stops(
+    rt: &impl Abort,
+    alloc: Global,
+    format: &str,
+    script: &str,
+    pick: Pick,
+) -> Result<(), Fail> {
+    let told = Told::of(rt, alloc, script)?;
+    let image = new_image(alloc, format)?;
+    for stop in 0..MOST_CALLS {
+        let mut stopped = false;
+        for again in 0..=RECOVERY_CALLS {
+            stopped = check_stop(rt, alloc, &told, &image, pick, (stop, again))?;
+        }
+        if !stopped {
+            return Ok(());
+        }
+    }
+    panic!(rt; "it stops at each call");
 }
