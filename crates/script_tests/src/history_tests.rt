@@ -32,32 +32,27 @@ fn compare(
     Ok(())
 }
 
-#[test]
-fn commits_are_told_in_the_order_of_their_seals(rt: HostRuntime) -> Result<(), Fail> {
-    let root = |s: u32| (Event::Root { s, h: 0 }, Reply::Done);
-    let read = |s: u32| (
-        Event::Get {
-            s,
-            h: 0,
-            i: 0,
-            h2: 1,
-        },
-        Reply::Null,
-    );
-    let put = |s: u32, reply: Reply| (
-        Event::Put {
-            s,
-            h: 0,
-            i: 0,
-            v: 7,
-        },
-        reply,
-    );
+fn root(s: u32) -> (Event, Reply) {
+    (Event::Root { s, h: 0 }, Reply::Done)
+}
+
+fn read(s: u32) -> (Event, Reply) {
+    let (h, i, h2) = (0, 0, 1);
+    (Event::Get { s, h, i, h2 }, Reply::Null)
+}
+
+fn put(s: u32, reply: Reply) -> (Event, Reply) {
+    let (h, i, v) = (0, 0, 7);
+    (Event::Put { s, h, i, v }, reply)
+}
+
+/// Three sessions: one is refused a write and seals first, one aborts, and one seals and is then cut short in its next seal.
+fn three_sessions(rt: &(impl Abort + AllocGlobal)) -> Result<History, Fail> {
     let busy = Reply::Refused {
         why: Refusal::Busy { holder: 5 },
     };
-    let history = told(
-        &rt,
+    told(
+        rt,
         &[
             (Event::Begin { s: 1 }, Reply::Begun { n: 5 }),
             root(1),
@@ -86,7 +81,12 @@ fn commits_are_told_in_the_order_of_their_seals(rt: HostRuntime) -> Result<(), F
                 },
             ),
         ],
-    )?;
+    )
+}
+
+#[test]
+fn commits_are_told_in_the_order_of_their_seals(rt: HostRuntime) -> Result<(), Fail> {
+    let history = three_sessions(&rt)?;
     compare(&rt, &history, &[(6, 2), (5, 3), (8, 0)])?;
     assert_eq!(&rt; history.acked(), 1);
     Ok(())

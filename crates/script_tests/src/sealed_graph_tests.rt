@@ -1,6 +1,7 @@
 //! The graph of what a history says is sealed, from the history alone.
 use crate::history_tests::told;
 use graph_model::{Event, Id, ROOT, Refusal, Reply, Val};
+use heap_history::History;
 use sealed_graph::{PlainGraph, SealedView, sealed_view};
 use std::process::Abort;
 use std::test::Fail;
@@ -52,10 +53,9 @@ fn compare(rt: &impl Abort, graph: &PlainGraph, want: &[(Id, &[Val])]) -> Result
 
 /// Transactions of two sessions that are sealed in another order than they began; then one that is aborted, one whose seal the disk cut short,
 /// and one that is still active.
-#[test]
-fn what_is_sealed_is_run_in_the_order_of_the_seals(rt: HostRuntime) -> Result<(), Fail> {
-    let history = told(
-        &rt,
+fn two_sessions(rt: &(impl Abort + AllocGlobal)) -> Result<History, Fail> {
+    told(
+        rt,
         &[
             begin(1, 5),
             root(1),
@@ -95,7 +95,12 @@ fn what_is_sealed_is_run_in_the_order_of_the_seals(rt: HostRuntime) -> Result<()
             put(3, 0, 3, 1),
             refused(Event::Seal { s: 1 }, Refusal::Stopped),
         ],
-    )?;
+    )
+}
+
+#[test]
+fn what_is_sealed_is_run_in_the_order_of_the_seals(rt: HostRuntime) -> Result<(), Fail> {
+    let history = two_sessions(&rt)?;
     let first = PlainGraph::new_heap(rt.alloc())?;
     let graph = sealed_view(rt.alloc(), &history, &first)?;
     let linked = Id { t: 5, k: 1 };
