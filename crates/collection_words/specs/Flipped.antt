@@ -21,6 +21,7 @@ use Rattle.collection_words.specs.Copying.{object_words_at}
 use Rattle.collection_words.specs.LaidOut.{EachField, IsLaidOut}
 use Rattle.collection_words.specs.Placed.{Ascend}
 use Rattle.collection_words.specs.Relocated.{HaveSameIds}
+use Rattle.heap_words.specs.declared.TheConstants.{STABLE_WORDS}
 
 -- the copies of the objects at these addresses, end to end from an address on
 abbrev pub flip_copies : List ℕ → List ℕ → ℕ → List ObjectCopy
@@ -67,7 +68,7 @@ WereTranslated pairs places currents us = AllByRecursion (λ u. WentAlong pairs 
 pub record IsFlipping (s : State) (places chosen remaining : Places) (words : List ℕ) : Type 0 where
   pub spaced : IsSpaced s
   pub long : length words ≡ words_in s.pages
-  pub small : words_in s.pages ≤ 2097152
+  pub small : words_in s.pages ≤ STABLE_WORDS
   pub laid : IsLaidOut s places [] words
   pub up : Ascend s.base (addresses chosen)
   pub starts : (at : ℕ) → Contains (addresses chosen) at → Contains (addresses places) at

@@ -14,6 +14,7 @@ use Rattle.log_machine.specs.Sound.{IsSpaced}
 use Rattle.log_machine.specs.Collecting.{other_base}
 use Rattle.graph_words.specs.Places.{Places, addresses}
 use Rattle.collection_words.specs.Completed.{taken_by}
+use Rattle.heap_words.specs.declared.TheConstants.{STABLE_WORDS}
 
 -- something holds of the number and the word of each field of the object at an address
 abbrev pub EachField : List ℕ → ℕ → (ℕ → ℕ → Type 0) → Type 0
@@ -73,12 +74,12 @@ pub record IsUnderway (s : State) (k : Collection) (places remaining : Places) (
   pub run : s.collection ≡ Some k
   pub spaced : IsSpaced s
   pub long : length words ≡ words_in s.pages
-  pub small : words_in s.pages ≤ 2097152
+  pub small : words_in s.pages ≤ STABLE_WORDS
   pub laid : IsLaidOut s places remaining words
 
 -- The words of a heap, whether a collection is under way or not: the spaces have room for what it owes, and the words are laid out.
 pub record AreHeapWords (s : State) (places remaining : Places) (words : List ℕ) : Type 0 where
   pub spaced : IsSpaced s
   pub long : length words ≡ words_in s.pages
-  pub small : words_in s.pages ≤ 2097152
+  pub small : words_in s.pages ≤ STABLE_WORDS
   pub laid : IsLaidOut s places remaining words

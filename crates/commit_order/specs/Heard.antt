@@ -6,7 +6,7 @@ use Rattle.graph_model.specs.declared.event.Event.TheVariants.{Seal}
 use Rattle.graph_model.specs.declared.reply.Entry.{Entry}
 use Rattle.graph_model.specs.declared.reply.Refusal.TheVariants.{DiskFault, Stopped}
 use Rattle.graph_model.specs.declared.reply.Reply.{Reply}
-use Rattle.graph_model.specs.declared.reply.Reply.TheVariants.{Begun, Sealed, Aborted, Durable, Flipped, Collecting, Scanned, Collected, Idle, Flushed, Clean, Refused}
+use Rattle.graph_model.specs.declared.reply.Reply.TheVariants.{Begun, Done, Null, Int, Reference, Yes, No, Length, Sealed, Aborted, Durable, Flipped, Collecting, Scanned, Collected, Idle, Flushed, Clean, Refused}
 use Rattle.graph_model.specs.History.{session_of}
 
 -- The replies to the calls of transactions.
@@ -56,7 +56,13 @@ hear heard event (Clean page) = heard
 hear heard event (Refused DiskFault) = hear_cut heard event
 hear heard event (Refused Stopped) = hear_cut heard event
 hear heard event (Refused why) = heard
-hear heard event reply = hear_call heard (session_of event) reply
+hear heard event Done = hear_call heard (session_of event) Done
+hear heard event Null = hear_call heard (session_of event) Null
+hear heard event (Int v) = hear_call heard (session_of event) (Int v)
+hear heard event Reference = hear_call heard (session_of event) Reference
+hear heard event Yes = hear_call heard (session_of event) Yes
+hear heard event No = hear_call heard (session_of event) No
+hear heard event (Length n) = hear_call heard (session_of event) (Length n)
 
 -- all that a history tells of the replies
 abbrev pub heard_in : List Entry → Heard

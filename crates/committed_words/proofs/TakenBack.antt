@@ -15,9 +15,6 @@ one_more : (us : List UndoEntry) (u : UndoEntry) (words : List ℕ) → taken_ba
 one_more [] u words = refl
 one_more (v ∷ us) u words = one_more us u (with_word words v.object v.field v.was)
 
-pub none_taken_back : (undo : List UndoEntry) (before : List ℕ) → IsTakenBack undo undo before before
-none_taken_back undo before = record { newest = []; order = refl; words = refl }
-
 turned : (front : List UndoEntry) (u : UndoEntry) → reverse (front ++ u ∷ []) ≡ u ∷ reverse front
 turned front u = reverse-append front (u ∷ [])
 

@@ -16,16 +16,3 @@ pub record IsAppending (old now : Log) (done rest : List Record) : Type 0 where
   pub spare : HasSpare now (length (spellings rest))
   pub room : log_used_with now (length (spellings rest)) ≤ log_room now
   pub added : (batches : List (List Record)) (pending : List Record) → Keeps old batches pending → Keeps now batches (pending ++ done)
-
--- none yet
-pub none_appended : (old : Log) (rest : List Record) → HasSpare old (length (spellings rest)) → log_used_with old (length (spellings rest)) ≤ log_room old → IsAppending old old [] rest
-none_appended old rest spare room = record {
-  place = record { at = refl; room = refl; tail = refl; forced = refl };
-  memory = omega arith;
-  buffer = sym (append-nil (log_buffer old));
-  size = omega arith;
-  count = omega arith;
-  spare = spare;
-  room = room;
-  added = λ batches pending keeps. subst (λ (rs : List Record). Keeps old batches rs) (sym (append-nil pending)) keeps;
-}

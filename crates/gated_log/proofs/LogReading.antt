@@ -24,8 +24,3 @@ spellings-push records rec = flat_map-append spelling records (rec ∷ []) ∙ a
 -- the records of one batch more
 pub records_of-push : (batches : List (List Record)) (records : List Record) → records_of (batches ++ records ∷ []) ≡ records_of batches ++ records
 records_of-push batches records = flat_map-append (λ (l : List Record). l) batches (records ∷ []) ∙ ap (λ (l : List Record). records_of batches ++ l) (append-nil records)
-
--- a byte at least for each record
-pub fewer_records : (records : List Record) → length records ≤ length (spellings records)
-fewer_records [] = omega arith
-fewer_records (rec ∷ records) = omega (arith, fewer_records records, some_spelling rec, length-append (spelling rec) (spellings records))

@@ -6,6 +6,7 @@ use Rattle.log_records.specs.declared.Record.{Record}
 use Rattle.log_records.specs.Record.{spellings, IsRecord}
 use Rattle.gated_log.specs.declared.reading.LogReader.{LogReader}
 use Rattle.gated_log.specs.Log.{batches_bytes, records_of, HoldsBatches}
+use Rattle.log_records.specs.declared.TheConstants.{BATCH_BYTES}
 
 -- where the log begins on the disk
 abbrev pub reader_place : LogReader → ℕ
@@ -56,7 +57,7 @@ pub record IsAtGate (tells : Bool) (log : List ℕ) (r : LogReader) (batches : L
 -- It stands in the batch behind them, of which it has given these records.
 pub record IsInBatch (tells : Bool) (log : List ℕ) (r : LogReader) (batches : List (List Record)) (begun : List Record) : Type 0 where
   pub first : r.first ≡ length (records_of batches) + 1
-  pub next : r.next ≡ length (batches_bytes batches) + (5 + length (spellings begun))
+  pub next : r.next ≡ length (batches_bytes batches) + (BATCH_BYTES + length (spellings begun))
   pub bytes : IsTrue tells → log ≡ batches_bytes batches ++ (begun_bytes (length (spellings begun) + r.left) begun ++ untaken r log)
 
 -- A reader of the log with these bytes, where they are told, has given the records of these whole batches and of the next one these.

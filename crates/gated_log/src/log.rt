@@ -121,6 +121,13 @@ impl Log {
         self.forced + self.waiting
     }
 
+    /// The LSN of the record that is appended next.
+    pub fn next_lsn(&self) -> u64
+        ensures { result ≡ log_count self.now + FIRST_LSN }
+    {
+        self.records() + FIRST_LSN
+    }
+
     /// How many of its records were forced: the last LSN that is on the disk.
     pub fn forced(&self) -> u64
         ensures { result ≡ log_forced self.now }

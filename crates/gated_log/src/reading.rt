@@ -13,7 +13,9 @@ use crate::batch::{NO_LENGTH, told_length};
 use crate::log::Log;
 use disk_model::{Disk, DiskError};
 use gate_slot::OPEN;
-use log_records::{BASE_HEAD_BYTES, BATCH_BYTES, Record, SCAN_HEAD_BYTES, WORD_BYTES, WRITE_BYTES};
+use log_records::{
+    BASE_HEAD_BYTES, BATCH_BYTES, FIRST_LSN, FLIP, Record, SCAN, SCAN_HEAD_BYTES, WORD_BYTES, WRITE_BYTES,
+};
 use std::alloc::{AllocError, AllocFailed, Global};
 
 /// How many bytes of a log are read at once, where no record needs more: no more are read behind what is needed.
@@ -24,12 +26,6 @@ const LONGEST_RECORD: usize = BASE_HEAD_BYTES + WORD_BYTES * 512;
 
 /// The bytes of the longest `Scan`.
 const LONGEST_SCAN: usize = SCAN_HEAD_BYTES + WRITE_BYTES * 65_535;
-
-/// The first byte of a `Scan`.
-const SCAN: u8 = 8;
-
-/// The first byte of a `Flip`.
-const FLIP: u8 = 9;
 
 /// Why a log could not be read.
 #[derive(Clone, Copy, Debug, PartialEq, Eq)]
@@ -113,7 +109,7 @@ impl LogReader {
             next: 0,
             tail: 0,
             left: 0,
-            first: 1,
+            first: FIRST_LSN,
             given: 0,
             window: Vec::new(alloc),
             taken: 0,
@@ -206,7 +202,7 @@ impl LogReader {
                 at: u64::from(self.tail),
             });
         };
-        self.first = self.given + 1;
+        self.first = self.given + FIRST_LSN;
         self.pass(BATCH_BYTES, 0, length);
         Ok(true)
     }

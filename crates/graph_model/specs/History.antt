@@ -6,7 +6,7 @@ use Rattle.graph_model.specs.declared.event.Event.{Event}
 use Rattle.graph_model.specs.declared.event.Event.TheVariants.{Begin, Root, New, Put, Clear, Link, Drop, Get, Same, Len, Seal, Abort, Force, Flip, Scan, Flush}
 use Rattle.graph_model.specs.declared.reply.Refusal.TheVariants.{DiskFault, Stopped}
 use Rattle.graph_model.specs.declared.reply.Reply.{Reply}
-use Rattle.graph_model.specs.declared.reply.Reply.TheVariants.{Begun, Sealed, Aborted, Durable, Flipped, Collecting, Scanned, Collected, Idle, Flushed, Clean, Refused}
+use Rattle.graph_model.specs.declared.reply.Reply.TheVariants.{Begun, Done, Null, Int, Reference, Yes, No, Length, Sealed, Aborted, Durable, Flipped, Collecting, Scanned, Collected, Idle, Flushed, Clean, Refused}
 use Rattle.graph_model.specs.declared.reply.Entry.{Entry}
 use Rattle.graph_model.specs.Transaction.{Transaction}
 
@@ -102,7 +102,13 @@ done a event Idle = a
 done a event (Flushed page) = a
 done a event (Clean page) = a
 done a event (Refused why) = a
-done a event reply = makes_call a (session_of event) event
+done a event Done = makes_call a (session_of event) event
+done a event Null = makes_call a (session_of event) event
+done a event (Int v) = makes_call a (session_of event) event
+done a event Reference = makes_call a (session_of event) event
+done a event Yes = makes_call a (session_of event) event
+done a event No = makes_call a (session_of event) event
+done a event (Length n) = makes_call a (session_of event) event
 
 -- the first entry at which the disk stopped or failed
 abbrev pub first_failure : Option ℕ → ℕ → Option ℕ

@@ -86,7 +86,17 @@ event_refusal next g0 a Force = None
 event_refusal next g0 a Flip = None
 event_refusal next g0 a Scan = None
 event_refusal next g0 a (Flush p) = None
-event_refusal next g0 a event = call_refusal g0 a (a.active (session_of event)) event
+event_refusal next g0 a (Root s h) = call_refusal g0 a (a.active s) (Root s h)
+event_refusal next g0 a (New s h len) = call_refusal g0 a (a.active s) (New s h len)
+event_refusal next g0 a (Put s h i v) = call_refusal g0 a (a.active s) (Put s h i v)
+event_refusal next g0 a (Clear s h i) = call_refusal g0 a (a.active s) (Clear s h i)
+event_refusal next g0 a (Link s h i h2) = call_refusal g0 a (a.active s) (Link s h i h2)
+event_refusal next g0 a (Drop s h) = call_refusal g0 a (a.active s) (Drop s h)
+event_refusal next g0 a (Get s h i h2) = call_refusal g0 a (a.active s) (Get s h i h2)
+event_refusal next g0 a (Same s h h2) = call_refusal g0 a (a.active s) (Same s h h2)
+event_refusal next g0 a (Len s h) = call_refusal g0 a (a.active s) (Len s h)
+event_refusal next g0 a (Seal s) = call_refusal g0 a (a.active s) (Seal s)
+event_refusal next g0 a (Abort s) = call_refusal g0 a (a.active s) (Abort s)
 
 -- the refusal that names who holds an object
 abbrev pub busy_with : Option ℕ → Option Refusal
@@ -135,7 +145,15 @@ granted next g0 a Force = Durable (length a.sealed)
 granted next g0 a Flip = Collecting
 granted next g0 a Scan = Idle
 granted next g0 a (Flush p) = Flushed p
-granted next g0 a event = call_reply g0 a (a.active (session_of event)) event
+granted next g0 a (Root s h) = call_reply g0 a (a.active s) (Root s h)
+granted next g0 a (New s h len) = call_reply g0 a (a.active s) (New s h len)
+granted next g0 a (Put s h i v) = call_reply g0 a (a.active s) (Put s h i v)
+granted next g0 a (Clear s h i) = call_reply g0 a (a.active s) (Clear s h i)
+granted next g0 a (Link s h i h2) = call_reply g0 a (a.active s) (Link s h i h2)
+granted next g0 a (Drop s h) = call_reply g0 a (a.active s) (Drop s h)
+granted next g0 a (Get s h i h2) = call_reply g0 a (a.active s) (Get s h i h2)
+granted next g0 a (Same s h h2) = call_reply g0 a (a.active s) (Same s h h2)
+granted next g0 a (Len s h) = call_reply g0 a (a.active s) (Len s h)
 
 abbrev pub reply_of : Option Refusal → Reply → Reply
 reply_of None reply = reply

@@ -11,6 +11,7 @@ use Rattle.graph_model.specs.declared.val.Val.{Val}
 use Rattle.graph_model.specs.Graph.{Graph, fields}
 use Rattle.volatile_area.specs.Area.{AreaState}
 use Rattle.graph_words.specs.Places.{Places, address_of, made_by, area_used, bits_of, IsVisible}
+use Rattle.heap_words.specs.declared.TheConstants.{MOST_FIELDS, VOLATILE_WORDS}
 
 -- the words of an object: its header, its birth and its fields
 abbrev pub object_words : (Id → Word) → Graph → Id → List ℕ
@@ -25,14 +26,14 @@ area_words place g t (suc n) = area_words place g t n ++ object_words place g (m
 pub record IsMade (places : Places) (g : Graph) (t made k : ℕ) : Type 0 where
   pub values : List Val
   pub is : get g (made_by t k) ≡ Some values
-  pub short : length values ≤ 510
+  pub short : length values ≤ MOST_FIELDS
   pub visible : AllByRecursion (IsVisible places t made) values
 
 -- The objects that transaction t has made: none of them stands in the current space, and they fit into its area.
 pub record HasMade (places : Places) (g : Graph) (t made : ℕ) : Type 0 where
   pub each : (k : ℕ) → 1 ≤ k → k ≤ made → IsMade places g t made k
   pub apart : (k : ℕ) → address_of places (made_by t k) ≡ None
-  pub few : area_used g t made ≤ 4096
+  pub few : area_used g t made ≤ VOLATILE_WORDS
 
 -- the area of transaction t, which has made so many objects of a graph
 abbrev pub area_of : (Id → Word) → Graph → ℕ → ℕ → AreaState

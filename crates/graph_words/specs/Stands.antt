@@ -12,6 +12,7 @@ use Rattle.object_layout.specs.Layout.{object_at, field_words, id_at}
 use Rattle.object_layout.specs.Walk.{used_words, AreEndToEnd, IsRootAt}
 use Rattle.log_machine.specs.declared.UndoEntry.{UndoEntry}
 use Rattle.graph_words.specs.Places.{Places, addresses, address_of, place_of, bits_of, IsVisible}
+use Rattle.heap_words.specs.declared.TheConstants.{STABLE_WORDS}
 
 -- An object of a graph stands at an address: as many fields are there, each the word of its value.
 pub record StandsAt (place : Id → Word) (g : Graph) (words : List ℕ) (id : Id) (at : ℕ) : Type 0 where
@@ -23,7 +24,7 @@ pub record StandsAt (place : Id → Word) (g : Graph) (words : List ℕ) (id : I
 -- A graph stands in the used words of a space, as transaction t sees it that has made so many objects: the objects of these places stand
 -- there end to end, the root first, no two of one name, and their references lead to objects at hand.
 pub record Stands (t made : ℕ) (places : Places) (g : Graph) (words : List ℕ) (base used : ℕ) : Type 0 where
-  pub below : base + used ≤ 2097152
+  pub below : base + used ≤ STABLE_WORDS
   pub ends : AreEndToEnd (used_words words base used) base (addresses places) (base + used)
   pub root_object : IsRootAt (used_words words base used) base
   pub root_place : address_of places root ≡ Some base

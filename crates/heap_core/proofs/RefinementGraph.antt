@@ -60,9 +60,3 @@ memory_seen c w valid runs is =
     let here : valid.behind.base ≡ (memory w).spaces.base = ap (λ (x : SpacesState). x.base) (sym (spaces_are (memory w) (memory w) c valid is)) in
     subst (λ (ws : List ℕ). IsSeenAs (names_of c) ws (memory w).spaces.base g) (sym (memory_committed c w valid runs is))
     (subst (λ (base : ℕ). IsSeenAs (names_of c) (all_taken_back valid.behind (all_words c)) base g) here seen)
-
--- taking back changes words where they are
-pub length-without_writes : (table : TableState) (ss now : List ℕ) → length (without_writes table now ss) ≡ length now
-length-without_writes table [] now = refl
-length-without_writes table (s ∷ ss) now =
-    length-without_writes table ss (taken_back (undo_if (transaction_of table s)) now) ∙ length-taken_back (undo_if (transaction_of table s)) now

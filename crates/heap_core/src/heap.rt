@@ -191,7 +191,7 @@ impl<D: Disk> Heap<D> {
         ensures no_first_stop { IsTrue D.tells → (s : Super) (batches : List (List Record)) (stored : Pages) → IsShaped s batches stored (D.bytes disk) → rollback_of s batches ≡ [] → D.stops disk ≡ 0 → D.stops (opened_disk result) ≡ 0 }
     {
         // The table takes its memory before the disk is written.
-        let mut table = match TxnTable::new(alloc, 1) {
+        let mut table = match TxnTable::new(alloc) {
             Ok(table) => table,
             Err(_) => return Err((OpenError::NoMemory, disk)),
         };

@@ -35,10 +35,6 @@ abbrev AscendFrom : ℕ → List ℕ → Type 0
 AscendFrom low [] = Unit {0}
 AscendFrom low (x ∷ xs) = (low ≤ x) × AscendFrom (x + 1) xs
 
-lower : (low less : ℕ) (xs : List ℕ) → less ≤ low → AscendFrom low xs → AscendFrom less xs
-lower low less [] order ascend = tt
-lower low less (x ∷ xs) order ascend = (omega (arith, ascend.0), ascend.1)
-
 put_ascends : (low a : ℕ) (xs : List ℕ) → low ≤ a → AscendFrom low xs → AscendFrom low (put_in a xs)
 unfolding put_in
 put_ascends low a [] order ascend = (order, tt)

@@ -36,19 +36,5 @@ module _ (old mid : Log) (same : IsSameLog old mid) where
   pub used_same : log_used mid ≡ log_used old
   used_same = λ i. used_bytes (same.place.tail i) (same.size i)
 
-  -- it has room for as many bytes
-  pub room_after : (n : ℕ) → log_used_with old n ≤ log_room old → log_used_with mid n ≤ log_room mid
-  room_after n fits = omega (arith, used_after n, same.place.room)
-
-  -- and the pages have the same LSNs once these were put on them
-  pub lsns_after : (at after : Pages) (records others : List Record) → after.lsns ≡ (redo_all (log_count mid + 1) at records).lsns → records ≡ others → after.lsns ≡ (redo_all (log_count old + 1) at others).lsns
-  lsns_after at after records others are is = are ∙ (λ i. (redo_all (same.count i + 1) at (is i)).lsns)
-
 covered : (tail buffer n room : ℕ) → 4 ≤ buffer → used_bytes tail (buffer + n) ≤ room → n ≤ room
 covered tail buffer n room head fits = grind (arith, nat_tests)
-
--- what fits into a log are few bytes
-pub few_fit : (log : Log) (n others : ℕ) → log_used_with log n + others ≤ log_room log → n < 2 ^ 32
-few_fit log n others fits =
-    let within : log_used_with log n ≤ log_room log = omega arith in
-    omega (arith, covered (log_tail log) (buffer_size log) n (log_room log) log.has_head within, log.small)

@@ -70,14 +70,6 @@ room_left log need reserved is = left (nat_lt (log_room log) (log_used log + nee
     left true test is = absurd (cc is)
     left false test is = ltb-false (log_room log) (log_used log + need + reserved) test
 
--- so has the current space
-pub space_left : (spaces : SpacesState) (n : ℕ) → space_refusal spaces n ≡ None → n ≤ open_words spaces
-space_left spaces n is = left (nat_lt (open_words spaces) n) refl is
-  where
-    left : (b : Bool) → nat_lt (open_words spaces) n ≡ b → (if b then Some (Exhausted n (free_words spaces) spaces.owed) else None) ≡ None → n ≤ open_words spaces
-    left true test is = absurd (cc is)
-    left false test is = ltb-false (open_words spaces) n test
-
 -- words that are free can be taken
 pub taken_is : {A E : Type 0} (r : Result A E) (old new : SpacesState) (n m : ℕ) → (IsErr r ↔ (open_words old < m)) → OnOk r (new ≡ with_taken old m) → m ≡ n → n ≤ open_words old
     → new ≡ with_taken old n

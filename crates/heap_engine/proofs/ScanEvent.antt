@@ -40,11 +40,6 @@ module _ (m : Memory) (page : ℕ) (next : IsNextPage m.collection (Some page)) 
   pub page_refused : (why : Option Refusal) → why ≡ records_room m records → why ≡ scan_refusal m (Some page)
   page_refused why is = is ∙ ap (records_room m) page_event
 
-  pub page_reply : Scanned page (length (copied_in records)) (words_copied records) ≡ scan_reply m (Some page)
-  page_reply =
-      ap (λ (rs : List Record). Scanned page (length (copied_in rs)) (words_copied rs)) are
-      ∙ sym (ap (λ (runs : Option Collection). scan_reply_of m runs (Some page)) (running m.collection page next).1)
-
   -- what it leaves
   pub page_scans : (new : Memory) → Leaves m new records m.table m.locks (spaces_behind m.spaces records) (collection_behind m.collection records) m.sealed → Scans m new (Some page)
   page_scans new left = record {

@@ -29,10 +29,6 @@ size_after old new n some tail used =
 pub spare_left : (old new : Log) (n more : ℕ) → log_tail new ≡ log_tail old → log_used new ≡ log_used_with old n → KeepsMemory old new → HasSpare old (n + more) → HasSpare new more
 spare_left old new n more tail used memory spare = omega (arith, size_with old new n tail used, memory, spare)
 
--- a log that has the same pending records, and as much memory
-pub spare_same : (old new : Log) (more : ℕ) → IsSameLog old new → KeepsMemory old new → HasSpare old more → HasSpare new more
-spare_same old new more same memory spare = omega (arith, same.size, memory, spare)
-
 -- a force lets go of what was pending, or of nothing
 pub spare_forced : {A E : Type 0} (r : Result A E) (old new : Log) (more : ℕ) → OnOk r (IsBufferEmpty new) → OnErr r (log_tail new ≡ log_tail old) → log_used new ≤ log_used old → KeepsMemory old new
     → HasSpare old more → HasSpare new more

@@ -84,11 +84,3 @@ all_back None now old new copies fresh is kept back = absurd (cc (is, kept))
 all_back (Some k) now old new copies fresh is kept back =
     let same : with_copies k copies ≡ old = same_Some _ _ (sym kept ∙ is) in
     ap Some (back_to k new copies fresh (subst (λ (c : Collection). TakesBack c new copies) (sym same) back))
-
--- and has copied as many words as they have
-pub kept_words : (before now : Option Collection) (old : Collection) (copies : List CopiedObject) → now ≡ Some old → now ≡ option_map (λ k. with_copies k copies) before → words_of copies ≤ old.copied
-kept_words None now old copies is kept = absurd (cc (is, kept))
-kept_words (Some k) now old copies is kept =
-    let same : with_copies k copies ≡ old = same_Some _ _ (sym kept ∙ is) in
-    let count = ap (λ (c : Collection). c.copied) same in
-    omega (arith, count)

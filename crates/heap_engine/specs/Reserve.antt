@@ -9,6 +9,7 @@ use Rattle.txn_table.specs.declared.place.Place.{Place}
 use Rattle.txn_table.specs.declared.place.Place.TheVariants.{Stable, Volatile}
 use Rattle.txn_table.specs.Table.{TransactionState, TableState, transaction_of}
 use Rattle.heap_memory.specs.Memory.{reserved}
+use Rattle.heap_words.specs.declared.TheConstants.{STABLE_WORDS, VOLATILE_WORDS}
 
 abbrev pub one_if : Option TransactionState → ℕ
 one_if None = 0
@@ -34,8 +35,8 @@ GoAlongBelow end pairs table = (s : ℕ) → WroteBelow end (translated_list pai
 -- a field's word can refer to the object at a place, if there is one
 abbrev pub can_refer : Option Place → Bool
 can_refer None = true
-can_refer (Some (Stable at)) = nat_lt at 2097152
-can_refer (Some (Volatile at)) = nat_lt at 4096
+can_refer (Some (Stable at)) = nat_lt at STABLE_WORDS
+can_refer (Some (Volatile at)) = nat_lt at VOLATILE_WORDS
 
 -- it can refer to what each handle holds
 abbrev pub HoldPlaces : List (Option Place) → Type 0

@@ -160,7 +160,7 @@ impl Engine {
         Ok(self.read_into(session, h, word))
     }
 
-    /// Makes room for the scan that a read makes first, if it makes one, or tells why there is none.
+    /// Makes room in the log for a scan, if there is one to make, or tells why there is none.
     pub(crate) fn make_room_for(&mut self, scan: &PagePlan) -> Result<Option<Refusal>, AllocError>
         requires few { length (spellings scan.now.records.items) < 2 ^ 32 + 2 ^ 24 }
         ensures why { IfOk result (λ why. why ≡ records_room (memory self.old) scan.now.records.items) }

@@ -11,7 +11,6 @@ ghost use Rattle.page_cache.specs.CacheState.{cached, cache_store};
 ghost use Rattle.page_redo.specs.Redo.{EachLacks, redo_all};
 
 use gated_log::Log;
-use log_machine::FIRST_LSN;
 use log_records::Record;
 use page_cache::PageCache;
 
@@ -31,7 +30,7 @@ pub(crate) fn carry_out(log: &mut Log, cache: &mut PageCache, records: &[Record]
     ensures size { length (cached cache.new).words ≡ length (cached cache.old).words }
     ensures logged { EachLacks (log_next_lsn log.new) (cached cache.new) }
 {
-    let first = log.records() + FIRST_LSN;
+    let first = log.next_lsn();
     log.append_all(records).unwrap();
     cache.apply_all(first, records);
 }
@@ -51,7 +50,7 @@ pub(crate) fn carry_out_write(log: &mut Log, cache: &mut PageCache, scan: &[Reco
     ensures size { length (cached cache.new).words ≡ length (cached cache.old).words }
     ensures logged { EachLacks (log_next_lsn log.new) (cached cache.new) }
 {
-    let first = log.records() + FIRST_LSN;
+    let first = log.next_lsn();
     log.append_all(scan).unwrap();
     log.append(write).unwrap();
     cache.apply_all(first, scan);

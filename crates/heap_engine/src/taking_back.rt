@@ -11,7 +11,7 @@ ghost use Rattle.page_cache.specs.CacheState.{cached, cache_store};
 ghost use Rattle.page_redo.specs.Redo.{EachLacks, redo_all};
 
 use gated_log::Log;
-use log_machine::{FIRST_LSN, UndoEntry};
+use log_machine::UndoEntry;
 use log_records::Record;
 use page_cache::PageCache;
 
@@ -31,7 +31,7 @@ pub(crate) fn carry_out_abort(log: &mut Log, cache: &mut PageCache, t: u32, undo
     ensures size { length (cached cache.new).words ≡ length (cached cache.old).words }
     ensures logged { EachLacks (log_next_lsn log.new) (cached cache.new) }
 {
-    let first = log.records() + FIRST_LSN;
+    let first = log.next_lsn();
     append_abort(log, t, undo);
     redo_abort(cache, first, t, undo);
 }

@@ -21,6 +21,8 @@ use Rattle.graph_words.specs.Promotion.{promoted_need, seal_records}
 use Rattle.heap_model.specs.Core.{full_log}
 use Rattle.heap_memory.specs.Memory.{Memory, own, reserved, fields_at, held_place}
 use Rattle.heap_memory.specs.Collecting.{barrier_records, place_barrier, flip_records, scan_event_records}
+use Rattle.heap_words.specs.declared.TheConstants.{VOLATILE_WORDS}
+use Rattle.log_records.specs.declared.TheConstants.{UPDATE_BYTES, PUT_BYTES}
 
 -- why the log has no room, by what an event needs and what is kept after it
 abbrev pub no_room : Log → ℕ → ℕ → Option Refusal
@@ -66,7 +68,7 @@ records_room m (r ∷ rs) = no_room m.log (log_need m.log (length (spellings (r 
 
 -- why the log has no room for a write into field i of the object at a place, with the scan before it: one into a transaction's area needs none
 abbrev pub write_room : Memory → Place → ℕ → Option Refusal
-write_room m (Stable at) i = no_room m.log (log_need m.log (length (spellings (barrier_records m at i)) + 27)) (reserved m.table + 19)
+write_room m (Stable at) i = no_room m.log (log_need m.log (length (spellings (barrier_records m at i)) + UPDATE_BYTES)) (reserved m.table + PUT_BYTES)
 write_room m (Volatile at) i = None
 
 abbrev pub write_refusal_of : Memory → Option TransactionState → Place → ℕ → Option Refusal
@@ -104,7 +106,7 @@ len_refusal m s h = and_then (held_place (own m s) h) (λ p. None)
 -- why a transaction's area has no room for an object of so many fields
 abbrev pub area_refusal : Option TransactionState → ℕ → Option Refusal
 area_refusal None len = Some NotActive
-area_refusal (Some t) len = if nat_lt 4096 (length t.area.words + 2 + len) then Some (VolatileFull (length t.area.words)) else None
+area_refusal (Some t) len = if nat_lt VOLATILE_WORDS (length t.area.words + 2 + len) then Some (VolatileFull (length t.area.words)) else None
 
 abbrev pub new_refusal : Option TransactionState → ℕ → ℕ → Option Refusal
 new_refusal t h len = first_of_two (handle_refusal t h) (first_of_two (if nat_lt most_fields len then Some Range else None) (area_refusal t len))

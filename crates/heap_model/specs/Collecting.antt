@@ -29,6 +29,7 @@ use Rattle.graph_words.specs.Places.{Places, made_by}
 use Rattle.flip_copy.specs.Copied.{copies_in, flip_record, size_of}
 use Rattle.page_scanner.specs.Scan.{scan_records}
 use Rattle.read_barrier.specs.Barrier.{barrier_page_of}
+use Rattle.heap_words.specs.declared.TheConstants.{PAGE_WORDS}
 
 -- Roots.
 
@@ -83,7 +84,7 @@ roots_of places undo g0 a = map (λ p. p.1) (filter (is_root undo g0 a) places)
 -- whether a gray object starts in a page, where a collection runs
 abbrev pub is_gray_in : Option Collection → ℕ → Bool
 is_gray_in None page = false
-is_gray_in (Some k) page = list_any (contains k.gray) (range_with_len (64 * page) 64)
+is_gray_in (Some k) page = list_any (contains k.gray) (range_with_len (PAGE_WORDS * page) PAGE_WORDS)
 
 abbrev pub page_records_of : SpacesState → List ℕ → ℕ → Option Collection → Option (List Record)
 page_records_of spaces words page None = None

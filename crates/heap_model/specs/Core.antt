@@ -4,7 +4,7 @@ use Rattle.graph_model.specs.declared.id.Id.{Id}
 use Rattle.graph_model.specs.declared.val.Val.{Val}
 use Rattle.graph_model.specs.declared.val.Val.TheVariants.{Null, Int}
 use Rattle.graph_model.specs.declared.event.Event.{Event}
-use Rattle.graph_model.specs.declared.event.Event.TheVariants.{Begin, New, Put, Clear, Link, Get, Seal, Abort, Force, Flip, Scan, Flush}
+use Rattle.graph_model.specs.declared.event.Event.TheVariants.{Begin, Root, New, Put, Clear, Link, Drop, Get, Same, Len, Seal, Abort, Force, Flip, Scan, Flush}
 use Rattle.graph_model.specs.declared.reply.Refusal.{Refusal}
 use Rattle.graph_model.specs.declared.reply.Refusal.TheVariants.{NoSuchPage, VolatileFull, Exhausted, LogFull, DiskFault, Stopped}
 use Rattle.graph_model.specs.declared.reply.Reply.{Reply}
@@ -18,7 +18,7 @@ use Rattle.log_records.specs.declared.Record.{Record}
 use Rattle.log_records.specs.declared.Record.TheVariants.{Update}
 use Rattle.log_records.specs.Record.{spellings}
 use Rattle.log_machine.specs.declared.UndoEntry.{UndoEntry}
-use Rattle.log_machine.specs.Machine.{State, owed, put_record, undo_of, undo_bytes, abort_records}
+use Rattle.log_machine.specs.Machine.{State, space_words, owed, put_record, undo_of, undo_bytes, abort_records}
 use Rattle.log_machine.specs.Origin.{Origin, heap_origin, next_lsn, state_from, commits_in}
 use Rattle.page_redo.specs.Pages.{pages_in}
 use Rattle.page_redo.specs.Redo.{last_lsn}
@@ -31,6 +31,8 @@ use Rattle.graph_words.specs.Area.{area_of}
 use Rattle.graph_words.specs.Promotion.{Move, moves_of, promoted_need, seal_records, promoted_places}
 use Rattle.collection_words.specs.Placing.{Placing, placing_of, moved_by_all}
 use Rattle.heap_model.specs.Collecting.{roots_of, barrier_at, flip_records, scan_event_records, flip_reply, scan_reply}
+use Rattle.heap_words.specs.declared.TheConstants.{VOLATILE_WORDS}
+use Rattle.log_records.specs.declared.TheConstants.{BATCH_BYTES}
 
 -- The state of a heap since it was opened.
 pub record Core : Type 0 where
@@ -145,7 +147,17 @@ call_records ground g0 a (Some t) (Link s h i h2) =
     view_records ground.places t.number (view g0 a t) h i (reference_to (held (view g0 a t).registers h2))
 call_records ground g0 a (Some t) (Seal s) = seal_of ground t.number (view g0 a t)
 call_records ground g0 a (Some t) (Abort s) = abort_records t.number (undo_with ground.state t.number)
-call_records ground g0 a (Some t) event = []
+call_records ground g0 a (Some t) (Root s h) = []
+call_records ground g0 a (Some t) (New s h len) = []
+call_records ground g0 a (Some t) (Drop s h) = []
+call_records ground g0 a (Some t) (Get s h i h2) = []
+call_records ground g0 a (Some t) (Same s h h2) = []
+call_records ground g0 a (Some t) (Len s h) = []
+call_records ground g0 a (Some t) (Begin s) = []
+call_records ground g0 a (Some t) Force = []
+call_records ground g0 a (Some t) Flip = []
+call_records ground g0 a (Some t) Scan = []
+call_records ground g0 a (Some t) (Flush p) = []
 
 -- the roots of a flip: the current objects that active transactions name
 abbrev pub roots : Ground → Graph → Account → List ℕ
@@ -158,7 +170,17 @@ records_for ground g0 a Force = []
 records_for ground g0 a Flip = flip_records ground.state ground.words (roots ground g0 a)
 records_for ground g0 a Scan = scan_event_records ground.state ground.words
 records_for ground g0 a (Flush p) = []
-records_for ground g0 a event = call_records ground g0 a (a.active (session_of event)) event
+records_for ground g0 a (Root s h) = call_records ground g0 a (a.active s) (Root s h)
+records_for ground g0 a (New s h len) = call_records ground g0 a (a.active s) (New s h len)
+records_for ground g0 a (Put s h i v) = call_records ground g0 a (a.active s) (Put s h i v)
+records_for ground g0 a (Clear s h i) = call_records ground g0 a (a.active s) (Clear s h i)
+records_for ground g0 a (Link s h i h2) = call_records ground g0 a (a.active s) (Link s h i h2)
+records_for ground g0 a (Drop s h) = call_records ground g0 a (a.active s) (Drop s h)
+records_for ground g0 a (Get s h i h2) = call_records ground g0 a (a.active s) (Get s h i h2)
+records_for ground g0 a (Same s h h2) = call_records ground g0 a (a.active s) (Same s h h2)
+records_for ground g0 a (Len s h) = call_records ground g0 a (a.active s) (Len s h)
+records_for ground g0 a (Seal s) = call_records ground g0 a (a.active s) (Seal s)
+records_for ground g0 a (Abort s) = call_records ground g0 a (a.active s) (Abort s)
 
 -- The barrier: before a field is read or written, the page in which its object starts is scanned if a gray object starts there.
 
@@ -222,7 +244,7 @@ used c = length (batches_bytes c.batches) + 1 + length (pending_batch c.pending)
 -- the bytes that records take behind those that wait, with those of a batch where none waits
 abbrev pub need : List Record → List Record → ℕ
 need pending [] = 0
-need [] (r ∷ rs) = length (spellings (r ∷ rs)) + 5
+need [] (r ∷ rs) = length (spellings (r ∷ rs)) + BATCH_BYTES
 need (p ∷ ps) (r ∷ rs) = length (spellings (r ∷ rs))
 
 -- the bytes that are kept for the end of a transaction that has these writes to be taken back
@@ -251,7 +273,7 @@ log_refusal c event = full_log c.room (used c) (need c.pending (event_records c 
 abbrev pub area_refusal : View → ℕ → ℕ → Option Refusal
 area_refusal view t len =
     let used = area_used view.graph t view.made in
-    if nat_lt 4096 (used + 2 + len) then Some (VolatileFull used) else None
+    if nat_lt VOLATILE_WORDS (used + 2 + len) then Some (VolatileFull used) else None
 
 -- the words that a promotion needs
 abbrev pub seal_need : Ground → ℕ → View → ℕ
@@ -261,7 +283,7 @@ seal_need ground t view = promoted_need (area_in ground.places view t) ground.wo
 abbrev pub space_refusal : Option State → ℕ → Option Refusal
 space_refusal None need = None
 space_refusal (Some s) need =
-    let free = 64 * s.pages - s.used in
+    let free = space_words s.pages - s.used in
     if nat_lt (free - owed s) need then Some (Exhausted need free (owed s)) else None
 
 -- why there is no room for what a transaction asks: for a new object, or for those that its seal promotes

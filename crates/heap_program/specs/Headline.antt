@@ -44,6 +44,7 @@ use Rattle.heap_core.specs.Steps.{AreSteps}
 use Rattle.heap_program.specs.Limits.{KeepsLimits}
 use Rattle.heap_program.specs.Steps.{Step}
 use Rattle.heap_program.specs.Stored.{IsStored, stored_core, stored_calls}
+use Rattle.heap_program.specs.declared.playing.TheConstants.{LOG_BYTES}
 
 -- A claim of a modelled disk on which nothing is unsynced.
 abbrev pub OfTold : Bool → List ℕ → (List ℕ → Type 0) → Type 0 → Type 0
@@ -56,11 +57,11 @@ lasting c = max (acknowledged c.history) (commits_on_disk c - c.before)
 
 -- the superblock of the heap that a run makes, with so many pages
 abbrev pub made_super : ℕ → Super
-made_super pages = record { pages = pages; log_bytes = 1048576; first = 1 }
+made_super pages = record { pages = pages; log_bytes = LOG_BYTES; first = 1 }
 
 -- that heap, when it has been opened on the image that was made, with the gates of its frames
 abbrev pub made_core : ℕ → List ℕ → Core
-made_core pages image = opened (made_super pages) [] (first_pages pages) (open_gates 1048576 image) true root_place new_graph
+made_core pages image = opened (made_super pages) [] (first_pages pages) (open_gates LOG_BYTES image) true root_place new_graph
 
 -- what is printed of a graph
 abbrev pub graph_text : Graph → List ℕ
@@ -399,7 +400,7 @@ module _ {D : Type 0} (g : Ghosts D) where
 
 -- What a play can be made on: a disk that is large enough for a new heap, or one that holds a heap.
 abbrev pub CanPlay : Option ℕ → ℕ → List ℕ → Type 0
-CanPlay (Some pages) extent image = image_size pages 1048576 ≤ extent
+CanPlay (Some pages) extent image = image_size pages LOG_BYTES ≤ extent
 CanPlay None extent image = IsStored image
 
 -- The statuses with which a run leaves the disk and the sink as they were.

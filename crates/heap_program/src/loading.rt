@@ -36,8 +36,8 @@ pub fn run_load<D: Disk, K: Sink>(
     requires paged { IfSome fresh IsPages }
 
     ensures ends { IsEndOf (asked.Load seed count fresh) result.0 }
-    ensures too_small { (size need : ℕ) → result.0 ≡ Status.TooSmall size need → (pages : ℕ) × (fresh ≡ Some pages) × (size ≡ D.extent disk) × (need ≡ image_size pages 1048576) × (size < need) }
-    ensures small_told { (pages : ℕ) → fresh ≡ Some pages → D.extent disk < image_size pages 1048576 → EndsUnmade (Status.TooSmall (D.extent disk) (image_size pages 1048576)) result.0 }
+    ensures too_small { (size need : ℕ) → result.0 ≡ Status.TooSmall size need → (pages : ℕ) × (fresh ≡ Some pages) × (size ≡ D.extent disk) × (need ≡ image_size pages LOG_BYTES) × (size < need) }
+    ensures small_told { (pages : ℕ) → fresh ≡ Some pages → D.extent disk < image_size pages LOG_BYTES → EndsUnmade (Status.TooSmall (D.extent disk) (image_size pages LOG_BYTES)) result.0 }
     ensures write_fault { StreamCause (K.faults sink.old) (K.faults sink.new) (result.0 ≡ Status.WriteFault) }
     ensures disk_fault { RunsDisk D.Disk disk result.1 (result.0 ≡ Status.DiskFault) }
     ensures untouched { IsUntouching result.0 → (result.1 ≡ disk) × (sink.new ≡ sink.old) }

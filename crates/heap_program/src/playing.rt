@@ -49,8 +49,8 @@ pub fn run_play<D: Disk, S: Source, K: Sink>(
     ensures usage { result.0 ≢ Status.Usage }
     ensures script_fault { IsTrue S.tells → (line : ℕ) → result.0 ≡ Status.Script line → script (S.left source.old) ≡ Err (Fault line) }
     ensures script_told { IsTrue S.tells → (line : ℕ) → script (S.left source.old) ≡ Err (Fault line) → EndsUnread (Status.Script line) result.0 }
-    ensures too_small { (size need : ℕ) → result.0 ≡ Status.TooSmall size need → (pages : ℕ) × (fresh ≡ Some pages) × (size ≡ D.extent disk) × (need ≡ image_size pages 1048576) × (size < need) }
-    ensures small_told { (pages : ℕ) → fresh ≡ Some pages → D.extent disk < image_size pages 1048576 → EndsUnmade (Status.TooSmall (D.extent disk) (image_size pages 1048576)) result.0 }
+    ensures too_small { (size need : ℕ) → result.0 ≡ Status.TooSmall size need → (pages : ℕ) × (fresh ≡ Some pages) × (size ≡ D.extent disk) × (need ≡ image_size pages LOG_BYTES) × (size < need) }
+    ensures small_told { (pages : ℕ) → fresh ≡ Some pages → D.extent disk < image_size pages LOG_BYTES → EndsUnmade (Status.TooSmall (D.extent disk) (image_size pages LOG_BYTES)) result.0 }
     ensures read_fault { StreamCause (S.faults source.old) (S.faults source.new) (result.0 ≡ Status.ReadFault) }
     ensures write_fault { StreamCause (K.faults sink.old) (K.faults sink.new) (result.0 ≡ Status.WriteFault) }
     ensures disk_fault { RunsDisk D.Disk disk result.1 (result.0 ≡ Status.DiskFault) }

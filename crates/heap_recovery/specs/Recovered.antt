@@ -16,8 +16,8 @@ use Rattle.log_machine.specs.Machine.{words_in}
 use Rattle.log_machine.specs.Origin.{next_lsn}
 use Rattle.page_redo.specs.Pages.{Pages, pages_in, lsn_of}
 use Rattle.page_redo.specs.Redo.{EachLacks, redone}
-use Rattle.page_store.specs.declared.store.OpenError.{OpenError}
-use Rattle.page_store.specs.declared.store.OpenError.TheVariants as storing
+use Rattle.page_store.specs.declared.store.ReadPagesError.{ReadPagesError}
+use Rattle.page_store.specs.declared.store.ReadPagesError.TheVariants as storing
 use Rattle.page_store.specs.StoreState.{store_plan}
 use Rattle.page_cache.specs.declared.cache.PageCache.{PageCache}
 use Rattle.page_cache.specs.CacheState.{cached, cache_store, cache_failed, flushed_lsn}
@@ -90,6 +90,6 @@ log_error (logging.BadBatch at) = Damaged (Batch at)
 log_error (logging.Disk e) = Disk e
 
 -- what an error of the pages' opening is of an opening
-abbrev pub pages_error : OpenError → RecoverError
+abbrev pub pages_error : ReadPagesError → RecoverError
 pages_error storing.NoMemory = NoMemory
 pages_error (storing.Disk e) = Disk e

@@ -2,7 +2,7 @@
 use crate::at::At;
 use disk_model::DiskError;
 use gated_log::LogError;
-use page_store::OpenError;
+use page_store::ReadPagesError;
 use std::alloc::AllocError;
 
 /// Why an image can't be opened.
@@ -55,16 +55,16 @@ impl From<LogError> for RecoverError {
     }
 }
 
-impl From<OpenError> for RecoverError {
+impl From<ReadPagesError> for RecoverError {
     ghost use Rattle.std.specs.Prelude.{◌≡◌};
     ghost use Rattle.heap_recovery.specs.Recovered.{pages_error};
 
     ghost from_gives = { λ e error. error ≡ pages_error e };
 
-    fn from(e: OpenError) -> Self {
+    fn from(e: ReadPagesError) -> Self {
         match e {
-            OpenError::NoMemory => RecoverError::NoMemory,
-            OpenError::Disk(e) => RecoverError::Disk(e),
+            ReadPagesError::NoMemory => RecoverError::NoMemory,
+            ReadPagesError::Disk(e) => RecoverError::Disk(e),
         }
     }
 }

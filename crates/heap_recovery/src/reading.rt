@@ -12,7 +12,7 @@ use page_cache::PageCache;
 pub struct Reading {
     /// The numbers that the heap was made with.
     pub of: Super,
-    /// The log, in which no record waits.
+    /// The log. Records are pending in it from when losers are rolled back until it is forced.
     pub log: Log,
     /// The pages in memory, on each of which the log's records were redone that it lacked.
     pub cache: PageCache,

@@ -32,7 +32,7 @@ use crate::read_image::read_image;
 use crate::reading::Reading;
 use disk_model::Disk;
 use gated_log::Log;
-use log_machine::{FIRST_LSN, LogState};
+use log_machine::LogState;
 use object_layout::{FromSpace, WalkError, WordSlice, walk_beside};
 use page_cache::PageCache;
 use std::alloc::Global;
@@ -119,7 +119,7 @@ impl Reading {
         ensures error { IfErr result (λ e. e ≡ NoMemory) }
     {
         let records = self.state.rollback()?;
-        let first = self.log.records() + FIRST_LSN;
+        let first = self.log.next_lsn();
         self.log.append_all(&records)?;
         self.cache.apply_all(first, &records);
         Ok(())

@@ -2,6 +2,7 @@
 use Rattle.std.specs.Prelude.{ℕ, ◌-◌, ◌/◌, Option, None, Some, List, [], ◌∷◌}
 use Rattle.std.specs.Ordering.{nat_cmp}
 use Rattle.std.specs.FinSet.{FinSet}
+use Rattle.heap_words.specs.declared.TheConstants.{PAGE_WORDS}
 
 -- What the records say of a collection.
 pub record Collection : Type 0 where
@@ -21,4 +22,4 @@ gray_from to header = to ∷ []
 
 -- the page in which a word address lies
 abbrev pub page_of : ℕ → ℕ
-page_of at = at / 64
+page_of at = at / PAGE_WORDS

@@ -1,5 +1,6 @@
 -- The words of the current space.
 use Rattle.std.specs.Prelude.{◌≡◌, ℕ, ◌+◌, ◌-◌, ◌*◌, ◌≤◌, ◌⊎◌}
+use Rattle.heap_words.specs.declared.TheConstants.{PAGE_WORDS}
 
 -- The two spaces, as contracts see them.
 pub record SpacesState : Type 0 where
@@ -10,7 +11,7 @@ pub record SpacesState : Type 0 where
 
 -- how many words a space has
 abbrev pub space_words : ℕ → ℕ
-space_words pages = 64 * pages
+space_words pages = PAGE_WORDS * pages
 
 -- how many words of the current space are not taken
 abbrev pub free_words : SpacesState → ℕ

@@ -1,5 +1,6 @@
 -- What stands in front of an object's fields: a header, and the word of the object's birth.
-use Rattle.std.specs.Prelude.{ℕ, ◌+◌, ◌*◌, ◌/◌, ◌%◌, ◌^◌, ◌==◌, nat_lt, Option, None, Some, if◌then◌else◌}
+use Rattle.std.specs.Prelude.{ℕ, ◌+◌, ◌*◌, ◌/◌, ◌%◌, ◌^◌, ◌==◌, nat_le, nat_lt, Option, None, Some, if◌then◌else◌}
+use Rattle.heap_words.specs.declared.TheConstants.{STABLE_WORDS, MOST_FIELDS}
 use Rattle.heap_words.specs.declared.Header.{Header}
 use Rattle.heap_words.specs.declared.Header.TheVariants.{Length, Forward}
 
@@ -11,8 +12,8 @@ header_bits (Forward address) = 4 * address + 2
 -- the header that a word is, if it is one
 unfoldable pub header : ℕ → Option Header
 header w =
-    if w % 4 == 1 then (if nat_lt (w / 4) 511 then Some (Length (w / 4)) else None)
-    else (if w % 4 == 2 then (if nat_lt (w / 4) 2097152 then Some (Forward (w / 4)) else None) else None)
+    if w % 4 == 1 then (if nat_le (w / 4) MOST_FIELDS then Some (Length (w / 4)) else None)
+    else (if w % 4 == 2 then (if nat_lt (w / 4) STABLE_WORDS then Some (Forward (w / 4)) else None) else None)
 
 -- the birth word of the kth object that transaction t made
 abbrev pub birth_bits : ℕ → ℕ → ℕ

@@ -1,5 +1,6 @@
 -- What a field's word means.
 use Rattle.std.specs.Prelude.{◌≡◌, ℕ, ◌+◌, ◌*◌, ◌/◌, ◌%◌, ◌^◌, ◌<◌, ◌==◌, nat_lt, Bool, true, false, Option, None, Some, if◌then◌else◌}
+use Rattle.heap_words.specs.declared.TheConstants.{STABLE_WORDS, VOLATILE_WORDS, NO_INT}
 use Rattle.heap_words.specs.declared.Word.{Word}
 use Rattle.heap_words.specs.declared.Word.TheVariants.{Null, Int, Stable, Volatile}
 
@@ -13,9 +14,9 @@ bits (Volatile index) = 4 * index + 3
 -- the bounds of a meaning
 abbrev pub IsWord : Word → Type 0
 IsWord Null = Unit {0}
-IsWord (Int n) = n < 2 ^ 62
-IsWord (Stable address) = address < 2097152
-IsWord (Volatile index) = index < 4096
+IsWord (Int n) = n < NO_INT
+IsWord (Stable address) = address < STABLE_WORDS
+IsWord (Volatile index) = index < VOLATILE_WORDS
 
 -- a word that a field may have
 abbrev pub IsFieldWord : ℕ → Type 0
@@ -25,9 +26,9 @@ IsFieldWord w = (word : Word) × IsWord word × (w ≡ bits word)
 unfoldable pub meaning : ℕ → Option Word
 meaning w =
     if w == 0 then Some Null
-    else (if w % 4 == 1 then (if nat_lt (w / 4) (2 ^ 62) then Some (Int (w / 4)) else None)
-    else (if w % 4 == 2 then (if nat_lt (w / 4) 2097152 then Some (Stable (w / 4)) else None)
-    else (if w % 4 == 3 then (if nat_lt (w / 4) 4096 then Some (Volatile (w / 4)) else None) else None)))
+    else (if w % 4 == 1 then (if nat_lt (w / 4) NO_INT then Some (Int (w / 4)) else None)
+    else (if w % 4 == 2 then (if nat_lt (w / 4) STABLE_WORDS then Some (Stable (w / 4)) else None)
+    else (if w % 4 == 3 then (if nat_lt (w / 4) VOLATILE_WORDS then Some (Volatile (w / 4)) else None) else None)))
 
 -- whether a meaning is a reference to a stable object
 abbrev pub refers_to_stable : Option Word → Bool

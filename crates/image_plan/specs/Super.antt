@@ -2,13 +2,14 @@
 use Rattle.std.specs.Prelude.{ℕ, ◌^◌, ◌<◌, ◌≤◌, List, ◌∷◌, ◌++◌, replicate, codes}
 use Rattle.std.specs.Int.{w32, to_le_bytes}
 use Rattle.image_plan.specs.declared.superblock.Super.{Super}
+use Rattle.image_plan.specs.declared.plan.TheConstants.{LEAST_LOG, MOST_LOG, MOST_PAGES}
 
 -- the limits of a heap's numbers
 pub record IsSuper (s : Super) : Type 0 where
   pub some_pages : 1 ≤ s.pages
-  pub few_pages : s.pages ≤ 16384
-  pub some_log : 64 ≤ s.log_bytes
-  pub small_log : s.log_bytes ≤ 1073741824
+  pub few_pages : s.pages ≤ MOST_PAGES
+  pub some_log : LEAST_LOG ≤ s.log_bytes
+  pub small_log : s.log_bytes ≤ MOST_LOG
   pub some_first : 1 ≤ s.first
   pub small_first : s.first < 2 ^ 32
 

@@ -15,10 +15,13 @@ pub const MOST_LOG: u32 = 1_073_741_824;
 pub const MOST_PAGES: u32 = 16_384;
 
 /// The bytes of a frame: a gate, seven that are not used, an LSN and a page of 64 words.
-const FRAME_BYTES: u64 = 528;
+pub const FRAME_BYTES: u64 = 528;
 
-/// The frames of each page, and there are two spaces of pages.
-const FRAMES_PER_PAGE: u64 = 4;
+/// The frames of a page, which is stored into one or the other.
+pub const FRAMES: u64 = 2;
+
+/// The spaces of a heap, each with as many pages.
+const SPACES: u64 = 2;
 
 /// The parts of an image: the superblock, the log, and two frames for each page of both spaces.
 #[derive(Clone, Copy, Debug, PartialEq, Eq)]
@@ -43,7 +46,7 @@ impl Plan {
     {
         SUPER_BYTES as u64
             + u64::from(self.log_bytes)
-            + FRAMES_PER_PAGE * FRAME_BYTES * u64::from(self.pages)
+            + SPACES * FRAMES * FRAME_BYTES * u64::from(self.pages)
     }
 
     /// The byte of the image where the log begins.

@@ -63,7 +63,7 @@ fn open_pages(
     rt: &impl Abort,
     alloc: Global,
     disk: &mut MemoryDisk,
-) -> Result<PageCache, page_store::OpenError> {
+) -> Result<PageCache, page_store::ReadPagesError> {
     assert!(rt; disk.size() >= PLAN.size());
     PageCache::open(alloc, disk, PLAN)
 }

@@ -6,7 +6,7 @@ use Rattle.graph_model.specs.declared.event.Event.{Event}
 use Rattle.graph_model.specs.History.{IsOfSession}
 use Rattle.heap_spaces.specs.Collection.{Collection}
 use Rattle.log_records.specs.declared.Record.{Record}
-use Rattle.log_records.specs.declared.Record.TheVariants.{Copy, Scan, Flip, Collected}
+use Rattle.log_records.specs.declared.Record.TheVariants.{Update, Base, Fix, Undo, Commit, End, Copy, Scan, Flip, Collected}
 use Rattle.log_records.specs.Record.{spelling}
 use Rattle.log_machine.specs.Machine.{State}
 use Rattle.flip_copy.specs.Copied.{size_of}
@@ -19,7 +19,12 @@ bytes_of (Copy from to words) = length (spelling (Copy from to words))
 bytes_of (Scan page writes) = length (spelling (Scan page writes))
 bytes_of (Flip copies) = length (spelling (Flip copies))
 bytes_of Collected = length (spelling Collected)
-bytes_of rec = 0
+bytes_of (Update t object field was word) = 0
+bytes_of (Base t address words) = 0
+bytes_of (Fix t object field word) = 0
+bytes_of (Undo t object field word) = 0
+bytes_of (Commit t) = 0
+bytes_of (End t) = 0
 
 -- how many words a record copies
 abbrev pub moved_by_record : Record → ℕ

@@ -3,6 +3,7 @@ use Rattle.std.specs.Prelude.{◌≡◌, ◌≢◌, ◌⊎◌, ℕ, ◌<◌, ◌
 use Rattle.std.specs.List.{AllByRecursion}
 use Rattle.line_reader.specs.declared.reader.Taken.{Taken}
 use Rattle.line_reader.specs.declared.reader.Taken.TheVariants.{Line, TooLong, Part, End}
+use Rattle.line_reader.specs.declared.reader.TheConstants.{MOST_LINE}
 
 -- What a reader holds: bytes that it has had from its source, and whether those before them were the front of a line too long.
 pub record Holding : Type 0 where
@@ -28,19 +29,19 @@ pub record IsCutAt (text stream rest : List ℕ) : Type 0 where
 pub record IsFirstLine (text stream rest : List ℕ) : Type 0 where
   pub cut : IsCutAt text stream rest
   pub some : 0 < length stream
-  pub short : length text ≤ 1048576
+  pub short : length text ≤ MOST_LINE
 
 -- A line ends there that is too long, or the rest of one whose front was passed.
 pub record EndsTooLong (passing : Bool) (stream rest : List ℕ) : Type 0 where
   pub text : List ℕ
   pub cut : IsCutAt text stream rest
-  pub long : IsTrue passing ⊎ (1048576 < length text)
+  pub long : IsTrue passing ⊎ (MOST_LINE < length text)
 
 -- More bytes than a line may have were passed, none of them a newline.
 pub record PassesPart (stream rest : List ℕ) : Type 0 where
   pub text : List ℕ
   pub within : IsWithinLine text
-  pub long : 1048576 < length text
+  pub long : MOST_LINE < length text
   pub parts : stream ≡ text ++ rest
 
 -- What was taken from a stream, which leaves the rest.
@@ -52,13 +53,13 @@ Takes End passing stream passing' rest = IsFalse passing × IsFalse passing' × 
 
 -- A line has no newline and is no longer than it may be.
 abbrev pub IsTaken : Taken → Type 0
-IsTaken (Line text) = IsWithinLine text.items × (length text.items ≤ 1048576)
+IsTaken (Line text) = IsWithinLine text.items × (length text.items ≤ MOST_LINE)
 IsTaken taken = Unit {0}
 
 -- The line of these bytes, or the rest of one whose front was passed.
 abbrev pub IsLineOf : Taken → Bool → List ℕ → Type 0
-IsLineOf (Line text) passing bytes = IsFalse passing × (text.items ≡ bytes) × (length bytes ≤ 1048576)
-IsLineOf TooLong passing bytes = IsTrue passing ⊎ (1048576 < length bytes)
+IsLineOf (Line text) passing bytes = IsFalse passing × (text.items ≡ bytes) × (length bytes ≤ MOST_LINE)
+IsLineOf TooLong passing bytes = IsTrue passing ⊎ (MOST_LINE < length bytes)
 IsLineOf taken passing bytes = ⊥
 
 -- The line of these bytes at the end of a stream, where it has one.

@@ -87,9 +87,6 @@ sound_copy s k copy sound = λ q w some.
 pub spaced_copied : (s n : State) (copy : ObjectCopy) → IsSpaced s → copy_after s copy ≡ Some n → IsSpaced n
 spaced_copied s n copy is e = let told = copy_told s n copy e in subst IsSpaced told.is (spaced_copy s told.k copy is told.runs told.can)
 
-pub sound_copied : (s n : State) (copy : ObjectCopy) → AreLosers s → copy_after s copy ≡ Some n → AreLosers n
-sound_copied s n copy sound e = let told = copy_told s n copy e in subst AreLosers told.is (sound_copy s told.k copy sound)
-
 pub consistent_copy : (s : State) (k : Collection) (copy : ObjectCopy) → IsConsistent s → s.collection ≡ Some k → CanCopy s k copy → IsConsistent (with_copy s k copy)
 consistent_copy s k copy is own can = record { sound = sound_copy s k copy is.sound; addresses = is.addresses; spaced = spaced_copy s k copy is.spaced own can }
 

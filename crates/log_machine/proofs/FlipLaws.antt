@@ -235,10 +235,6 @@ and_false : (a b : Bool) → b ≡ false → (a && b) ≡ false
 and_false true b e = e
 and_false false b e = refl
 
-pub flip_not_along : (s : State) (copies : List ObjectCopy) → can_translate_all copies s.undo ≡ false → flipped_in s copies None ≡ None
-flip_not_along s copies can =
-    ap (λ b. cond b (option_map (λ next. with_undo next (translated_undo (pairs_of copies) s.undo)) (copies_after (with_roles_changed s) copies)) None) (and_false (begins_at s.base copies) _ can)
-
 -- where a copy can't follow
 none_chosen : (b : Bool) (o : Option State) → o ≡ None → cond b o None ≡ None
 none_chosen true o none = none
@@ -252,14 +248,6 @@ pub flip_not_copied : (s : State) (copies : List ObjectCopy) → copies_after (s
 flip_not_copied s copies none =
     none_chosen (begins_at s.base copies && can_translate_all copies s.undo) _
     (ap (λ o. option_map (λ next. with_undo next (translated_undo (pairs_of copies) s.undo)) o) (none_copied s copies _ refl none))
-
--- where a collection runs
-while_of : (s : State) (copies : List ObjectCopy) (c : Option Collection) → is_some c ≡ true → flipped_in s copies c ≡ None
-while_of s copies None runs = absurd (cc runs)
-while_of s copies (Some k) runs = refl
-
-pub flip_not_while : (s : State) (copies : List ObjectCopy) → is_some s.collection ≡ true → flipped_in s copies s.collection ≡ None
-flip_not_while s copies runs = while_of s copies s.collection runs
 
 -- The state in memory.
 

@@ -18,6 +18,7 @@ use Rattle.heap_spaces.specs.Copying.{begun, with_scanned}
 use Rattle.log_machine.specs.declared.UndoEntry.{UndoEntry}
 use Rattle.log_machine.specs.State.{State, space_words}
 use Rattle.log_machine.specs.Translation.{translated_list}
+use Rattle.heap_words.specs.declared.TheConstants.{PAGE_WORDS}
 
 -- Copies.
 
@@ -135,7 +136,7 @@ leads_to_used s (Some (word.Volatile index)) = false
 
 -- a page is one of the current space's
 abbrev pub is_current_page : State → ℕ → Bool
-is_current_page s page = nat_le s.base (64 * page) && nat_lt (64 * page) (s.base + space_words s.pages)
+is_current_page s page = nat_le s.base (PAGE_WORDS * page) && nat_lt (PAGE_WORDS * page) (s.base + space_words s.pages)
 
 -- a write of a scan puts a reference to a used word into a used word
 abbrev pub can_put : State → ℕ × ℕ → Bool

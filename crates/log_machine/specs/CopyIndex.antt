@@ -6,6 +6,7 @@ use Rattle.std.specs.BTreeMap.{is_at}
 use Rattle.std.specs.Ordering.{nat_cmp}
 use Rattle.log_records.specs.declared.copies.ObjectCopy.{ObjectCopy}
 use Rattle.log_machine.specs.Collecting.{copy_of}
+use Rattle.heap_words.specs.declared.TheConstants.{STABLE_WORDS}
 
 -- a map has, by where their objects stood, the places of some of these copies in their list
 abbrev pub AreIndexed : List ObjectCopy → List ObjectCopy → List (ℕ × ℕ) → Type 0
@@ -13,4 +14,4 @@ AreIndexed all copies places = (from : ℕ) → option_and_then (λ place. slice
 
 -- a reference has room for where each copy stands
 abbrev pub StandInside : List ObjectCopy → Type 0
-StandInside copies = All (λ (copy : ObjectCopy). copy.to < 2097152) copies
+StandInside copies = All (λ (copy : ObjectCopy). copy.to < STABLE_WORDS) copies

@@ -15,6 +15,7 @@ use Rattle.heap_words.specs.Word.{is_stable, is_volatile}
 use Rattle.log_machine.specs.declared.UndoEntry.{UndoEntry}
 use Rattle.log_machine.specs.Collecting.{collecting_after}
 pub use Rattle.log_machine.specs.State.{State, space_words}
+use Rattle.log_records.specs.declared.TheConstants.{BATCH_BYTES, END_BYTES, PUT_BYTES}
 
 -- The words.
 
@@ -258,7 +259,7 @@ rollback s = abort_each (losing s)
 
 -- the log's bytes that are kept to take so many writes of a transaction back: a batch, an End, and an Undo for each write
 abbrev pub end_bytes : ℕ → ℕ
-end_bytes writes = 10 + 19 * writes
+end_bytes writes = BATCH_BYTES + END_BYTES + PUT_BYTES * writes
 
 -- those for a transaction's writes
 abbrev pub undo_bytes : List UndoEntry → ℕ

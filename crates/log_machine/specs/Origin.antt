@@ -1,6 +1,7 @@
 -- Where a log begins, and what its records leave from there.
 use Rattle.std.specs.Prelude.{ℕ, ◌+◌, ◌-◌, List, length, take, fold, Option, None, Some}
 use Rattle.log_records.specs.declared.Record.{Record}
+use Rattle.log_records.specs.declared.TheConstants.{FIRST_LSN}
 use Rattle.log_machine.specs.Machine.{State, start, after_all, put_record, first_contents}
 
 -- The origin of a log: the LSN of its first record, and the state and the words in front of it.
@@ -11,7 +12,7 @@ pub record Origin : Type 0 where
 
 -- the LSN of a heap's first record
 abbrev pub first_lsn : ℕ
-first_lsn = 1
+first_lsn = FIRST_LSN
 
 -- The origin of each log, as long as none is truncated: a new heap with spaces of so many pages, whose first transaction has this number.
 abbrev pub heap_origin : ℕ → ℕ → Origin

@@ -8,6 +8,7 @@ use Rattle.log_machine.specs.declared.UndoEntry.{UndoEntry}
 use Rattle.log_machine.specs.UndoEntry.{LiesInside}
 use Rattle.log_machine.specs.Machine.{State, space_words, words_in, owed, is_number}
 use Rattle.log_machine.specs.Entries.{EachKeyed}
+use Rattle.heap_words.specs.declared.TheConstants.{STABLE_WORDS}
 
 -- A transaction whose writes may be taken back, and these.
 pub record IsLoser (s : State) (t : ℕ) (entries : List UndoEntry) : Type 0 where
@@ -38,5 +39,5 @@ pub record IsSpaced (s : State) : Type 0 where
 -- What holds of every state that records reach.
 pub record IsConsistent (s : State) : Type 0 where
   pub sound : AreLosers s
-  pub addresses : words_in s.pages ≤ 2097152  -- a reference has room for each address
+  pub addresses : words_in s.pages ≤ STABLE_WORDS  -- a reference has room for each address
   pub spaced : IsSpaced s

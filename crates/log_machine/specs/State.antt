@@ -1,13 +1,10 @@
 -- What a list of records leaves behind, beside the words.
-use Rattle.std.specs.Prelude.{ℕ, ◌*◌, List, Option}
+use Rattle.std.specs.Prelude.{ℕ, List, Option}
 use Rattle.std.specs.Ordering.{nat_cmp}
 use Rattle.std.specs.FinMap.{FinMap}
 use Rattle.heap_spaces.specs.Collection.{Collection}
+pub use Rattle.heap_spaces.specs.Spaces.{space_words}
 use Rattle.log_machine.specs.declared.UndoEntry.{UndoEntry}
-
--- how many words the pages of a space have
-abbrev pub space_words : ℕ → ℕ
-space_words pages = 64 * pages
 
 -- What the records so far say.
 pub record State : Type 0 where

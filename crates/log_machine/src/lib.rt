@@ -9,9 +9,8 @@ mod replaying;
 mod runs;
 mod undo_lists;
 
-pub use abort::abort_records;
 pub use effects::{effect, forwarding_word};
-pub use log_state::{AfterError, FIRST_LSN, LAST_NUMBER, LogState, ROOT_WORDS};
+pub use log_state::{AfterError, LAST_NUMBER, LogState, ROOT_WORDS};
 pub use replaying::{ReplayError, replay};
 pub use runs::{Run, Runs};
 pub use undo_lists::end_bytes;

@@ -19,9 +19,6 @@ use log_records::Record;
 use std::alloc::{AllocError, Global};
 use std::marker::Model;
 
-/// The LSN of a heap's first record.
-pub const FIRST_LSN: u64 = 1;
-
 /// The words of the root object: its header, its birth and its fields.
 pub const ROOT_WORDS: u32 = FIELDS_AT + ROOT_FIELDS;
 
@@ -158,7 +155,7 @@ impl LogState {
         }
     }
 
-    /// The same, from a state that is needed no more.
+    /// The collection that runs, where one does, from a state that is needed no more.
     pub fn into_collection(self) -> Option<Collection>
         ensures { result ≡ self.collection }
     {

@@ -6,8 +6,8 @@ ghost use Rattle.log_machine.specs.Effect.{EachWritesBelow};
 ghost use Rattle.log_machine.specs.Origin.{heap_origin};
 ghost use Rattle.log_machine.specs.Replay.{IsFirstUnshaped};
 
-use crate::{AfterError, FIRST_LSN, LogState};
-use log_records::Record;
+use crate::{AfterError, LogState};
+use log_records::{FIRST_LSN, Record};
 use std::alloc::{AllocError, Global};
 
 /// Why the records were not all taken.

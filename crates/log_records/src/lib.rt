@@ -30,11 +30,16 @@ const END: u8 = 6;
 
 const COPY: u8 = 7;
 
-const SCAN: u8 = 8;
+/// The first byte of a `Scan` record.
+pub const SCAN: u8 = 8;
 
-const FLIP: u8 = 9;
+/// The first byte of a `Flip` record.
+pub const FLIP: u8 = 9;
 
 const COLLECTED: u8 = 10;
+
+/// The LSN of the first record of a heap's log: the records of a log are numbered from it on.
+pub const FIRST_LSN: u64 = 1;
 
 /// The bytes of an `Update` record.
 pub const UPDATE_BYTES: usize = 27;

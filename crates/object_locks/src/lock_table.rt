@@ -60,8 +60,7 @@ impl LockTable {
         }
     }
 
-    /// The transaction that stands in the way of `asked`, if one does: of those that hold what conflicts, the one with the least number. A
-    /// lock that is asked for and not stood in the way of is refused only for want of memory.
+    /// The transaction that stands in the way of `asked`, if one does: of those that hold what conflicts, the one with the least number.
     pub fn conflict(&self, asked: Holding) -> Option<u32>
         ensures { MatchOption result (MayHold self.now asked) (IsLeastInConflict self.now asked) }
     {

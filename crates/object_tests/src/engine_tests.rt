@@ -57,7 +57,8 @@ fn new_heap(rt: &impl Abort, alloc: Global, plan: Plan) -> Result<Opened, Fail> 
     let cache = PageCache::open(alloc, &mut disk, plan)?;
     assert!(rt; cache.first_past(log.records()).is_none());
     let spaces = Spaces::new(1, 0, 6, 0);
-    let table = TxnTable::new(alloc, 1)?;
+    let mut table = TxnTable::new(alloc)?;
+    table.set_next(1);
     let engine = Engine::new(alloc, log, cache, spaces, None, table);
     Ok(Opened {
         engine,

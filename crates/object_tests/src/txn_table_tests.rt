@@ -86,7 +86,8 @@ fn end_first(rt: &impl Abort, table: &mut TxnTable) {
 
 #[test]
 fn sessions_keep_apart(rt: HostRuntime) -> Result<(), Fail> {
-    let mut table = TxnTable::new(rt.alloc(), 5)?;
+    let mut table = TxnTable::new(rt.alloc())?;
+    table.set_next(5);
     begin_both(&rt, &mut table);
     fill_first(&rt, &mut table)?;
     let handle = Some(Place::Volatile(4));

@@ -1,8 +1,10 @@
 -- Pages of words, each with an LSN, and which of them a record touches.
-use Rattle.std.specs.Prelude.{ℕ, ◌*◌, ◌/◌, ◌==◌, Bool, List, map, take, drop, replicate, slice_index}
+use Rattle.std.specs.Prelude.{ℕ, ◌*◌, ◌==◌, Bool, List, map, take, drop, replicate, slice_index}
 use Rattle.std.specs.List.{list_any}
 use Rattle.log_records.specs.declared.Record.{Record}
 use Rattle.log_machine.specs.Machine.{addresses, first_contents}
+use Rattle.heap_words.specs.declared.TheConstants.{PAGE_WORDS}
+pub use Rattle.heap_spaces.specs.Collection.{page_of}
 
 -- The pages of both spaces, each with its LSN: all words by address, and the LSNs by page.
 pub record Pages : Type 0 where
@@ -13,13 +15,9 @@ pub record Pages : Type 0 where
 abbrev pub pages_in : ℕ → ℕ
 pages_in pages = 2 * pages
 
--- the page in which an address lies
-abbrev pub page_of : ℕ → ℕ
-page_of address = address / 64
-
 -- the words of a page
 abbrev pub page_words : List ℕ → ℕ → List ℕ
-page_words words p = take 64 (drop (64 * p) words)
+page_words words p = take PAGE_WORDS (drop (PAGE_WORDS * p) words)
 
 -- the LSN of a page
 abbrev pub lsn_of : Pages → ℕ → ℕ

@@ -6,6 +6,7 @@ use Rattle.heap_spaces.specs.Spaces.{SpacesState}
 use Rattle.object_layout.specs.Layout.{field_words}
 use Rattle.log_records.specs.declared.Record.{Record}
 use Rattle.page_scanner.specs.Scan.{Planned, records_of}
+use Rattle.heap_words.specs.declared.TheConstants.{PAGE_WORDS}
 
 -- the addresses of writes ascend, from one address on and below another
 abbrev pub AreRising : ℕ → List (ℕ × ℕ) → ℕ → Type 0
@@ -22,7 +23,7 @@ pub record AreGrayApart (spaces : SpacesState) (k : Collection) (words : List �
 pub record IsSmall (page : ℕ) (q : Planned) : Type 0 where
   pub copies : length q.copies ≤ 576
   pub writes : length q.writes ≤ 576
-  pub rising : AreRising (64 * page) q.writes (64 * page + 576)
+  pub rising : AreRising (PAGE_WORDS * page) q.writes (PAGE_WORDS * page + 576)
 
 -- records of such a scan
 abbrev pub AreSmall : ℕ → List Record → Type 0

@@ -14,6 +14,7 @@ use Rattle.log_records.specs.declared.Record.{Record}
 use Rattle.log_records.specs.Record.{IsObjectWords}
 use Rattle.page_scanner.specs.Bounds.{AreGrayApart}
 use Rattle.page_scanner.specs.Scan.{from_base, in_from_space, object_words}
+use Rattle.heap_words.specs.declared.TheConstants.{STABLE_WORDS}
 
 -- objects, each by its address and its number of words, fill a space end to end from one address to another
 abbrev pub AreFilling : ℕ → List (ℕ × ℕ) → ℕ → Type 0
@@ -58,7 +59,7 @@ pub record IsCollected (spaces : SpacesState) (k : Collection) (words : List ℕ
   pub counted : moved_words k olds ≡ k.copied
   pub room : spaces.used + (k.used - k.copied) ≤ space_words spaces.pages
   pub fits : k.used ≤ space_words spaces.pages
-  pub few : spaces.base + space_words spaces.pages ≤ 2097152
+  pub few : spaces.base + space_words spaces.pages ≤ STABLE_WORDS
   pub forwarded : (b size : ℕ) → Contains olds (b, size) → contains k.moved b ≡ true → IsForwarded spaces words b
   pub waiting : (b size : ℕ) → Contains olds (b, size) → contains k.moved b ≡ false → IsWaiting spaces words olds b size
   pub gray_apart : AreGrayApart spaces k words

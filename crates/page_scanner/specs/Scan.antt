@@ -13,6 +13,7 @@ use Rattle.heap_spaces.specs.Spaces.{SpacesState, space_words}
 use Rattle.log_records.specs.declared.Record.{Record}
 use Rattle.log_records.specs.declared.Record.TheVariants.{Update, Base, Fix, Undo, Commit, End, Copy, Scan, Flip, Collected}
 use Rattle.object_layout.specs.Layout.{whole_length, field_words}
+use Rattle.heap_words.specs.declared.TheConstants.{STABLE_WORDS, PAGE_WORDS}
 
 -- The words are those before the scan: what a copy will write is told by its record.
 
@@ -110,7 +111,7 @@ copied spaces k words q b (Some n) = if can_copy spaces k q b (2 + n) then Some 
 
 -- a reference to a word address may be put at an address: both are taken
 abbrev pub can_write : SpacesState → Planned → ℕ → ℕ → Bool
-can_write spaces q at to = is_taken spaces q at && (is_taken spaces q to && nat_lt to 2097152)
+can_write spaces q at to = is_taken spaces q at && (is_taken spaces q to && nat_lt to STABLE_WORDS)
 
 -- with a reference to a word address put at an address, if it may be
 abbrev pub written : SpacesState → Planned → ℕ → ℕ → Option Planned
@@ -161,11 +162,11 @@ visit_all spaces k words q at (suc count) = option_and_then (λ next. visit_all 
 
 -- a page is one of the current space's
 abbrev pub is_current : SpacesState → ℕ → Bool
-is_current spaces page = nat_le spaces.base (64 * page) && nat_lt (64 * page) (spaces.base + space_words spaces.pages)
+is_current spaces page = nat_le spaces.base (PAGE_WORDS * page) && nat_lt (PAGE_WORDS * page) (spaces.base + space_words spaces.pages)
 
 -- what a scan of a page plans, if all of it can follow
 abbrev pub scan : SpacesState → Collection → List ℕ → ℕ → Option Planned
-scan spaces k words page = if is_current spaces page then visit_all spaces k words nothing (64 * page) 64 else None
+scan spaces k words page = if is_current spaces page then visit_all spaces k words nothing (PAGE_WORDS * page) PAGE_WORDS else None
 
 -- the records of what is planned: the copies, and the scan
 abbrev pub records_of : ℕ → Planned → List Record

@@ -6,6 +6,7 @@ use Rattle.std.specs.Int.{w64, to_le_bytes}
 use Rattle.byteorder.specs.Endian.{little_number}
 use Rattle.page_store.specs.declared.frame.Frame.{Frame}
 use Rattle.page_store.specs.declared.frame.Frame.TheVariants.{First, Second}
+use Rattle.heap_words.specs.declared.TheConstants.{PAGE_WORDS}
 
 -- the bytes of a frame behind its gate, as they are written: seven zeros, the LSN and the words
 abbrev pub frame_body : ℕ → List ℕ → List ℕ
@@ -30,7 +31,7 @@ words_in (suc n) bytes = little_number 8 bytes ∷ words_in n (drop 8 bytes)
 
 -- the words in a frame
 abbrev pub frame_words : List ℕ → List ℕ
-frame_words frame = words_in 64 (drop 16 frame)
+frame_words frame = words_in PAGE_WORDS (drop 16 frame)
 
 -- Of two frames the open one counts; of two open ones the one with the greater LSN, or the first if the LSNs are equal.
 abbrev pub newest : Bool → Bool → ℕ → ℕ → Option Frame

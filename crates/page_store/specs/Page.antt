@@ -5,6 +5,8 @@ use Rattle.image_plan.specs.Plan.{frame_offset}
 use Rattle.page_store.specs.declared.frame.Frame.{Frame}
 use Rattle.page_store.specs.declared.frame.Frame.TheVariants.{First, Second}
 use Rattle.page_store.specs.Frame.{counting, lsn_in, words_or}
+use Rattle.heap_words.specs.declared.TheConstants.{PAGE_WORDS}
+use Rattle.page_store.specs.declared.frame.TheConstants.{FRAME_BYTES}
 
 -- the number of a frame in the plan of an image
 abbrev pub frame_number : Frame → ℕ
@@ -17,7 +19,7 @@ frame_place log_bytes p frame = frame_offset log_bytes p (frame_number frame)
 
 -- the bytes of a frame of page p
 abbrev pub frame_of : ℕ → ℕ → List ℕ → Frame → List ℕ
-frame_of log_bytes p image frame = part image (frame_place log_bytes p frame) 528
+frame_of log_bytes p image frame = part image (frame_place log_bytes p frame) FRAME_BYTES
 
 -- which frame of page p counts
 abbrev pub page_frame : ℕ → ℕ → List ℕ → Option Frame
@@ -30,7 +32,7 @@ page_lsn log_bytes p image = lsn_in (frame_of log_bytes p image First) (frame_of
 -- what a page holds that was never stored: zeros, and 17 as the first word of page 0
 abbrev pub first_words : ℕ → List ℕ
 first_words zero = 17 ∷ replicate 63 0
-first_words (suc p) = replicate 64 0
+first_words (suc p) = replicate PAGE_WORDS 0
 
 -- the words of page p
 abbrev pub page_words : ℕ → ℕ → List ℕ → List ℕ

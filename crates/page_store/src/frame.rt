@@ -11,10 +11,10 @@ use heap_words::ROOT_FIELDS;
 pub const PAGE_WORDS: usize = heap_words::PAGE_WORDS as usize;
 
 /// The bytes of a frame.
-pub(crate) const FRAME_BYTES: usize = 528;
+pub(crate) const FRAME_BYTES: usize = image_plan::FRAME_BYTES as usize;
 
 /// The bytes of a frame behind its gate.
-pub(crate) const BODY_BYTES: usize = 527;
+pub(crate) const BODY_BYTES: usize = FRAME_BYTES - 1;
 
 /// Where a frame's LSN stands, and where its words begin.
 const LSN_AT: usize = 8;

@@ -5,7 +5,7 @@ ghost use Rattle.disk_model.specs.Keeps.{KeepsDisk, OnlyReads};
 ghost use Rattle.disk_model.specs.Moments.{LeavesOnly};
 ghost use Rattle.gate_slot.specs.Passing.{Passes};
 ghost use Rattle.image_plan.specs.Plan.{image_size, frame_offset};
-ghost use Rattle.page_store.specs.declared.store.OpenError.TheVariants.{NoMemory};
+ghost use Rattle.page_store.specs.declared.store.ReadPagesError.TheVariants.{NoMemory};
 ghost use Rattle.page_store.specs.OpenCause.{open_device_result};
 ghost use Rattle.page_store.specs.Frame.{frame_bytes, frame_words, spare};
 ghost use Rattle.page_store.specs.Page.{frame_place, frame_of, image_words, HasPage, SamePage, SameButPage, IsStoring, store_calls};
@@ -29,26 +29,26 @@ const PIECE_PAGES: u32 = 31;
 
 /// Why the pages could not be opened.
 #[derive(Clone, Copy, Debug, PartialEq, Eq)]
-pub enum OpenError {
+pub enum ReadPagesError {
     /// Memory was refused.
     NoMemory,
     /// The disk failed or stopped.
     Disk(DiskError),
 }
 
-impl From<AllocError> for OpenError {
+impl From<AllocError> for ReadPagesError {
     ghost from_gives = { λ _ e. e ≡ NoMemory };
 
     fn from(_: AllocError) -> Self {
-        OpenError::NoMemory
+        ReadPagesError::NoMemory
     }
 }
 
-impl<T: Drop> From<AllocFailed<T>> for OpenError {
+impl<T: Drop> From<AllocFailed<T>> for ReadPagesError {
     ghost from_gives = { λ _ e. e ≡ NoMemory };
 
     fn from(_: AllocFailed<T>) -> Self {
-        OpenError::NoMemory
+        ReadPagesError::NoMemory
     }
 }
 
@@ -74,7 +74,7 @@ impl PageStore {
         alloc: Global,
         disk: &mut D,
         plan: Plan,
-    ) -> Result<(PageStore, Vec<u64>), OpenError>
+    ) -> Result<(PageStore, Vec<u64>), ReadPagesError>
         requires few { plan.pages ≤ 16384 }
         requires inside { image_size plan.pages plan.log_bytes ≤ D.extent disk.old }
 
@@ -224,7 +224,7 @@ fn read_pages<D: Disk>(
     alloc: Global,
     disk: &mut D,
     plan: &Plan,
-) -> Result<(Vec<Stored>, Vec<u64>), OpenError>
+) -> Result<(Vec<Stored>, Vec<u64>), ReadPagesError>
     requires few { plan.now.pages ≤ 16384 }
     requires inside { image_size plan.now.pages plan.now.log_bytes ≤ D.extent disk.old }
     ensures pages { IfOk result (λ found. vec_len found.0 ≡ 2 * plan.now.pages) }
@@ -252,14 +252,14 @@ fn read_bytes<D: Disk>(
     disk: &mut D,
     at: u64,
     size: usize,
-) -> Result<Vec<u8>, OpenError>
+) -> Result<Vec<u8>, ReadPagesError>
     requires { at + size ≤ D.extent disk.old }
     ensures bytes { IsTrue D.tells → IfOk result (λ bytes. bytes.items ≡ part (D.bytes disk.old) at size) }
     ensures len { IfOk result (λ bytes. vec_len bytes ≡ size) }
     ensures disk { OnlyReads D.Disk disk.old disk.new (open_device_result result) }
 {
     let mut bytes = vec![in alloc; 0u8; size]?;
-    disk.read(at, &mut bytes).map_err(OpenError::Disk)?;
+    disk.read(at, &mut bytes).map_err(ReadPagesError::Disk)?;
     Ok(bytes)
 }
 
@@ -281,7 +281,7 @@ fn take_pages(
     frames: &[u8],
     table: &mut Vec<Stored>,
     words: &mut Vec<u64>,
-) -> Result<(), OpenError>
+) -> Result<(), ReadPagesError>
     requires whole { length frames.now ≡ 1056 * some }
     requires few { first + some ≤ 32768 }
     ensures pages { OnOk result (vec_len table.new ≡ vec_len table.old + some) }

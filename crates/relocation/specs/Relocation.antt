@@ -4,11 +4,12 @@ use Rattle.std.specs.List.Sorted.{IsStrictlyIncreasing}
 use Rattle.heap_words.specs.declared.Word.{Word}
 use Rattle.heap_words.specs.declared.Word.TheVariants.{Null, Int, Stable, Volatile}
 use Rattle.heap_words.specs.Word.{bits, meaning}
+use Rattle.heap_words.specs.declared.TheConstants.{STABLE_WORDS}
 
 -- Pairs tell where objects went: each has the address at which an object stood, and the one to which it went.
 pub record IsRelocation (pairs : List (ℕ × ℕ)) : Type 0 where
   pub ascending : IsStrictlyIncreasing (map (λ pair. pair.0) pairs)  -- no object is named twice, and where they stood ascends
-  pub inside : All (λ pair. pair.1 < 2097152) pairs  -- a reference can lead to where they went
+  pub inside : All (λ pair. pair.1 < STABLE_WORDS) pairs  -- a reference can lead to where they went
 
 -- where the object at an address went, if it moved
 abbrev pub destination : List (ℕ × ℕ) → ℕ → Option ℕ

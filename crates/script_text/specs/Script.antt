@@ -5,6 +5,7 @@ use Rattle.script_text.specs.declared.line.Line.{Line}
 use Rattle.script_text.specs.declared.script.ScriptError.{ScriptError}
 use Rattle.script_text.specs.declared.script.ScriptError.TheVariants.{NoMemory, Fault}
 use Rattle.script_text.specs.Line.{read_text}
+use Rattle.script_text.specs.declared.script.TheConstants.{MOST_BYTES}
 
 -- the lines: each ends at a newline or at the end
 abbrev pub lines : List ℕ → List (List ℕ)
@@ -41,7 +42,7 @@ finish (Ok r) = Ok r.found
 
 -- the lines of a script of at most 1,048,576 bytes, or the number of the first bad line, where 0 stands for one that is too long
 abbrev pub script : List ℕ → Result (List Line) ScriptError
-script bytes = if nat_lt 1048576 (length bytes) then Err (Fault 0) else finish (fold take_line (Ok start) (lines bytes))
+script bytes = if nat_lt MOST_BYTES (length bytes) then Err (Fault 0) else finish (fold take_line (Ok start) (lines bytes))
 
 -- memory was refused, or reading fails so
 abbrev pub Fails : {Y : Type 0} → ScriptError → Result Y ScriptError → Type 0

@@ -8,10 +8,7 @@ use log_machine::UndoEntry;
 use std::alloc::{AllocError, Global};
 use std::collections::BTreeSet;
 
-/// A field of an object that stands in the current space: the object's address, and the field's number.
-pub(crate) type Field = (u32, u16);
-
-/// The fields that these writes wrote, each once, ascending. The newest write stands last.
+/// The fields that these writes wrote, each by its object's address and its number, once, ascending. The newest write stands last.
 pub(crate) fn written_fields(
     alloc: Global,
     undo: &[UndoEntry],

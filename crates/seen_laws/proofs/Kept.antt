@@ -65,14 +65,6 @@ pub none_wrote : (es : List Loser) (at : ℕ) → AllByRecursion (λ (e : Loser)
 none_wrote [] at all = tt
 none_wrote (e ∷ es) at all = AllByRecursion-append (λ (u : UndoEntry). at ≢ field_at u.object u.field) e.1 (flat_map (λ (e : Loser). e.1) es) all.0 (none_wrote es at all.1)
 
--- no write is one of a word of the other space
-pub other_unwritten : {s : State} {k : Collection} {places remaining : Places} {words : List ℕ} (us : List UndoEntry) → IsCollecting s k places remaining words → AreBacked places words us → (at : ℕ)
-    → in_other_space s at ≡ true → IsUnwritten us at
-other_unwritten {s} {places = places} {words = words} us is backed at other =
-    let bounds = other_bounds s at other in
-    AllByRecursion-map (λ u. IsHereWrite places words u.object u.field u.was) (λ u. at ≢ field_at u.object u.field) us
-    (λ u write same. write_current is write at bounds.0 bounds.1 (sym same)) backed
-
 -- Objects.
 
 -- the writes are of fields of current objects

@@ -31,9 +31,6 @@ error_is (Err x) e failed is = ap (λ y. Err y) is
 pub said_reopen : (number : ℕ) (text : List ℕ) (asked : Bool) → asked ≡ bytes_eq text reopen_line → IsTrue asked → said_against number text ≡ unfinished_line
 said_reopen number text asked is so = rw (sym is ∙ so) refl
 
-pub said_other : (number : ℕ) (text : List ℕ) (asked : Bool) → asked ≡ bytes_eq text reopen_line → IsFalse asked → said_against number text ≡ fault_line number
-said_other number text asked is not_so = rw (sym is ∙ not_so) refl
-
 -- a text of some bytes
 pub some_text : (text : List ℕ) → (length text == 0) ≡ false → 0 < length text
 some_text [] e = absurd (cc e)

@@ -7,6 +7,7 @@ use Rattle.graph_model.specs.declared.reply.Entry.{Entry}
 use Rattle.script_text.specs.declared.line.Line.{Line}
 use Rattle.script_text.specs.Line.{read_text, line_events}
 use Rattle.heap_program.specs.Play.{lines_text}
+use Rattle.line_reader.specs.declared.reader.TheConstants.{MOST_LINE}
 
 -- the line that says that a line is not in the grammar of scripts
 abbrev pub fault_line : ℕ → List ℕ
@@ -74,4 +75,4 @@ answers_text number (a ∷ answered) = (fault_of number a.text ++ lines_text a.h
 
 -- a line as it is taken: none of its bytes where they are too many
 abbrev pub as_taken : List ℕ → Option (List ℕ)
-as_taken line = if nat_lt 1048576 (length line) then None else Some line
+as_taken line = if nat_lt MOST_LINE (length line) then None else Some line

@@ -29,7 +29,7 @@ impl Search {
         }
     }
 
-    /// WereFollowed these words to the objects of the area to which they refer.
+    /// Follows these words to the objects of the area to which they refer.
     pub(crate) fn follow(&mut self, area: &Area, words: &[u64]) -> Result<(), AllocError>
         ensures ok { OnOk result (WereFollowed area.now words.now self.old.found.keys self.old.waiting.items self.new.found.keys self.new.waiting.items) }
         ensures err { OnErr result ((at : ℕ) × IsNamed area.now words.now at) }

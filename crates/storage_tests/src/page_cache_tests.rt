@@ -7,7 +7,7 @@ use disk_model::{Disk, DiskError, MemoryDisk, Pick};
 use image_plan::Plan;
 use log_records::{ObjectWords, Record};
 use page_cache::PageCache;
-use page_store::OpenError;
+use page_store::ReadPagesError;
 use std::alloc::{AllocError, Global};
 use std::process::Abort;
 use std::test::Fail;
@@ -107,7 +107,7 @@ fn new_disk(alloc: Global) -> Result<MemoryDisk, AllocError> {
 
 // What follows wraps calls with long contracts, since each of their callers would otherwise prove them anew.
 
-fn open(rt: &impl Abort, alloc: Global, disk: &mut MemoryDisk) -> Result<PageCache, OpenError> {
+fn open(rt: &impl Abort, alloc: Global, disk: &mut MemoryDisk) -> Result<PageCache, ReadPagesError> {
     assert!(rt; disk.size() >= PLAN.size());
     PageCache::open(alloc, disk, PLAN)
 }
@@ -209,7 +209,7 @@ fn redone(
     disk: &mut MemoryDisk,
     records: &[Record],
     stored: [u64; 4],
-) -> Result<PageCache, OpenError>
+) -> Result<PageCache, ReadPagesError>
     requires { EachWritesBelow 256 records.now }
 {
     let mut cache = open(rt, alloc, disk)?;

@@ -2,7 +2,7 @@
 use crate::compare::same;
 use disk_model::{Disk, DiskError, FuseDisk, MemoryDisk, Pick};
 use image_plan::Plan;
-use page_store::{OpenError, PAGE_WORDS, PageStore, StoredPage};
+use page_store::{ReadPagesError, PAGE_WORDS, PageStore, StoredPage};
 use std::alloc::{AllocError, Global};
 use std::process::Abort;
 use std::test::Fail;
@@ -35,7 +35,7 @@ fn open(
     rt: &impl Abort,
     alloc: Global,
     disk: &mut MemoryDisk,
-) -> Result<(PageStore, Vec<u64>), OpenError> {
+) -> Result<(PageStore, Vec<u64>), ReadPagesError> {
     assert!(rt; disk.size() >= PLAN.size());
     PageStore::open(alloc, disk, PLAN)
 }

@@ -46,23 +46,6 @@ pub record GoneUpto (pairs : List (ℕ × ℕ)) (k : ℕ) (old now : TableState)
   pub done : (s : ℕ) → 1 ≤ s → s ≤ k → GoesAlong pairs (transaction_of old s) (transaction_of now s)
   pub rest : (s : ℕ) → (1 ≤ s → k < s) → transaction_of now s ≡ transaction_of old s
 
-pub gone_none : (pairs : List (ℕ × ℕ)) (table : TableState) → GoneUpto pairs 0 table table
-gone_none pairs table = record { next = refl; done = λ s low high. absurd (omega arith); rest = λ s behind. refl }
-
-pub gone_more : (pairs : List (ℕ × ℕ)) (k : ℕ) (old now new : TableState) → GoneUpto pairs k old now → HasGoneAlongAt pairs (k + 1) now new → GoneUpto pairs (k + 1) old new
-gone_more pairs k old now new upto one = record {
-  next = one.next ∙ upto.next;
-  done = λ s low high. elim (cases_eq s (k + 1)) [
-    | inl here ↦
-        let Goes : Option TransactionState → Type 0 = λ o. GoesAlong pairs o (transaction_of new (k + 1)) in
-        subst (λ (q : ℕ). GoesAlong pairs (transaction_of old q) (transaction_of new q)) (sym here) (subst Goes (upto.rest (k + 1) (λ some. omega arith)) one.session)
-    | inr before ↦
-        let Goes : Option TransactionState → Type 0 = λ o. GoesAlong pairs (transaction_of old s) o in
-        subst Goes (sym (one.others s before)) (upto.done s low (omega arith))
-  ];
-  rest = λ s behind. one.others s (λ same. let far = behind (omega arith) in omega arith) ∙ upto.rest s (λ some. let far = behind some in omega arith);
-}
-
 pub gone_all : (pairs : List (ℕ × ℕ)) (k next : ℕ) (slots : List (Option TransactionState)) (old now : TableState) → table_of next slots ≡ old → length slots ≤ k → GoneUpto pairs k old now → HaveGoneAlong pairs old now
 gone_all pairs k next slots old now same all upto = record {
   next = upto.next;

@@ -10,7 +10,7 @@ ghost use Rattle.txn_table.specs.Table.{new_table, transaction_of, with_begun, w
 
 use crate::place::Place;
 use crate::transaction::Transaction;
-use log_machine::UndoEntry;
+use log_machine::{LAST_NUMBER, UndoEntry};
 use object_locks::LockTable;
 use std::alloc::{AllocError, Global};
 use std::marker::Model;
@@ -45,14 +45,15 @@ impl Model for TxnTable {
 }
 
 impl TxnTable {
-    /// No session has a transaction, and the first will have this number.
-    pub fn new(alloc: Global, next: u32) -> Result<TxnTable, AllocError>
-        ensures { IfOk result (λ table. table ≡ new_table next) }
+    /// No session has a transaction, and none begins before `set_next` has given the number of the first.
+    pub fn new(alloc: Global) -> Result<TxnTable, AllocError>
+        ensures { IfOk result (λ table. table ≡ new_table (LAST_NUMBER + 1)) }
     {
         let mut slots = Vec::new(alloc);
         for _ in 0..SESSIONS {
             slots.push(None)?;
         }
+        let next = LAST_NUMBER + 1;
         Ok(TxnTable { alloc, next, slots })
     }
 

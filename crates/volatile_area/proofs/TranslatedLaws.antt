@@ -107,9 +107,6 @@ pub record AreUpto (pairs : List (ℕ × ℕ)) (k : ℕ) (old now : AreaState) :
   pub done : (i : ℕ) → i < k → i < length (starts_of old) → field_words now.words (get_or (starts_of old) i 0) ≡ map (translated_word pairs) (field_words old.words (get_or (starts_of old) i 0))
   pub rest : (i : ℕ) → k ≤ i → i < length (starts_of old) → field_words now.words (get_or (starts_of old) i 0) ≡ field_words old.words (get_or (starts_of old) i 0)
 
-pub are_none : (pairs : List (ℕ × ℕ)) (area : AreaState) → IsArea area → AreUpto pairs 0 area area
-are_none pairs area is = record { sound = is; objects = same_objects area; done = λ i low within. absurd (omega arith); rest = λ i high within. refl }
-
 -- a start is in the list of starts
 start_at : (area : AreaState) (i : ℕ) → i < length (starts_of area) → Contains (starts_of area) (get_or (starts_of area) i 0)
 start_at area i within = (i, within, get_or_default_zero (starts_of area) i _ within)

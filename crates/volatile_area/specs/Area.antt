@@ -6,6 +6,7 @@ use Rattle.heap_words.specs.Word.{IsFieldWord}
 use Rattle.relocation.specs.Relocation.{translated_word}
 use Rattle.object_layout.specs.Layout.{field_words, birth_at}
 use Rattle.object_layout.specs.Walk.{AreEndToEnd}
+use Rattle.heap_words.specs.declared.TheConstants.{VOLATILE_WORDS}
 
 -- A transaction's volatile area, as contracts see it.
 pub record AreaState : Type 0 where
@@ -49,7 +50,7 @@ pub record HasField (area : AreaState) (object field : ℕ) : Type 0 where
 
 -- What holds of each area: objects fill its words end to end, the kth has the birth of the kth, and in each field stands a field's word.
 pub record IsArea (area : AreaState) : Type 0 where
-  pub few : length area.words ≤ 4096
+  pub few : length area.words ≤ VOLATILE_WORDS
   pub objects : AreEndToEnd area.words 0 (starts_of area) (length area.words)
   pub births : (i at : ℕ) → slice_get (starts_of area) i ≡ Some at → birth_at area.words at ≡ birth_bits area.transaction (i + 1)
   pub fields : (at i w : ℕ) → Contains (starts_of area) at → slice_get (field_words area.words at) i ≡ Some w → IsFieldWord w

@@ -12,6 +12,7 @@ use Rattle.graph_words.specs.Stands.{AreNamedByBirth, ArePlaced}
 use Rattle.collection_words.specs.Completed.{StandsCompleted, future, in_other_space}
 use Rattle.collection_words.specs.LaidOut.{IsLaidOut}
 use Rattle.walk_laws.specs.Births.{HasOriginals, is_left}
+use Rattle.heap_words.specs.declared.TheConstants.{STABLE_WORDS}
 
 -- The spaces.
 
@@ -31,7 +32,7 @@ IsStateWalked s words = IsWalkedBeside words s.base s.used (from_space s)
 pub record AreSpaces (s : State) (words : List ℕ) : Type 0 where
   pub spaced : IsSpaced s
   pub long : length words ≡ words_in s.pages
-  pub small : words_in s.pages ≤ 2097152
+  pub small : words_in s.pages ≤ STABLE_WORDS
 
 -- the objects of the current space that a walk has met
 abbrev pub current_starts : (words : List ℕ) (base used : ℕ) (from : Option FromSpace) → IsWalkedBeside words base used from → List ℕ

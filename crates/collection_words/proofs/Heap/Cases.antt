@@ -80,17 +80,3 @@ heap_word {s} {places} {remaining} {words} heap at n i has object below black = 
 
 abbrev nothing : Places
 nothing = []
-
--- Where a graph stands in the words of a heap without a collection, as a transaction sees it, the words are laid out.
-pub stands_laid : (s : State) {t made : ℕ} {places : Places} {g : Graph} {words : List ℕ} → s.collection ≡ None → Stands t made places g words s.base s.used → HasMade places g t made → IsLaidOut s places [] words
-stands_laid s {t} {made} {places} {g} {words} none stands has = record {
-  filled = record { root = stands.root_object; objects = stands.ends };
-  here = λ at start n i there below black.
-      let one = stands_placed stands at start in
-      let id = one.0 in
-      let same = same_Some (length (fields g id)) n (sym (stands_object stands id at one.1) ∙ there) in
-      let within : i < length (fields g id) = omega arith in
-      let seen = all_at (IsVisible places t made) (fields g id) i Null tt (stands.visible id at one.1) in
-      subst (λ (w : ℕ). LeadsHere (addresses places) (meaning w)) (sym (stands_field stands id at i one.1 within)) (visible_leads_all stands has (slice_index_or (fields g id) i Null) seen);
-  from = subst (λ (o : Option Collection). MatchOption o (nothing ≡ []) (λ k. IsFromSpace s k places nothing words)) (sym none) (refl {0});
-}

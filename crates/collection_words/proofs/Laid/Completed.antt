@@ -22,10 +22,6 @@ use Rattle.collection_words.proofs.Words.Put.{putting, putting-before, putting-b
 pub completed_none : (s : State) (places remaining : Places) (words : List ℕ) → s.collection ≡ None → completed s places remaining words ≡ words
 completed_none s places remaining words none = ap (completed_in s places remaining words) none
 
--- and no object is to come
-pub future_none : (s : State) (words : List ℕ) → future s words [] ≡ []
-future_none s words = refl
-
 pub places_none : (s : State) (places : Places) (words : List ℕ) → places ++ future s words [] ≡ places
 places_none s places words = append-nil places
 

@@ -36,12 +36,6 @@ there_too (Some a) q same none = let clash = same ∙ ap is_some none in cc
 pub same_none : (places others : Places) → HaveSameIds places others → (id : Id) → address_of places id ≡ None → address_of others id ≡ None
 same_none places others same id none = there_too (address_of others id) (address_of places id) (sym (same id)) none
 
--- one that has a place here has one there
-pub same_some : (places others : Places) → HaveSameIds places others → (id : Id) (at : ℕ) → address_of places id ≡ Some at → (to : ℕ) × HasMoved places others id at to
-same_some places others same id at is =
-    let there = some_address (address_of others id) (sym (same id) ∙ ap is_some is) in
-    (there.0, record { before = is; after = there.1 })
-
 -- and the other way round
 pub same_source : (places others : Places) → HaveSameIds places others → (id : Id) (to : ℕ) → address_of others id ≡ Some to → (at : ℕ) × HasMoved places others id at to
 same_source places others same id to is =

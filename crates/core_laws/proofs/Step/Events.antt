@@ -108,20 +108,6 @@ pub kept_still : (c : Core) (b : Account) → (valid : IsValid c) → reserved (
 kept_still c b valid =
     ap (λ (rs : List Record). reserved (undo_behind c rs) b) (append-nil (all_records c)) ∙ ap (λ (o : Option State). reserved (undo_with o) b) valid.told.reached
 
--- the log has room for a call that neither writes nor scans
-pub log_quiet : (c : Core) (event : Event) → IsValid c → IsCall event → is_write event ≡ false → has_barrier event ≡ false → log_refusal c event ≡ None
-log_quiet c event valid is quiet plain =
-    let a = account c.history in
-    let s = session_of event in
-    let b = account_after a (record { event = event; reply = granted (next_number c) c.g0 a event }) in
-    let none : event_records c event ≡ [] = ap (λ (rs : List Record). rs ++ own_records c event) (no_barrier c event plain) ∙ quiet_records c event is quiet in
-    let said : HasRoom c [] (called a s event) =
-    let nothing = need_nothing c.pending in
-    let kept = kept_still c (called a s event) valid in
-    let same = called_reserved (undo_of valid.behind) a s event in
-    omega (arith, valid.room) in
-    log_roomy c event (subst (λ (rs : List Record). HasRoom c rs b) (sym none) (subst (HasRoom c []) (sym (call_account (next_number c) c.g0 a event is)) said))
-
 -- and for what neither appends a record nor changes a transaction
 room_still : (c : Core) (b : Account) → IsValid c → ((s : ℕ) → b.active s ≡ (account c.history).active s) → HasRoom c [] b
 room_still c b valid actives =

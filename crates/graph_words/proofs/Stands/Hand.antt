@@ -16,13 +16,3 @@ pub at_hand_visible : {t made : ℕ} {places : Places} {g : Graph} {words : List
     → (id : Id) → IsAtHand places t made id → AllByRecursion (IsVisible places t made) (fields g id)
 at_hand_visible {places = places} stands has id (inl there) = let place = some_address (address_of places id) there in stands.visible id place.0 place.1
 at_hand_visible stands has id (inr own) = own_visible has own
-
-value_visible : (places : Places) (t made : ℕ) (vs : List Val) (i : ℕ) → AllByRecursion (IsVisible places t made) vs → IsVisible places t made (slice_index_or vs i Null)
-value_visible places t made [] i seen = tt
-value_visible places t made (v ∷ vs) zero seen = seen.0
-value_visible places t made (v ∷ vs) (suc i) seen = value_visible places t made vs i seen.1
-
--- a value that is read of a field is seen
-pub read_visible : {t made : ℕ} {places : Places} {g : Graph} {words : List ℕ} {base used : ℕ} → Stands t made places g words base used → HasMade places g t made
-    → (id : Id) (i : ℕ) → IsAtHand places t made id → IsVisible places t made (slice_index_or (fields g id) i Null)
-read_visible {t} {made} {places} {g} stands has id i at_hand = value_visible places t made (fields g id) i (at_hand_visible stands has id at_hand)

@@ -114,11 +114,6 @@ stands_field_apart {places = places} {g = g} {words = words} {base = base} {used
 
 -- The fields.
 
--- a field lies within the used words
-pub stands_field_within : {t made : ℕ} {places : Places} {g : Graph} {words : List ℕ} {base used : ℕ} → Stands t made places g words base used
-    → (id : Id) (at i : ℕ) → address_of places id ≡ Some at → i < length (fields g id) → field_at at i < base + used
-stands_field_within stands id at i is within = let lies = stands_within stands id at is in let ends = lies.below in omega arith
-
 -- so does a write of a field of such an object
 pub field_inside : (base used n : ℕ) (u : UndoEntry) → LiesWithin base used u.object n → u.field < n → LiesInside base used u
 field_inside base used n u lies field = let ends = lies.below in record { above = lies.above; below = omega arith }

@@ -129,10 +129,6 @@ stands_seen_at {places} stands = stands_seen_as (name_at places) stands (stands_
 pub births_name : (places : Places) (words : List ℕ) → AreNamedByBirth places words → NamesPlaces (id_at words) places
 births_name places words born id at is = placed_as (λ p. id_at words p.1 ≡ p.0) places id at born is
 
--- and the graph is seen
-pub stands_seen : {places : Places} {g : Graph} {words : List ℕ} {base used : ℕ} → StandsCommitted places g words base used → AreNamedByBirth places words → IsSeen words base g
-stands_seen {places} {words = words} stands born = stands_seen_as (id_at words) stands (births_name places words born)
-
 -- All graphs that are seen in the words have the canon of the one that stands there, whatever the names.
 pub stands_canon : {places : Places} {g : Graph} {words : List ℕ} {base used : ℕ} → StandsCommitted places g words base used
     → (name : ℕ → Id) (h : Graph) → IsSeenAs name words base h → canon h ≡ canon g

@@ -214,10 +214,6 @@ pub id_at-KeepApart : (words starts : List ℕ) → HaveOwnBirths words starts �
 id_at-KeepApart words starts own a b one other same =
     own a b one other (sym (birth_bits-born (birth_at words a)) ∙ ap (λ (x : Id). birth_bits x.t x.k) same ∙ birth_bits-born (birth_at words b))
 
--- places under such names are named by birth
-pub id_at-AreNamedByBirth : (words starts : List ℕ) → AreNamedByBirth (named_places (id_at words) starts) words
-id_at-AreNamedByBirth words starts = named_places_each (λ p. id_at words p.1 ≡ p.0) (id_at words) starts (λ at has. refl)
-
 born_old : (next birth : ℕ) → IsBornBefore next birth → IsOld next (id_of birth)
 born_old next birth (t, k, is, first, small, below) =
     let maker : born_in birth ≡ t = ap born_in is ∙ born_in-birth_bits t k small in

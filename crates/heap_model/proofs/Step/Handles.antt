@@ -47,12 +47,6 @@ pub at_hand_visible : {t made : ℕ} {places : Places} {g : Graph} {words : List
 at_hand_visible {places = places} stands has id (inl there) = let place = some_address (address_of places id) there in stands.visible id place.0 place.1
 at_hand_visible stands has id (inr own) = own_visible has own
 
--- so are those of what a handle holds, which has none where it holds nothing
-pub held_visible : {t made : ℕ} {places : Places} {g : Graph} {words : List ℕ} {base used : ℕ} → Stands t made places g words base used → HasMade places g t made
-    → (registers : Registers) (h : ℕ) → HoldAllAtHand places t made registers → (o : Option Id) → held registers h ≡ o → AllByRecursion (IsVisible places t made) (fields_of g o)
-held_visible stands has registers h all None is = tt
-held_visible {t} {made} {places} stands has registers h all (Some id) is = at_hand_visible stands has id (held_at_hand places t made registers h id all is)
-
 referred_at_hand : (places : Places) (t made : ℕ) (registers : Registers) (h : ℕ) (v : Val) → IsVisible places t made v → HoldAllAtHand places t made registers
     → HoldAllAtHand places t made (with_referred registers h v)
 referred_at_hand places t made registers h Null seen all = all
