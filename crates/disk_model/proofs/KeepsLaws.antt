@@ -1,5 +1,5 @@
 -- Laws of what calls keep of a disk: calls one after another, and the parts of a clause of one call.
-use Rattle.std.specs.Prelude.{ℕ, ◌≤◌, List, IsTrue, Result, Ok, refl}
+use Rattle.std.specs.Prelude.{ℕ, ◌≡◌, ◌≢◌, ◌≤◌, List, IsTrue, Result, Ok, Err, refl}
 use Rattle.std.proofs.Common.{◌∙◌, inl, inr, arith}
 use Rattle.std.proofs.lemmas.Bool.{cases_lt}
 use Rattle.counts.specs.Count.{Rose}
@@ -8,6 +8,7 @@ use Rattle.disk_model.proofs.MomentLaws.{begins, weaker, joined}
 use Rattle.disk_model.specs.Keeps.{KeepsDisk, SameContents, OnlyReads}
 use Rattle.disk_model.specs.declared.disk.Disk.{Ghosts}
 use Rattle.disk_model.specs.declared.disk.DiskError.{DiskError}
+use Rattle.disk_model.specs.declared.disk.DiskError.TheVariants.{Failed, Stopped}
 
 -- what rose after a moment rose since an earlier one
 pub rose_since : (a b c : ℕ) → a ≤ b → b ≤ c → Rose b c → Rose a c
@@ -19,17 +20,23 @@ pub rose_until : (a b c : ℕ) → b ≤ c → Rose a b → Rose a c
 rose_until a b c bc (inl up) = inl (omega arith)
 rose_until a b c bc (inr full) = inr full
 
--- an answer that tells no error of the disk
-pub no_cause : {S T : Type 0} (faults faults' stops stops' : ℕ) (result : Result S DiskError) (x : T) → HasCause faults faults' stops stops' result → HasCause {T = T} faults faults' stops stops' (Ok x)
-no_cause faults faults' stops stops' result x cause = record { faults_kept = cause.faults_kept; stops_kept = cause.stops_kept; failed = λ is. absurd (cc is); stopped = λ is. absurd (cc is) }
+-- an answer that is no error is no error of the disk
+pub ok_no_error : {T : Type 0} (result : Result T DiskError) (x : T) (e : DiskError) → result ≡ Ok x → result ≢ Err e
+ok_no_error result x e is told = cc (is, told)
 
--- the causes of two calls, of which the second one's answer is told
-pub cause_last : {S T : Type 0} (faults mid faults' stops mids stops' : ℕ) (first : Result S DiskError) (result : Result T DiskError) → HasCause faults mid stops mids first → HasCause mid faults' mids stops' result → HasCause faults faults' stops stops' result
-cause_last faults mid faults' stops mids stops' first result before cause = record {
+-- no call was made, and no error of the disk is told
+pub cause_none : {T : Type 0} (faults stops : ℕ) (x : T) → HasCause {T = T} faults faults stops stops (Ok x)
+cause_none faults stops x = record { faults_kept = omega arith; stops_kept = omega arith; failed = λ is. absurd (cc is); stopped = λ is. absurd (cc is); faults_still = λ not. refl; stops_still = λ not. refl }
+
+-- the causes of two calls, the first of which told no error
+pub cause_last : {S T : Type 0} (faults mid faults' stops mids stops' : ℕ) (first : Result S DiskError) (y : S) (result : Result T DiskError) → first ≡ Ok y → HasCause faults mid stops mids first → HasCause mid faults' mids stops' result → HasCause faults faults' stops stops' result
+cause_last faults mid faults' stops mids stops' first y result done before cause = record {
   faults_kept = omega (arith, before.faults_kept, cause.faults_kept);
   stops_kept = omega (arith, before.stops_kept, cause.stops_kept);
   failed = λ is. rose_since faults mid faults' before.faults_kept cause.faults_kept (cause.failed is);
   stopped = λ is. rose_since stops mids stops' before.stops_kept cause.stops_kept (cause.stopped is);
+  faults_still = λ not. cause.faults_still not ∙ before.faults_still (ok_no_error first y Failed done);
+  stops_still = λ not. cause.stops_still not ∙ before.stops_still (ok_no_error first y Stopped done);
 }
 
 module _ {D : Type 0} (g : Ghosts D) where
@@ -38,27 +45,22 @@ module _ {D : Type 0} (g : Ghosts D) where
   keeps_none disk x = record {
     extent = refl;
     origin = refl;
-    cause = record { faults_kept = omega arith; stops_kept = omega arith; failed = λ is. absurd (cc is); stopped = λ is. absurd (cc is) };
+    cause = cause_none (g.faults disk) (g.stops disk) x;
     restarts = λ told. refl;
   }
 
-  -- what a call kept is kept where no error of the disk is told
-  pub keeps_ok : {S T : Type 0} (old new : D) (result : Result S DiskError) (x : T) → KeepsDisk g old new result → KeepsDisk {T = T} g old new (Ok x)
-  keeps_ok old new result x kept = record {
-    extent = kept.extent;
-    origin = kept.origin;
-    cause = no_cause (g.faults old) (g.faults new) (g.stops old) (g.stops new) result x kept.cause;
-    restarts = kept.restarts;
-  }
-
-  -- one call more, whose answer is told
-  pub keeps_on : {S T : Type 0} (old mid new : D) (first : Result S DiskError) (result : Result T DiskError) → KeepsDisk g old mid first → KeepsDisk g mid new result → KeepsDisk g old new result
-  keeps_on old mid new first result before kept = record {
+  -- one call more, whose answer is told, and which followed no error
+  pub keeps_on : {S T : Type 0} (old mid new : D) (first : Result S DiskError) (y : S) (result : Result T DiskError) → first ≡ Ok y → KeepsDisk g old mid first → KeepsDisk g mid new result → KeepsDisk g old new result
+  keeps_on old mid new first y result done before kept = record {
     extent = kept.extent ∙ before.extent;
     origin = kept.origin ∙ before.origin;
-    cause = cause_last (g.faults old) (g.faults mid) (g.faults new) (g.stops old) (g.stops mid) (g.stops new) first result before.cause kept.cause;
+    cause = cause_last (g.faults old) (g.faults mid) (g.faults new) (g.stops old) (g.stops mid) (g.stops new) first y result done before.cause kept.cause;
     restarts = λ told. kept.restarts told ∙ before.restarts told;
   }
+
+  -- what a call kept that told no error is kept where none is told
+  pub keeps_ok : {S T : Type 0} (old new : D) (result : Result S DiskError) (y : S) (x : T) → result ≡ Ok y → KeepsDisk g old new result → KeepsDisk {T = T} g old new (Ok x)
+  keeps_ok old new result y x done kept = keeps_on old new new result y (Ok x) done kept (keeps_none new x)
 
   -- nothing was read
   pub same_none : (disk : D) → ((c : List ℕ) → g.left_since disk (g.moment disk) c → g.may_leave disk c) → SameContents g disk disk
@@ -77,13 +79,13 @@ module _ {D : Type 0} (g : Ghosts D) where
   pub reads_none : {T : Type 0} (disk : D) (x : T) → (IsTrue g.tells → (c : List ℕ) → g.left_since disk (g.moment disk) c → g.may_leave disk c) → OnlyReads {T = T} g disk disk (Ok x)
   reads_none disk x only_now = record { disk = keeps_none disk x; contents = λ told. same_none disk (only_now told); no_first_stop = λ none. none }
 
-  pub reads_ok : {S T : Type 0} (old new : D) (result : Result S DiskError) (x : T) → OnlyReads g old new result → OnlyReads {T = T} g old new (Ok x)
-  reads_ok old new result x reads = record { disk = keeps_ok old new result x reads.disk; contents = reads.contents; no_first_stop = reads.no_first_stop }
+  pub reads_ok : {S T : Type 0} (old new : D) (result : Result S DiskError) (y : S) (x : T) → result ≡ Ok y → OnlyReads g old new result → OnlyReads {T = T} g old new (Ok x)
+  reads_ok old new result y x done reads = record { disk = keeps_ok old new result y x done reads.disk; contents = reads.contents; no_first_stop = reads.no_first_stop }
 
-  -- one more that only reads, whose answer is told
-  pub reads_on : {S T : Type 0} (old mid new : D) (first : Result S DiskError) (result : Result T DiskError) → OnlyReads g old mid first → OnlyReads g mid new result → OnlyReads g old new result
-  reads_on old mid new first result before reads = record {
-    disk = keeps_on old mid new first result before.disk reads.disk;
+  -- one more that only reads, whose answer is told, and which followed no error
+  pub reads_on : {S T : Type 0} (old mid new : D) (first : Result S DiskError) (y : S) (result : Result T DiskError) → first ≡ Ok y → OnlyReads g old mid first → OnlyReads g mid new result → OnlyReads g old new result
+  reads_on old mid new first y result done before reads = record {
+    disk = keeps_on old mid new first y result done before.disk reads.disk;
     contents = λ told. same_on old mid new (before.contents told) (reads.contents told);
     no_first_stop = λ none. reads.no_first_stop (before.no_first_stop none);
   }

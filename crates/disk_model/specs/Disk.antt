@@ -1,5 +1,5 @@
 -- What a disk holds, and what a crash may leave of it. An image is the list of a disk's bytes.
-use Rattle.std.specs.Prelude.{◌≡◌, ℕ, ◌+◌, ◌<◌, ◌≤◌, ◌⊎◌, List, ◌++◌, length, take, drop, slice_index, Result, Err}
+use Rattle.std.specs.Prelude.{◌≡◌, ◌≢◌, ℕ, ◌+◌, ◌<◌, ◌≤◌, ◌⊎◌, List, ◌++◌, length, take, drop, slice_index, Result, Err}
 use Rattle.counts.specs.Count.{raised, Rose}
 use Rattle.disk_model.specs.declared.disk.DiskError.{DiskError}
 use Rattle.disk_model.specs.declared.disk.DiskError.TheVariants.{Failed, Stopped}
@@ -43,12 +43,14 @@ pub record Elapses (before now : ℕ) (past since : ℕ → List ℕ → Type 0)
   pub nothing_else : (t : ℕ) (c : List ℕ) → t ≤ before → since t c → past t c ⊎ may_leave c
   pub keeps : (t : ℕ) (c : List ℕ) → t ≤ before → past t c → since t c
 
--- Neither count fell over a call, and it told an error only where that error's count rose.
+-- Neither count fell over a call, and each rose where the call told that count's error, and nowhere else.
 pub record HasCause {T : Type 0} (faults faults' stops stops' : ℕ) (result : Result T DiskError) : Type 0 where
   pub faults_kept : faults ≤ faults'
   pub stops_kept : stops ≤ stops'
   pub failed : result ≡ Err Failed → Rose faults faults'
   pub stopped : result ≡ Err Stopped → Rose stops stops'
+  pub faults_still : result ≢ Err Failed → faults' ≡ faults
+  pub stops_still : result ≢ Err Stopped → stops' ≡ stops
 
 -- how many calls have passed after a write or a sync: a stopped one hasn't
 abbrev pub passed_after : ℕ → Result (Unit {0}) DiskError → ℕ

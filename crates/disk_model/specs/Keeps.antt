@@ -5,8 +5,8 @@ use Rattle.disk_model.specs.Moments.{LeavesOnly}
 use Rattle.disk_model.specs.declared.disk.Disk.{Ghosts}
 use Rattle.disk_model.specs.declared.disk.DiskError.{DiskError}
 
--- Every call, and every run of them, keeps the disk's size and what it was made of, and tells an error only where that
--- error's count rose. A disk that tells was not restarted.
+-- Every call, and every run of them that ends at its first error, keeps the disk's size and what it was made of, and a count rose exactly where
+-- that count's error is told. A disk that tells was not restarted.
 pub record KeepsDisk {D T : Type 0} (g : Ghosts D) (old new : D) (result : Result T DiskError) : Type 0 where
   pub extent : g.extent new ≡ g.extent old
   pub origin : g.origin new ≡ g.origin old

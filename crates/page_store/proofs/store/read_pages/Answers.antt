@@ -30,5 +30,5 @@ loop-p-preserved g c =
           c.deref.ensures.value ∙ c.in_ok-frames.ensures.bytes told ∙ ap (λ (l : List ℕ). part l c.frame_at.result (some * 1056)) (so_far.disk.contents told).bytes
           ∙ ap (λ (at : ℕ). part image at (some * 1056)) c.frame_at.ensures.place ∙ ap (λ (n : ℕ). part image place n) long in
           c.in_ok-take_pages.ensures.read c.args.plan.now.log_bytes image frames (so_far.read told);
-      disk = reads_on g.D.Disk c.args.disk.now c.loop-p.disk c.read_bytes.new.disk _ _ so_far.disk c.in_ok-frames.ensures.disk;
+      disk = reads_on g.D.Disk c.args.disk.now c.loop-p.disk c.read_bytes.new.disk _ tt _ refl so_far.disk c.in_ok-frames.ensures.disk;
     }
