@@ -7,12 +7,12 @@ use Rattle.log_machine.specs.Machine.{State, put_all, writes_of}
 use Rattle.graph_words.specs.Places.{Places}
 
 -- the words of the object at an address
-abbrev pub object_words_at : List ℕ → ℕ → List ℕ
-object_words_at words at = slice_index words at ∷ birth_at words at ∷ field_words words at
+abbrev pub words_to_copy : List ℕ → ℕ → List ℕ
+words_to_copy words at = slice_index words at ∷ birth_at words at ∷ field_words words at
 
 -- its copy, in the next words that are not used
 abbrev pub next_copy : State → List ℕ → ℕ → ObjectCopy
-next_copy s words from = record { from = from; to = s.base + s.used; words = object_words_at words from }
+next_copy s words from = record { from = from; to = s.base + s.used; words = words_to_copy words from }
 
 -- the words behind it
 abbrev pub copied_words : State → List ℕ → ℕ → List ℕ

@@ -17,19 +17,19 @@ use Rattle.log_machine.specs.Machine.{State, put_all, words_in, writes_of}
 use Rattle.log_machine.specs.Sound.{IsSpaced}
 use Rattle.graph_words.specs.Places.{Places, address_of, addresses}
 use Rattle.collection_words.specs.Completed.{IsMade, in_other_space, moves_from, places_from, taken_by}
-use Rattle.collection_words.specs.Copying.{object_words_at}
+use Rattle.collection_words.specs.Copying.{words_to_copy}
 use Rattle.collection_words.specs.LaidOut.{EachField, IsLaidOut}
 use Rattle.collection_words.specs.Placed.{Ascend}
 use Rattle.collection_words.specs.Relocated.{HaveSameIds}
 use Rattle.heap_words.specs.declared.TheConstants.{STABLE_WORDS}
 
 -- the copies of the objects at these addresses, end to end from an address on
-abbrev pub flip_copies : List ℕ → List ℕ → ℕ → List ObjectCopy
-flip_copies words roots to = map (λ m. record { from = m.0; to = m.1; words = object_words_at words m.0 }) (moves_from words roots to)
+abbrev pub copies_of_flip : List ℕ → List ℕ → ℕ → List ObjectCopy
+copies_of_flip words roots to = map (λ m. record { from = m.0; to = m.1; words = words_to_copy words m.0 }) (moves_from words roots to)
 
 -- the words behind a flip that copies them into the other space
 abbrev pub flipped_words : State → List ℕ → List ℕ → List ℕ
-flipped_words s words roots = put_all words (flat_map writes_of (flip_copies words roots (other_base s)))
+flipped_words s words roots = put_all words (flat_map writes_of (copies_of_flip words roots (other_base s)))
 
 -- An object was copied, and where it stood is a forwarding word.
 pub record WasCopied (n : State) (places : Places) (words moved : List ℕ) (id : Id) (at : ℕ) : Type 0 where

@@ -21,9 +21,9 @@ abbrev pub EachField : List ℕ → ℕ → (ℕ → ℕ → Type 0) → Type 0
 EachField words at P = (n i : ℕ) → object_at words at ≡ Some n → i < n → P i (slice_index words (field_at at i))
 
 -- a field of an object is gray: it may still lead to the from-space
-abbrev pub is_gray : Option Collection → ℕ → ℕ → Bool
-is_gray None object field = false
-is_gray (Some k) object field = contains k.gray object
+abbrev pub is_gray_field : Option Collection → ℕ → ℕ → Bool
+is_gray_field None object field = false
+is_gray_field (Some k) object field = contains k.gray object
 
 -- a field that is null, a number, a reference to an object of an area, or one to the start of one of these objects
 abbrev pub LeadsHere : List ℕ → Option Word → Type 0
@@ -47,15 +47,15 @@ AreOldEndToEnd words from [] end = from ≡ end
 AreOldEndToEnd words from (at ∷ rest) end = (n : ℕ) × (at ≡ from) × (old_length words at ≡ Some n) × AreOldEndToEnd words (at + 2 + n) rest end
 
 -- an object of the from-space whose place was copied is forwarded to one of these objects, and no other one is forwarded
-abbrev pub IsForwarded : List ℕ → List ℕ → ℕ → Bool → Type 0
-IsForwarded words starts at true = (to : ℕ) × (header (slice_index words at) ≡ Some (Forward to)) × Contains starts to
-IsForwarded words starts at false = (n : ℕ) × (object_at words at ≡ Some n)
+abbrev pub StandsOrForwards : List ℕ → List ℕ → ℕ → Bool → Type 0
+StandsOrForwards words starts at true = (to : ℕ) × (header (slice_index words at) ≡ Some (Forward to)) × Contains starts to
+StandsOrForwards words starts at false = (n : ℕ) × (object_at words at ≡ Some n)
 
 -- How the from-space of a collection is.
 pub record IsFromSpace (s : State) (k : Collection) (places remaining : Places) (words : List ℕ) : Type 0 where
   pub starts : List ℕ  -- the addresses of its objects, forwarded or not
   pub chain : AreOldEndToEnd words (other_base s) starts (other_base s + k.used)
-  pub forwarded : (at : ℕ) → Contains starts at → IsForwarded words (addresses places) at (contains k.moved at)
+  pub forwarded : (at : ℕ) → Contains starts at → StandsOrForwards words (addresses places) at (contains k.moved at)
   pub left : addresses remaining ≡ filter (λ at. not (contains k.moved at)) starts
   pub sum : k.copied + taken_by words (addresses remaining) ≡ k.used
   pub grays : (at : ℕ) → contains k.gray at ≡ true → Contains (addresses places) at
@@ -66,7 +66,7 @@ pub record IsFromSpace (s : State) (k : Collection) (places remaining : Places) 
 -- from-space has what remains.
 pub record IsLaidOut (s : State) (places remaining : Places) (words : List ℕ) : Type 0 where
   pub filled : IsFilled words s.base s.used (addresses places)
-  pub here : (at : ℕ) → Contains (addresses places) at → EachField words at (λ i w. is_gray s.collection at i ≡ false → LeadsHere (addresses places) (meaning w))
+  pub here : (at : ℕ) → Contains (addresses places) at → EachField words at (λ i w. is_gray_field s.collection at i ≡ false → LeadsHere (addresses places) (meaning w))
   pub from : MatchOption s.collection (remaining ≡ []) (λ k. IsFromSpace s k places remaining words)
 
 -- A collection is under way, and the words of a heap are laid out.

@@ -11,7 +11,7 @@ ghost use Rattle.log_machine.specs.declared.UndoEntry.{UndoEntry};
 ghost use Rattle.graph_words.specs.Places.{Places, address_of, addresses};
 ghost use Rattle.graph_words.specs.Stands.{Stands};
 ghost use Rattle.collection_words.specs.Completed.{IsMade, completed, followed, future};
-ghost use Rattle.collection_words.specs.LaidOut.{IsLaidOut, IsUnderway, is_gray};
+ghost use Rattle.collection_words.specs.LaidOut.{IsLaidOut, IsUnderway, is_gray_field};
 ghost use Rattle.collection_words.specs.Placed.{ArePlacedIn};
 ghost use Rattle.collection_words.specs.Relocated.{AreRelocatedEntries, IsRelocated};
 ghost use Rattle.collection_words.specs.Writes.{AreBacked, IsCurrentField, IsHereWrite};
@@ -33,7 +33,7 @@ pub fn completed_words_have_each_object()
 
 /// A field that is not gray has its own word in the completed words.
 pub fn fields_that_are_not_gray_are_complete()
-    ensures { (s : State) (k : Collection) (places remaining : Places) (words : List ℕ) (at n i : ℕ) → IsUnderway s k places remaining words → Contains (addresses places) at → object_at words at ≡ Some n → i < n → is_gray s.collection at i ≡ false → slice_index (completed s places remaining words) (field_at at i) ≡ slice_index words (field_at at i) }
+    ensures { (s : State) (k : Collection) (places remaining : Places) (words : List ℕ) (at n i : ℕ) → IsUnderway s k places remaining words → Contains (addresses places) at → object_at words at ≡ Some n → i < n → is_gray_field s.collection at i ≡ false → slice_index (completed s places remaining words) (field_at at i) ≡ slice_index words (field_at at i) }
 {}
 
 /// An object that is current lies in the used words, without what is owed to the collection.

@@ -18,7 +18,7 @@ use Rattle.core_laws.specs.Valid.{IsReached, IsValid}
 
 -- A page can be scanned: an event that scans it has the records of its scan, and behind these a collection still runs, in which no object that
 -- starts in the page is gray.
-pub record IsScanned (c : Core) (s : State) (k : Collection) (page : ℕ) : Type 0 where
+pub record CanBeScanned (c : Core) (s : State) (k : Collection) (page : ℕ) : Type 0 where
   pub records : List Record
   pub planned : scan_records (spaces_of s) k (all_words c) page ≡ Some records
   pub appended : own_records c Scan ≡ records
@@ -31,7 +31,7 @@ pub record IsScanned (c : Core) (s : State) (k : Collection) (page : ℕ) : Type
 -- A scan does something: the next page in which a gray object starts can be scanned, and nothing that starts in it is gray then.
 abbrev pub ScanTheorem : Type 0
 ScanTheorem =
-    (c : Core) (s : State) (k : Collection) (page : ℕ) → IsValid c → state_behind c (all_records c) ≡ Some s → s.collection ≡ Some k → next_page (Some k) ≡ Some page → IsScanned c s k page
+    (c : Core) (s : State) (k : Collection) (page : ℕ) → IsValid c → state_behind c (all_records c) ≡ Some s → s.collection ≡ Some k → next_page (Some k) ≡ Some page → CanBeScanned c s k page
 
 -- A transaction never holds what remains in the from-space: each of its handles holds a current object, or one that it made.
 abbrev pub HoldsTheorem : Type 0

@@ -24,14 +24,14 @@ use Rattle.heap_model.specs.Core.{Core, log_start, all_records, all_words, used,
 use Rattle.heap_model.specs.CoreTold.{IsTold, HoldsAtHand, IsNumbered}
 
 -- A write of a field of an object that is locked exclusively.
-pub record IsLocked (places : Places) (locks : List Lock) (u : UndoEntry) : Type 0 where
+pub record IsLockedWrite (places : Places) (locks : List Lock) (u : UndoEntry) : Type 0 where
   pub id : Id
   pub object : address_of places id ≡ Some u.object
   pub lock : Contains locks (id, Exclusive)
 
 -- each of these writes is such
-abbrev pub AreLocked : Places → List Lock → List UndoEntry → Type 0
-AreLocked places locks undo = AllByRecursion (IsLocked places locks) undo
+abbrev pub AreLockedWrites : Places → List Lock → List UndoEntry → Type 0
+AreLockedWrites places locks undo = AllByRecursion (IsLockedWrite places locks) undo
 
 -- none of the objects that these locks hold is in these places
 abbrev pub AreUnlocked : Places → List Lock → Type 0
@@ -45,7 +45,7 @@ pub record IsWriting (places remaining : Places) (v : View) (t : ℕ) (locks : L
   pub apart : (k : ℕ) → address_of remaining (made_by t k) ≡ None
   pub written : AreWritten (completed_places state places remaining words) v.graph (undo_of state t)
   pub fields : AreOfFields places v.graph (undo_of state t)
-  pub locked : AreLocked places locks (undo_of state t)
+  pub locked : AreLockedWrites places locks (undo_of state t)
   pub unlocked : AreUnlocked remaining locks
   pub handles : AllByRecursion (HoldsAtHand places t v.made) v.registers
 

@@ -11,15 +11,15 @@ use Rattle.log_machine.specs.Collecting.{pairs_of}
 use Rattle.log_records.specs.Copies.{AreFew}
 use Rattle.log_records.specs.declared.copies.ObjectCopy.{ObjectCopy}
 use Rattle.relocation.specs.Relocation.{IsRelocation}
-use Rattle.flip_copy.specs.Copied.{moved_object, moved_objects, size_of}
+use Rattle.flip_copy.specs.Copied.{moved_object, moved_objects, copied_size}
 use Rattle.flip_copy.specs.Plan.{HasObjectSize, StoodInOrder, StandEndToEnd, AreCopies, AreCopiesOf}
 
 -- the words of a copy and those of the copies behind it
-pub size_more : (copy : ObjectCopy) (copies : List ObjectCopy) → size_of (copy ∷ copies) ≡ length copy.words + size_of copies
+pub size_more : (copy : ObjectCopy) (copies : List ObjectCopy) → copied_size (copy ∷ copies) ≡ length copy.words + copied_size copies
 size_more copy copies = sum_by-cons (λ (c : ObjectCopy). length c.words) copy copies
 
 -- a collection counts as many words
-pub moved_size : (copies : List ObjectCopy) → sum_by (λ (c : CopiedObject). c.words) (moved_objects copies) ≡ size_of copies
+pub moved_size : (copies : List ObjectCopy) → sum_by (λ (c : CopiedObject). c.words) (moved_objects copies) ≡ copied_size copies
 moved_size [] = omega arith
 moved_size (copy ∷ copies) =
     let more = size_more copy copies in
@@ -28,7 +28,7 @@ moved_size (copy ∷ copies) =
     omega arith
 
 -- objects one behind another have no more words than those between which they stood
-pub ordered_size : (from end : ℕ) (copies : List ObjectCopy) → StoodInOrder from end copies → from + size_of copies ≤ end
+pub ordered_size : (from end : ℕ) (copies : List ObjectCopy) → StoodInOrder from end copies → from + copied_size copies ≤ end
 ordered_size from end [] ordered = omega arith
 ordered_size from end (copy ∷ copies) ordered =
     let more = size_more copy copies in
@@ -46,7 +46,7 @@ ordered_ascend from end (a ∷ b ∷ rest) sized ordered (suc k) within =
     subst (λ (j : ℕ). slice_index xs (suc k) < slice_index xs j) next (ordered_ascend (a.from + length a.words) end (b ∷ rest) sized.1 ordered.1 k (omega arith))
 
 -- where copies end to end stand is below where the last of them ends
-pub together_below : (to bound : ℕ) (copies : List ObjectCopy) → AllByRecursion HasObjectSize copies → StandEndToEnd to copies → to + size_of copies ≤ bound → All (λ (pair : ℕ × ℕ). pair.1 < bound) (pairs_of copies)
+pub together_below : (to bound : ℕ) (copies : List ObjectCopy) → AllByRecursion HasObjectSize copies → StandEndToEnd to copies → to + copied_size copies ≤ bound → All (λ (pair : ℕ × ℕ). pair.1 < bound) (pairs_of copies)
 together_below to bound [] sized together within = All-nil (λ (pair : ℕ × ℕ). pair.1 < bound)
 together_below to bound (copy ∷ copies) sized together within =
     let more = size_more copy copies in
@@ -55,14 +55,14 @@ together_below to bound (copy ∷ copies) sized together within =
     (together_below (to + length copy.words) bound copies sized.1 together.1 (omega arith))
 
 -- copies of objects that stood in order, end to end within the largest heap, are a relocation
-pub copies_move : (from end to : ℕ) (copies : List ObjectCopy) → AreCopies from end to copies → to + size_of copies ≤ 2097152 → IsRelocation (pairs_of copies)
+pub copies_move : (from end to : ℕ) (copies : List ObjectCopy) → AreCopies from end to copies → to + copied_size copies ≤ 2097152 → IsRelocation (pairs_of copies)
 copies_move from end to copies are within = record {
   ascending = ordered_ascend from end copies are.sized are.ordered;
   inside = together_below to 2097152 copies are.sized are.together within;
 }
 
 -- each copy has two words at least
-pub count_least : (copies : List ObjectCopy) → AllByRecursion HasObjectSize copies → 2 * length copies ≤ size_of copies
+pub count_least : (copies : List ObjectCopy) → AllByRecursion HasObjectSize copies → 2 * length copies ≤ copied_size copies
 count_least [] sized = omega arith
 count_least (copy ∷ copies) sized =
     let more = size_more copy copies in
@@ -75,7 +75,7 @@ words_most [] sized = tt
 words_most (copy ∷ copies) sized = (sized.0.most, words_most copies sized.1)
 
 -- so they have a spelling's count and sizes
-pub copies_few : (copies : List ObjectCopy) → AllByRecursion HasObjectSize copies → size_of copies ≤ 2097152 → AreFew copies
+pub copies_few : (copies : List ObjectCopy) → AllByRecursion HasObjectSize copies → copied_size copies ≤ 2097152 → AreFew copies
 copies_few copies sized within = let least = count_least copies sized in record { count = omega arith; words = words_most copies sized }
 
 -- where the other space begins
@@ -92,7 +92,7 @@ used_within spaces is = elim is.first [
 ]
 
 -- the copies of a plan take no more words than were used
-pub planned_size : (spaces : SpacesState) (copies : List ObjectCopy) → AreCopiesOf spaces copies → size_of copies ≤ spaces.used
+pub planned_size : (spaces : SpacesState) (copies : List ObjectCopy) → AreCopiesOf spaces copies → copied_size copies ≤ spaces.used
 planned_size spaces copies are = let fits = ordered_size spaces.base (spaces.base + spaces.used) copies are.ordered in omega arith
 
 pub planned_moves : (spaces : SpacesState) (copies : List ObjectCopy) → IsSpaces spaces → AreCopiesOf spaces copies → IsRelocation (pairs_of copies)

@@ -22,7 +22,7 @@ use Rattle.log_machine.proofs.MapLaws.{itself}
 use Rattle.log_records.specs.declared.copies.ObjectCopy.{ObjectCopy}
 use Rattle.object_layout.proofs.WalkLaws.{Contains-head, Contains-rest, Contains-cases, Contains-none}
 use Rattle.relocation.specs.Relocation.{destination, moved_to}
-use Rattle.flip_copy.specs.Copied.{object_words_at, copies_from, with_base, moved_objects, size_of}
+use Rattle.flip_copy.specs.Copied.{object_words_at, copies_from, with_base, moved_objects, copied_size}
 use Rattle.flip_copy.specs.Flipped.{IsRooted, IsPlanned, with_flip}
 use Rattle.flip_copy.specs.Plan.{HasObjectSize, StandEndToEnd}
 use Rattle.flip_copy.proofs.CopiesLaws.{size_more, moved_size, ordered_size}
@@ -31,10 +31,10 @@ use Rattle.flip_copy.proofs.ObjectWordsLaws.{words_object, object_words-length}
 
 -- The spaces.
 
-pub flip_spaces : (s : State) (copies : List ObjectCopy) → spaces_of (with_flip s copies) ≡ with_copied (flipped (spaces_of s)) (size_of copies)
+pub flip_spaces : (s : State) (copies : List ObjectCopy) → spaces_of (with_flip s copies) ≡ with_copied (flipped (spaces_of s)) (copied_size copies)
 flip_spaces s copies =
-    let counted : s.used - (0 + sum_by (λ (c : CopiedObject). c.words) (moved_objects copies)) ≡ s.used - size_of copies = let same = moved_size copies in omega arith in
-    let used : size_of copies ≡ 0 + size_of copies = omega arith in
+    let counted : s.used - (0 + sum_by (λ (c : CopiedObject). c.words) (moved_objects copies)) ≡ s.used - copied_size copies = let same = moved_size copies in omega arith in
+    let used : copied_size copies ≡ 0 + copied_size copies = omega arith in
     λ i. record { pages = s.pages; base = other_base s; used = used i; owed = counted i }
 
 -- The entries.
@@ -82,11 +82,11 @@ abbrev LiesWithin : ℕ → ℕ → ObjectCopy → Type 0
 LiesWithin to size copy = (to ≤ copy.to) × (copy.to + length copy.words ≤ to + size)
 
 -- each copy lies within the words of all
-copied_within : (copies : List ObjectCopy) (to from : ℕ) (copy : ObjectCopy) → StandEndToEnd to copies → copy_of copies from ≡ Some copy → LiesWithin to (size_of copies) copy
+copied_within : (copies : List ObjectCopy) (to from : ℕ) (copy : ObjectCopy) → StandEndToEnd to copies → copy_of copies from ≡ Some copy → LiesWithin to (copied_size copies) copy
 copied_within [] to from copy together is = absurd (cc is)
 copied_within (c ∷ copies) to from copy together is = choose (c.from == from) (copied_within copies (to + length c.words) from copy together.1) is
   where
-    choose : (b : Bool) → (copy_of copies from ≡ Some copy → LiesWithin (to + length c.words) (size_of copies) copy) → (if b then Some c else copy_of copies from) ≡ Some copy → LiesWithin to (size_of (c ∷ copies)) copy
+    choose : (b : Bool) → (copy_of copies from ≡ Some copy → LiesWithin (to + length c.words) (copied_size copies) copy) → (if b then Some c else copy_of copies from) ≡ Some copy → LiesWithin to (copied_size (c ∷ copies)) copy
     choose true later e =
         let same : c ≡ copy = cc e in
         let here : copy.to ≡ to = sym (ap (λ (k : ObjectCopy). k.to) same) ∙ together.0 in
@@ -100,7 +100,7 @@ copied_within (c ∷ copies) to from copy together is = choose (c.from == from) 
 
 -- an entry's field lies within the copies
 entry_inside : (words : List ℕ) (to : ℕ) (ats : List ℕ) (u : UndoEntry) → let copies = copies_from words to ats in
-    AllByRecursion HasObjectSize copies → StandEndToEnd to copies → IsRooted words ats u → LiesInside to (size_of copies) (translated_entry (pairs_of copies) u)
+    AllByRecursion HasObjectSize copies → StandEndToEnd to copies → IsRooted words ats u → LiesInside to (copied_size copies) (translated_entry (pairs_of copies) u)
 entry_inside words to ats u sized together rooted =
     let copies = copies_from words to ats in
     let found = found_copy words to ats u.object rooted.object in
@@ -115,7 +115,7 @@ entry_inside words to ats u sized together rooted =
 
 entries_inside : (words : List ℕ) (to : ℕ) (ats : List ℕ) (us : List UndoEntry) → let copies = copies_from words to ats in
     AllByRecursion HasObjectSize copies → StandEndToEnd to copies → ((u : UndoEntry) → Contains us u → IsRooted words ats u)
-    → AllByRecursion (LiesInside to (size_of copies)) (translated_list (pairs_of copies) us)
+    → AllByRecursion (LiesInside to (copied_size copies)) (translated_list (pairs_of copies) us)
 entries_inside words to ats [] sized together each = tt
 entries_inside words to ats (u ∷ us) sized together each = (
   entry_inside words to ats u sized together (each u (Contains-head u us)),
@@ -141,7 +141,7 @@ flip_losers s words roots is t us found =
       some = λ none. some_mapped pairs back.0 loser.some (back.2 ∙ none);
       number = loser.number;
       known = loser.known;
-      inside = subst (λ (vs : List UndoEntry). AllByRecursion (LiesInside (other_base s) (size_of copies)) vs) back.2
+      inside = subst (λ (vs : List UndoEntry). AllByRecursion (LiesInside (other_base s) (copied_size copies)) vs) back.2
           (entries_inside words (other_base s) ats back.0 is.copied.sized is.copied.together (is.rooted t back.0 back.1));
     }
 

@@ -16,7 +16,7 @@ use Rattle.heap_spaces.specs.Addresses.{with_all}
 use Rattle.heap_spaces.specs.Collection.{Collection, gray_from}
 use Rattle.heap_spaces.specs.Copying.{begun, with_copies}
 use Rattle.heap_spaces.specs.declared.collection.CopiedObject.{CopiedObject}
-use Rattle.log_machine.specs.Collecting.{other_base, can_move, can_hold, with_moved, with_copy, copied_in, copy_after, copies_after, pairs_of, copy_of, has_field, follows_copies, can_translate, can_translate_all, translated_undo, begins_at, with_roles_changed, with_undo, flipped_in, collecting_after}
+use Rattle.log_machine.specs.Collecting.{other_base, can_move, can_hold, with_moved, with_copy, copied_while, copy_after, copies_after, pairs_of, copy_of, has_field, follows_copies, can_translate, can_translate_all, translated_undo, begins_at, with_roles_changed, with_undo, flipped_in, collecting_after}
 use Rattle.log_machine.specs.Machine.{State, space_words, spaces_of}
 use Rattle.log_machine.specs.Sound.{IsSpaced}
 use Rattle.log_machine.specs.declared.UndoEntry.{UndoEntry}
@@ -24,7 +24,7 @@ use Rattle.log_machine.proofs.MapLaws.{tied, each_entry}
 use Rattle.log_records.specs.declared.copies.ObjectCopy.{ObjectCopy}
 use Rattle.log_records.specs.declared.Record.TheVariants.{Flip}
 use Rattle.object_layout.proofs.WalkLaws.{Contains-head, Contains-rest, Contains-cases, Contains-none}
-use Rattle.flip_copy.specs.Copied.{object_words_at, copies_from, with_base, flip_record, moved_object, moved_objects, size_of}
+use Rattle.flip_copy.specs.Copied.{object_words_at, copies_from, with_base, flip_record, moved_object, moved_objects, copied_size}
 use Rattle.flip_copy.specs.Flipped.{IsRooted, IsPlanned, with_flip}
 use Rattle.flip_copy.specs.Plan.{HasObjectSize, StoodInOrder, StandEndToEnd}
 use Rattle.flip_copy.proofs.CopiesLaws.{size_more, ordered_size}
@@ -65,7 +65,7 @@ below_insert set from bound next below after far q is =
 
 -- the state when these are copied in a collection
 abbrev with_all_copied : State → Collection → List ObjectCopy → State
-with_all_copied s k copies = record s { used = s.used + size_of copies; collection = Some (with_copies k (moved_objects copies)) }
+with_all_copied s k copies = record s { used = s.used + copied_size copies; collection = Some (with_copies k (moved_objects copies)) }
 
 can_copy : (s : State) (k : Collection) (behind : ℕ) (copy : ObjectCopy) → 2 ≤ length copy.words → behind ≤ copy.from → copy.from + length copy.words ≤ other_base s + k.used → copy.to ≡ s.base + s.used
     → other_base s + k.copied ≤ behind → s.used ≡ k.copied → k.used ≤ space_words s.pages → AreBelow k.moved behind
@@ -88,7 +88,7 @@ all_copied : (copies : List ObjectCopy) (s : State) (k : Collection) (behind : �
     → other_base s + k.copied ≤ behind → s.used ≡ k.copied → k.used ≤ space_words s.pages → AreBelow k.moved behind
     → copies_after s copies ≡ Some (with_all_copied s k copies)
 all_copied [] s k behind runs sized ordered together covered even few below =
-    let none : s.used ≡ s.used + size_of [] = omega arith in
+    let none : s.used ≡ s.used + copied_size [] = omega arith in
     let nothing : k.copied ≡ k.copied + sum_by (λ (c : CopiedObject). c.words) [] = omega arith in
     let same : s.collection ≡ Some (with_copies k []) = runs ∙ (λ i. Some (record k { copied = nothing i })) in
     λ i. Some (record s { used = none i; collection = same i })
@@ -98,7 +98,7 @@ all_copied (copy ∷ copies) s k behind runs sized ordered together covered even
     let fits = ordered_size (copy.from + size) (other_base s + k.used) copies ordered.1 in
     let test = can_copy s k behind copy least ordered.0 (omega arith) together.0 covered even few below in
     let first : copy_after s copy ≡ Some (with_copy s k copy) =
-    ap (copied_in s copy) runs ∙ copied_one s k copy (can_move s k copy.from size && can_hold s copy.to size) test in
+    ap (copied_while s copy) runs ∙ copied_one s k copy (can_move s k copy.from size && can_hold s copy.to size) test in
     let k' = with_moved k copy.from copy.to copy.words in
     let place : s.base + (s.used + size) ≡ s.base + s.used + size = omega arith in
     let rest : copies_after (with_copy s k copy) copies ≡ Some (with_all_copied (with_copy s k copy) k' copies) =
@@ -106,7 +106,7 @@ all_copied (copy ∷ copies) s k behind runs sized ordered together covered even
     (subst (λ (to : ℕ). StandEndToEnd to copies) (sym place) together.1)
     (let after = ordered.0 in omega arith) (omega arith) few (below_insert k.moved copy.from behind (copy.from + size) below ordered.0 (omega arith)) in
     let more = size_more copy copies in
-    let used : s.used + size + size_of copies ≡ s.used + size_of (copy ∷ copies) = omega arith in
+    let used : s.used + size + copied_size copies ≡ s.used + copied_size (copy ∷ copies) = omega arith in
     let moved = sum_by-cons (λ (c : CopiedObject). c.words) (moved_object copy) (moved_objects copies) in
     let counted : k.copied + size + sum_by (λ (c : CopiedObject). c.words) (moved_objects copies) ≡ k.copied + sum_by (λ (c : CopiedObject). c.words) (moved_objects (copy ∷ copies)) = omega arith in
     let f = λ (c : CopiedObject). gray_from c.to c.header in
@@ -228,7 +228,7 @@ planned_follows s words roots copies is =
     all_copied copies changed (begun s.used) s.base refl is.copied.sized
     (subst (λ (b : ℕ). StoodInOrder s.base (b + s.used) copies) (sym back) is.copied.ordered)
     (subst (λ (b : ℕ). StandEndToEnd b copies) (sym here) is.copied.together) (omega arith) refl few none in
-    let used : 0 + size_of copies ≡ size_of copies = omega arith in
+    let used : 0 + copied_size copies ≡ copied_size copies = omega arith in
     flipped_one copies s (begins_at s.base copies && can_translate_all copies s.undo) (copies_after changed copies) (with_all_copied changed (begun s.used) copies) (both_true _ _ begin go) left
     ∙ (λ i. Some (record s { base = to; used = used i; collection = Some (with_copies (begun s.used) (moved_objects copies)); undo = translated_undo (pairs_of copies) s.undo }))
 

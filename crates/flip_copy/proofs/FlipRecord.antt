@@ -13,7 +13,7 @@ use Rattle.object_layout.specs.Layout.{object_at, field_words}
 use Rattle.object_layout.proofs.LayoutLaws.{object_header, object_small, length-field_words}
 use Rattle.object_layout.proofs.ObjectLaws.{field_words_at}
 use Rattle.object_layout.proofs.WalkLaws.{Contains-head, Contains-rest}
-use Rattle.flip_copy.specs.Copied.{object_words_at, copies_from, with_base, root_copies, flip_record, size_of}
+use Rattle.flip_copy.specs.Copied.{object_words_at, copies_from, with_base, root_copies, flip_record, copied_size}
 use Rattle.flip_copy.specs.Plan.{HasObjectSize, StoodInOrder, AreCopiesOf, AreRecorded}
 use Rattle.flip_copy.proofs.CopiesLaws.{size_more, ordered_size, other_within, used_within, planned_size, planned_few}
 use Rattle.flip_copy.proofs.ObjectWordsLaws.{object_words, words_object}
@@ -40,7 +40,7 @@ object_recorded words at n is fit fields =
     (record { tells = head ∙ ap (λ (k : ℕ). header_bits (Length k)) (sym long); few = omega arith; birth_fits = fit (suc at); field_words = fields })
 
 copies_recorded : (words : List ℕ) (to : ℕ) (ats : List ℕ) (from end : ℕ) → AllByRecursion HasObjectSize (copies_from words to ats) → StoodInOrder from end (copies_from words to ats)
-    → end ≤ 2097152 → to + size_of (copies_from words to ats) ≤ 2097152 → AreRecorded words ats → AllByRecursion IsObjectCopy (copies_from words to ats)
+    → end ≤ 2097152 → to + copied_size (copies_from words to ats) ≤ 2097152 → AreRecorded words ats → AllByRecursion IsObjectCopy (copies_from words to ats)
 copies_recorded words to [] from end sized ordered low high fit = tt
 copies_recorded words to (at ∷ ats) from end sized ordered low high fit =
     let long = length (object_words_at words at) in

@@ -14,8 +14,8 @@ use Rattle.log_records.specs.declared.copies.ObjectCopy.{ObjectCopy}
 use Rattle.object_layout.specs.Layout.{whole_length, object_at}
 use Rattle.object_layout.proofs.LayoutLaws.{object_header}
 use Rattle.object_layout.proofs.WalkLaws.{Contains-cases, Contains-none}
-use Rattle.flip_copy.specs.Copied.{object_words_at, copies_from, with_base, root_copies, flip_record, size_of}
-use Rattle.flip_copy.specs.Moved.{HasMoved}
+use Rattle.flip_copy.specs.Copied.{object_words_at, copies_from, with_base, root_copies, flip_record, copied_size}
+use Rattle.flip_copy.specs.Moved.{IsCopiedObject}
 use Rattle.flip_copy.specs.Plan.{HasObjectSize, StoodInOrder, StandEndToEnd, AreCopiesOf}
 use Rattle.flip_copy.proofs.CopiesLaws.{size_more, ordered_size, planned_size}
 use Rattle.flip_copy.proofs.ObjectWordsLaws.{object_words, object_words-length, words_object}
@@ -52,7 +52,7 @@ one_beside now copy x other (inr after) =
 
 -- words stay that lie neither between which the objects stood nor among the copies
 all_beside : (copies : List ObjectCopy) (now : List ℕ) (behind end to x : ℕ) → AllByRecursion HasObjectSize copies → StoodInOrder behind end copies → StandEndToEnd to copies
-    → LiesOutside behind end x → LiesOutside to (to + size_of copies) x → get_or (put_all now (flat_map writes_of copies)) x 0 ≡ get_or now x 0
+    → LiesOutside behind end x → LiesOutside to (to + copied_size copies) x → get_or (put_all now (flat_map writes_of copies)) x 0 ≡ get_or now x 0
 all_beside [] now behind end to x sized ordered together stood copied = refl
 all_beside (copy ∷ copies) now behind end to x sized ordered together stood copied =
     let size = length copy.words in
@@ -64,7 +64,7 @@ all_beside (copy ∷ copies) now behind end to x sized ordered together stood co
     let other : x ≢ copy.from = λ same. elim stood [ inl less ↦ omega arith | inr past ↦ omega arith ] in
     let one : LiesOutside copy.to (copy.to + size) x = elim copied [ inl less ↦ inl (omega arith) | inr past ↦ inr (omega arith) ] in
     let later : LiesOutside (copy.from + size) end x = elim stood [ inl less ↦ inl (omega arith) | inr past ↦ inr past ] in
-    let rest : LiesOutside (to + size) (to + size + size_of copies) x = elim copied [ inl less ↦ inl (omega arith) | inr past ↦ inr (omega arith) ] in
+    let rest : LiesOutside (to + size) (to + size + copied_size copies) x = elim copied [ inl less ↦ inl (omega arith) | inr past ↦ inr (omega arith) ] in
     ap (λ (ws : List ℕ). get_or ws x 0) (put_first now copy copies)
     ∙ all_beside copies (with_one now copy) (copy.from + size) end (to + size) x sized.1 ordered.1 together.1 later rest
     ∙ one_beside now copy x other one
@@ -86,7 +86,7 @@ one_written now copy low high outside =
 
 -- so it does of all, where the spaces are apart
 all_written : (copies : List ObjectCopy) (now : List ℕ) (behind end to : ℕ) (copy : ObjectCopy) → AllByRecursion HasObjectSize copies → StoodInOrder behind end copies → StandEndToEnd to copies
-    → end ≤ length now → to + size_of copies ≤ length now → (end ≤ to) ⊎ (to + size_of copies ≤ behind) → Contains copies copy → IsWritten (put_all now (flat_map writes_of copies)) copy
+    → end ≤ length now → to + copied_size copies ≤ length now → (end ≤ to) ⊎ (to + copied_size copies ≤ behind) → Contains copies copy → IsWritten (put_all now (flat_map writes_of copies)) copy
 all_written [] now behind end to copy sized ordered together low high apart has = absurd (Contains-none copy has)
 all_written (c ∷ copies) now behind end to copy sized ordered together low high apart has =
     let size = length c.words in
@@ -96,11 +96,11 @@ all_written (c ∷ copies) now behind end to copy sized ordered together low hig
     let after = ordered.0 in
     let here = together.0 in
     let long = length-with_one now c in
-    let later : (end ≤ to + size) ⊎ (to + size + size_of copies ≤ c.from + size) = elim apart [ inl first ↦ inl (omega arith) | inr second ↦ inr (omega arith) ] in
+    let later : (end ≤ to + size) ⊎ (to + size + copied_size copies ≤ c.from + size) = elim apart [ inl first ↦ inl (omega arith) | inr second ↦ inr (omega arith) ] in
     let outside : LiesOutside c.to (c.to + size) c.from = elim apart [ inl first ↦ inl (omega arith) | inr second ↦ inr (omega arith) ] in
     let one = one_written now c (omega arith) (omega arith) outside in
     let all = put_all (with_one now c) (flat_map writes_of copies) in
-    let stays : (x : ℕ) → LiesOutside (c.from + size) end x → LiesOutside (to + size) (to + size + size_of copies) x → get_or all x 0 ≡ get_or (with_one now c) x 0 =
+    let stays : (x : ℕ) → LiesOutside (c.from + size) end x → LiesOutside (to + size) (to + size + copied_size copies) x → get_or all x 0 ≡ get_or (with_one now c) x 0 =
     λ x. all_beside copies (with_one now c) (c.from + size) end (to + size) x sized.1 ordered.1 together.1 in
     let first : IsWritten all c = record {
       forwarded = stays c.from (inl (omega arith)) (elim apart [ inl f ↦ inl (omega arith) | inr s ↦ inr (omega arith) ]) ∙ one.forwarded;
@@ -129,19 +129,19 @@ copy_sized (c ∷ copies) copy sized has = elim (Contains-cases c copies copy ha
 ]
 
 -- a copy lies within the words of all
-copy_ends : (copies : List ObjectCopy) (to : ℕ) (copy : ObjectCopy) → StandEndToEnd to copies → Contains copies copy → copy.to + length copy.words ≤ to + size_of copies
+copy_ends : (copies : List ObjectCopy) (to : ℕ) (copy : ObjectCopy) → StandEndToEnd to copies → Contains copies copy → copy.to + length copy.words ≤ to + copied_size copies
 copy_ends [] to copy together has = absurd (Contains-none copy has)
 copy_ends (c ∷ copies) to copy together has =
     let more = size_more c copies in
     let here = together.0 in
     elim (Contains-cases c copies copy has) [
-      | inl same ↦ subst (λ (k : ObjectCopy). k.to + length k.words ≤ to + size_of (c ∷ copies)) same (omega arith)
+      | inl same ↦ subst (λ (k : ObjectCopy). k.to + length k.words ≤ to + copied_size (c ∷ copies)) same (omega arith)
       | inr behind ↦ let rest = copy_ends copies (to + length c.words) copy together.1 behind in omega arith
     ]
 
 -- what is written of an object has moved
 written_moved : (before after : List ℕ) (copy : ObjectCopy) (n : ℕ) → object_at before copy.from ≡ Some n → copy.words ≡ object_words_at before copy.from → copy.to + (2 + n) ≤ length after
-    → IsWritten after copy → HasMoved before after copy
+    → IsWritten after copy → IsCopiedObject before after copy
 written_moved before after copy n is same high written =
     let long : length copy.words ≡ 2 + n = ap length same ∙ object_words-length before copy.from n is in
     let word : (i : ℕ) → i < length copy.words → get_or copy.words i 0 ≡ get_or before (copy.from + i) 0 =
@@ -167,7 +167,7 @@ written_moved before after copy n is same high written =
 
 -- Behind the record of a planned flip each object that it copies has moved.
 pub planned_moved : (spaces : SpacesState) (words roots : List ℕ) (copy : ObjectCopy) → IsSpaces spaces → words_in spaces.pages ≤ length words → AreCopiesOf spaces (root_copies spaces words roots)
-    → Contains (root_copies spaces words roots) copy → HasMoved words (put_record words (flip_record spaces words roots)) copy
+    → Contains (root_copies spaces words roots) copy → IsCopiedObject words (put_record words (flip_record spaces words roots)) copy
 planned_moved spaces words roots copy is long are has =
     let copies = root_copies spaces words roots in
     let to = (flipped spaces).base in
@@ -175,8 +175,8 @@ planned_moved spaces words roots copy is long are has =
     let size = planned_size spaces copies are in
     let room = is.room in
     let low : spaces.base + spaces.used ≤ length words = elim is.first [ inl first ↦ omega arith | inr second ↦ omega arith ] in
-    let high : to + size_of copies ≤ length words = elim is.first [ inl first ↦ omega arith | inr second ↦ omega arith ] in
-    let apart : (spaces.base + spaces.used ≤ to) ⊎ (to + size_of copies ≤ spaces.base) = elim is.first [ inl first ↦ inl (omega arith) | inr second ↦ inr (omega arith) ] in
+    let high : to + copied_size copies ≤ length words = elim is.first [ inl first ↦ omega arith | inr second ↦ omega arith ] in
+    let apart : (spaces.base + spaces.used ≤ to) ⊎ (to + copied_size copies ≤ spaces.base) = elim is.first [ inl first ↦ inl (omega arith) | inr second ↦ inr (omega arith) ] in
     let written = all_written copies words spaces.base (spaces.base + spaces.used) to copy are.sized are.ordered are.together low high apart has in
     let same = copy_same words to (with_base spaces.base roots) copy has in
     let least = (copy_sized copies copy are.sized has).least in

@@ -43,8 +43,8 @@ abbrev pub moved_objects : List ObjectCopy → List CopiedObject
 moved_objects copies = map moved_object copies
 
 -- how many words the copies have
-abbrev pub size_of : List ObjectCopy → ℕ
-size_of copies = sum_by (λ (copy : ObjectCopy). length copy.words) copies
+abbrev pub copied_size : List ObjectCopy → ℕ
+copied_size copies = sum_by (λ (copy : ObjectCopy). length copy.words) copies
 
 -- the copies that a record of a flip lists
 abbrev pub copies_in : Record → List ObjectCopy

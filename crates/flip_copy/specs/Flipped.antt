@@ -10,7 +10,7 @@ use Rattle.log_machine.specs.Sound.{IsConsistent}
 use Rattle.log_machine.specs.declared.UndoEntry.{UndoEntry}
 use Rattle.log_records.specs.declared.copies.ObjectCopy.{ObjectCopy}
 use Rattle.object_layout.specs.Layout.{object_at}
-use Rattle.flip_copy.specs.Copied.{root_copies, with_base, moved_objects, size_of}
+use Rattle.flip_copy.specs.Copied.{root_copies, with_base, moved_objects, copied_size}
 use Rattle.flip_copy.specs.Plan.{AreCopiesOf}
 
 -- An undo entry is of a field of one of the objects at these addresses, and so is what its word leads to, where that is a stable object.
@@ -27,7 +27,7 @@ AreRooted words roots s = EachKeyed (λ t entries. (u : UndoEntry) → Contains 
 abbrev pub with_flip : State → List ObjectCopy → State
 with_flip s copies = record s {
   base = other_base s;
-  used = size_of copies;
+  used = copied_size copies;
   collection = Some (with_copies (begun s.used) (moved_objects copies));
   undo = translated_undo (pairs_of copies) s.undo;
 }

@@ -40,7 +40,7 @@ abbrev pub AreCopiesOf : SpacesState → List ObjectCopy → Type 0
 AreCopiesOf spaces copies = AreCopies spaces.base (spaces.base + spaces.used) (flipped spaces).base copies
 
 -- What is kept of a plan: the record, where its objects go, and what a collection keeps of its copies.
-pub record IsPlan (rec : Record) (pairs : List (ℕ × ℕ)) (moved : List CopiedObject) : Type 0 where
+pub record IsFlipPlan (rec : Record) (pairs : List (ℕ × ℕ)) (moved : List CopiedObject) : Type 0 where
   pub flip : rec ≡ Flip (copies_in rec)
   pub pairs_are : pairs ≡ pairs_of (copies_in rec)
   pub moved_are : moved ≡ moved_objects (copies_in rec)

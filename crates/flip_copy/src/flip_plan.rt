@@ -5,7 +5,7 @@ ghost use Rattle.log_machine.specs.Collecting.{pairs_of};
 ghost use Rattle.log_records.specs.Copies.{AreFew};
 ghost use Rattle.log_records.specs.declared.Record.TheVariants.{Flip};
 ghost use Rattle.relocation.specs.Relocation.{IsRelocation};
-ghost use Rattle.flip_copy.specs.Copied.{moved_object, moved_objects, size_of};
+ghost use Rattle.flip_copy.specs.Copied.{moved_object, moved_objects, copied_size};
 
 use heap_spaces::CopiedObject;
 use log_records::{Copies, ObjectCopy, Record};
@@ -25,7 +25,7 @@ impl Model for FlipPlan {
     ghost use Rattle.log_records.specs.declared.copies.ObjectCopy.{ObjectCopy};
     ghost use Rattle.log_records.specs.CopiesCode.{copies_code};
     ghost use Rattle.flip_copy.specs.Copied.{copies_in};
-    ghost use Rattle.flip_copy.specs.Plan.{IsPlan};
+    ghost use Rattle.flip_copy.specs.Plan.{IsFlipPlan};
 
     ghost Value = { List ObjectCopy };
 
@@ -33,7 +33,7 @@ impl Model for FlipPlan {
 
     ghost view = { λ s. copies_in s.rec };
 
-    ghost invariant = { λ s. IsPlan s.rec s.pairs.items s.moved.items };
+    ghost invariant = { λ s. IsFlipPlan s.rec s.pairs.items s.moved.items };
 }
 
 impl FlipPlan {
@@ -72,7 +72,7 @@ impl FlipPlan {
     #[tactic(auto, using(crate::proofs::CopiesLaws::moved_size))]
     pub fn moved(&self) -> &[CopiedObject]
         ensures moved { result.now ≡ moved_objects self.now }
-        ensures size { sum_by (λ (c : CopiedObject). c.words) result.now ≡ size_of self.now }
+        ensures size { sum_by (λ (c : CopiedObject). c.words) result.now ≡ copied_size self.now }
     {
         &self.moved
     }

@@ -9,9 +9,9 @@ ghost use Rattle.log_machine.specs.Sound.{IsConsistent};
 ghost use Rattle.log_machine.specs.Translation.{translated_list};
 ghost use Rattle.log_records.specs.declared.copies.ObjectCopy.{ObjectCopy};
 ghost use Rattle.log_records.specs.Record.{IsRecord};
-ghost use Rattle.flip_copy.specs.Copied.{root_copies, flip_record, with_base, moved_objects, size_of};
+ghost use Rattle.flip_copy.specs.Copied.{root_copies, flip_record, with_base, moved_objects, copied_size};
 ghost use Rattle.flip_copy.specs.Flipped.{IsPlanned, with_flip};
-ghost use Rattle.flip_copy.specs.Moved.{HasMoved};
+ghost use Rattle.flip_copy.specs.Moved.{IsCopiedObject};
 ghost use Rattle.flip_copy.specs.Plan.{AreCopiesOf, AreRecorded};
 
 /// A planned flip can follow, and leaves the collection that has begun with its copies and the translated undo entries.
@@ -21,7 +21,7 @@ pub fn planned_flip_follows()
 
 /// Its spaces are those that have changed their roles and of which the words of the copies are taken.
 pub fn flip_changes_spaces()
-    ensures { (s : State) (copies : List ObjectCopy) → spaces_of (with_flip s copies) ≡ with_copied (flipped (spaces_of s)) (size_of copies) }
+    ensures { (s : State) (copies : List ObjectCopy) → spaces_of (with_flip s copies) ≡ with_copied (flipped (spaces_of s)) (copied_size copies) }
 {}
 
 /// Each transaction's undo entries are translated by where the objects went.
@@ -46,5 +46,5 @@ pub fn planned_flip_has_a_spelling()
 
 /// Behind the record of a planned flip each object that it copies has moved: a forwarding word leads to the copy, which has the object's words.
 pub fn planned_flip_moves_objects()
-    ensures { (spaces : SpacesState) (words roots : List ℕ) (copy : ObjectCopy) → IsSpaces spaces → words_in spaces.pages ≤ length words → AreCopiesOf spaces (root_copies spaces words roots) → Contains (root_copies spaces words roots) copy → HasMoved words (put_record words (flip_record spaces words roots)) copy }
+    ensures { (spaces : SpacesState) (words roots : List ℕ) (copy : ObjectCopy) → IsSpaces spaces → words_in spaces.pages ≤ length words → AreCopiesOf spaces (root_copies spaces words roots) → Contains (root_copies spaces words roots) copy → IsCopiedObject words (put_record words (flip_record spaces words roots)) copy }
 {}

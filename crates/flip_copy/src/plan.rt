@@ -3,7 +3,7 @@ ghost use Rattle.std.specs.Prelude.{◌≡◌, ℕ, ◌+◌, ◌-◌, ◌≤◌,
 ghost use Rattle.heap_spaces.specs.Spaces.{flipped};
 ghost use Rattle.object_layout.specs.Layout.{object_at};
 ghost use Rattle.object_layout.specs.Read.{IsRead, disk_failure};
-ghost use Rattle.flip_copy.specs.Copied.{object_words_at, copies_from, with_base, root_copies, size_of};
+ghost use Rattle.flip_copy.specs.Copied.{object_words_at, copies_from, with_base, root_copies, copied_size};
 ghost use Rattle.flip_copy.specs.FlipFailure.{flip_failure};
 ghost use Rattle.flip_copy.specs.Plan.{AreCopiesOf, AreRootsIn};
 
@@ -27,7 +27,7 @@ pub fn plan_flip<W: Words>(
 ) -> Result<FlipPlan, FlipError>
     ensures copies { IsTrue W.tells → IfOk result (λ plan. plan ≡ root_copies spaces.now (W.content words.old) roots.now) }
     ensures copied { IfOk result (AreCopiesOf spaces.now) }
-    ensures room { IfOk result (λ plan. size_of plan ≤ spaces.now.used) }
+    ensures room { IfOk result (λ plan. copied_size plan ≤ spaces.now.used) }
     ensures objects { IsTrue W.tells → AreRootsIn (W.content words.old) spaces.now roots.now → (address : ℕ) → result ≡ Err (FlipError.NoObject address) → ⊥ }
     ensures read { IsRead W.tells W.extent W.content W.keeps W.faults W.stops words.old words.new (flip_failure result) }
 {

@@ -13,14 +13,14 @@ use Rattle.object_layout.proofs.LayoutLaws.{object_header, object_small}
 use Rattle.object_layout.proofs.ObjectLaws.{end_to_end_apart, field_words_at}
 use Rattle.object_layout.proofs.WalkLaws.{Contains-head, Contains-rest}
 use Rattle.flip_copy.specs.Copied as planned
-use Rattle.flip_copy.specs.Copied.{copies_from, moved_objects, size_of}
+use Rattle.flip_copy.specs.Copied.{copies_from, moved_objects, copied_size}
 use Rattle.flip_copy.specs.Plan.{AreCopies}
 use Rattle.flip_copy.proofs.CopiesLaws.{copy_first, no_copies, size_more}
 use Rattle.flip_copy.proofs.ObjectWordsLaws.{object_words, object_words-length}
 use Rattle.graph_words.specs.Places.{Places, addresses}
 use Rattle.collection_words.specs.Completed.{moves_from, places_from, taken_at, taken_by}
-use Rattle.collection_words.specs.Copying.{object_words_at}
-use Rattle.collection_words.specs.Flipped.{flip_copies}
+use Rattle.collection_words.specs.Copying.{words_to_copy}
+use Rattle.collection_words.specs.Flipped.{copies_of_flip}
 use Rattle.collection_words.specs.LaidOut.{IsLaidOut}
 use Rattle.collection_words.specs.Placed.{Ascend}
 use Rattle.collection_words.proofs.Copy.Ascending.{ascend_low}
@@ -31,7 +31,7 @@ use Rattle.flip_laws.proofs.Lists.{ascend_raise}
 -- The copies are the same.
 
 -- the words of an object are its header, its birth and its fields
-object_parts : (words : List ℕ) (at n : ℕ) → object_at words at ≡ Some n → planned.object_words_at words at ≡ object_words_at words at
+object_parts : (words : List ℕ) (at n : ℕ) → object_at words at ≡ Some n → planned.words_to_copy words at ≡ words_to_copy words at
 object_parts words at n is =
     let within = (object_header words at n is).1 in
     let there : suc (suc at) ≡ at + 2 = omega arith in
@@ -49,30 +49,30 @@ abbrev pub Stands : List ℕ → ℕ → Type 0
 Stands words at = (n : ℕ) × (object_at words at ≡ Some n)
 
 -- where objects stand, their copies are those of a flip of completed words
-pub same_copies : (words : List ℕ) (to : ℕ) (ats : List ℕ) → ((at : ℕ) → Contains ats at → Stands words at) → copies_from words to ats ≡ flip_copies words ats to
+pub same_copies : (words : List ℕ) (to : ℕ) (ats : List ℕ) → ((at : ℕ) → Contains ats at → Stands words at) → copies_from words to ats ≡ copies_of_flip words ats to
 same_copies words to [] each = refl
 same_copies words to (at ∷ ats) each =
     let object = each at (Contains-head at ats) in
     let same = object_parts words at object.0 object.1 in
-    let size : length (planned.object_words_at words at) ≡ taken_at words at = omega (arith, ap length same) in
+    let size : length (planned.words_to_copy words at) ≡ taken_at words at = omega (arith, ap length same) in
     let copy : List ℕ → ObjectCopy = λ ws. record { from = at; to = to; words = ws } in
-    ap (λ (ws : List ℕ). copy ws ∷ copies_from words (to + length (planned.object_words_at words at)) ats) same
-    ∙ ap (λ (n : ℕ). copy (object_words_at words at) ∷ copies_from words (to + n) ats) size
-    ∙ ap (λ (cs : List ObjectCopy). copy (object_words_at words at) ∷ cs) (same_copies words (to + taken_at words at) ats (λ a has. each a (Contains-rest at ats a has)))
+    ap (λ (ws : List ℕ). copy ws ∷ copies_from words (to + length (planned.words_to_copy words at)) ats) same
+    ∙ ap (λ (n : ℕ). copy (words_to_copy words at) ∷ copies_from words (to + n) ats) size
+    ∙ ap (λ (cs : List ObjectCopy). copy (words_to_copy words at) ∷ cs) (same_copies words (to + taken_at words at) ats (λ a has. each a (Contains-rest at ats a has)))
 
 -- What they list.
 
 -- as many words as the objects take
-pub flip_size : (words xs : List ℕ) (to : ℕ) → size_of (flip_copies words xs to) ≡ taken_by words xs
+pub flip_size : (words xs : List ℕ) (to : ℕ) → copied_size (copies_of_flip words xs to) ≡ taken_by words xs
 flip_size words [] to = refl
 flip_size words (x ∷ xs) to =
-    let copies = flip_copies words xs (to + taken_at words x) in
-    let copy : ObjectCopy = record { from = x; to = to; words = object_words_at words x } in
-    let long : length (object_words_at words x) ≡ taken_at words x = omega arith in
-    size_more copy copies ∙ ap (λ (n : ℕ). n + size_of copies) long ∙ ap (λ (n : ℕ). taken_at words x + n) (flip_size words xs (to + taken_at words x))
+    let copies = copies_of_flip words xs (to + taken_at words x) in
+    let copy : ObjectCopy = record { from = x; to = to; words = words_to_copy words x } in
+    let long : length (words_to_copy words x) ≡ taken_at words x = omega arith in
+    size_more copy copies ∙ ap (λ (n : ℕ). n + copied_size copies) long ∙ ap (λ (n : ℕ). taken_at words x + n) (flip_size words xs (to + taken_at words x))
 
 -- where the objects stood
-pub flip_froms : (words xs : List ℕ) (to : ℕ) → map (λ (c : CopiedObject). c.from) (moved_objects (flip_copies words xs to)) ≡ xs
+pub flip_froms : (words xs : List ℕ) (to : ℕ) → map (λ (c : CopiedObject). c.from) (moved_objects (copies_of_flip words xs to)) ≡ xs
 flip_froms words [] to = refl
 flip_froms words (x ∷ xs) to = ap (λ (l : List ℕ). x ∷ l) (flip_froms words xs (to + taken_at words x))
 
@@ -81,12 +81,12 @@ abbrev pub grays_of : List ObjectCopy → List ℕ
 grays_of copies = flat_map (λ (c : CopiedObject). gray_from c.to c.header) (moved_objects copies)
 
 -- which is where the copies stand
-pub flip_tos : (words xs : List ℕ) (to : ℕ) → grays_of (flip_copies words xs to) ≡ map (λ (m : ℕ × ℕ). m.1) (moves_from words xs to)
+pub flip_tos : (words xs : List ℕ) (to : ℕ) → grays_of (copies_of_flip words xs to) ≡ map (λ (m : ℕ × ℕ). m.1) (moves_from words xs to)
 flip_tos words [] to = refl
 flip_tos words (x ∷ xs) to = ap (λ (l : List ℕ). to ∷ l) (flip_tos words xs (to + taken_at words x))
 
 -- where each went
-pub flip_pairs : (words xs : List ℕ) (to : ℕ) → pairs_of (flip_copies words xs to) ≡ moves_from words xs to
+pub flip_pairs : (words xs : List ℕ) (to : ℕ) → pairs_of (copies_of_flip words xs to) ≡ moves_from words xs to
 flip_pairs words [] to = refl
 flip_pairs words (x ∷ xs) to = ap (λ (l : List (ℕ × ℕ)). (x, to) ∷ l) (flip_pairs words xs (to + taken_at words x))
 
@@ -106,8 +106,8 @@ laid_copies {s} {places} {words} laid behind to (at ∷ ats) within up among =
     let object = start_within laid at here in
     let n = object.fields in
     let close = object.below in
-    let copy : ObjectCopy = record { from = at; to = to; words = planned.object_words_at words at } in
-    let size = length (planned.object_words_at words at) in
+    let copy : ObjectCopy = record { from = at; to = to; words = planned.words_to_copy words at } in
+    let size = length (planned.words_to_copy words at) in
     let long : size ≡ 2 + n = object_words-length words at n object.object in
     let small = object_small words at n object.object in
     let others : (x : ℕ) → Contains ats x → Contains (addresses places) x = λ x has. among x (Contains-rest at ats x has) in

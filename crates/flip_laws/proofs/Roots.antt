@@ -14,13 +14,13 @@ use Rattle.log_machine.specs.Collecting.{other_base, pairs_of}
 use Rattle.log_machine.specs.Machine.{State, field_at, put_all, spaces_of, writes_of}
 use Rattle.object_layout.proofs.WalkLaws.{Contains-cases, Contains-head, Contains-none}
 use Rattle.stability_tracker.proofs.ListLaws.{Contains-filter, Contains-from_filter}
-use Rattle.flip_copy.specs.Copied.{moved_objects, size_of, with_base}
+use Rattle.flip_copy.specs.Copied.{moved_objects, copied_size, with_base}
 use Rattle.flip_copy.specs.Flipped.{IsPlanned, IsRooted}
 use Rattle.flip_copy.proofs.CopiesLaws.{moved_size}
 use Rattle.flip_copy.proofs.ObjectWordsLaws.{with_base_roots}
 use Rattle.graph_words.specs.Places.{Places, addresses}
 use Rattle.collection_words.specs.Completed.{moves_from, taken_at, taken_by}
-use Rattle.collection_words.specs.Flipped.{HasBegun, IsFlipping, flip_copies, flipped_words}
+use Rattle.collection_words.specs.Flipped.{HasBegun, IsFlipping, copies_of_flip, flipped_words}
 use Rattle.collection_words.specs.Placed.{Ascend}
 use Rattle.collection_words.proofs.Copy.Ascending.{ascend_filter}
 use Rattle.collection_words.proofs.Laid.Filled.{filling}
@@ -85,7 +85,7 @@ flip_planned {s} {places} {words} {roots} can = record {
 }
 
 -- these copies
-pub copies_are : {s : State} {places : Places} {words roots : List ℕ} → CanFlip s places words roots → copies_of s words roots ≡ flip_copies words (with_base s.base roots) (other_base s)
+pub copies_are : {s : State} {places : Places} {words roots : List ℕ} → CanFlip s places words roots → copies_of s words roots ≡ copies_of_flip words (with_base s.base roots) (other_base s)
 copies_are {s} {places} {words} {roots} can =
     same_copies words (other_base s) (with_base s.base roots) (λ at has. let object = start_within can.laid at (root_start can at has) in (object.fields, object.object))
 
@@ -176,7 +176,7 @@ flip_begun {s} {places} {words} {roots} can =
     let f : ℕ → Bool = λ at. contains (collection_begun s words roots).moved at in
     let copied = roots_copied can in
     let head = with_base-first s.base roots in
-    let size : size_of copies ≡ taken_by words (addresses (root_places s words roots places)) = ap size_of (copies_are can) ∙ flip_size words ats to ∙ ap (taken_by words) (sym copied) in
+    let size : copied_size copies ≡ taken_by words (addresses (root_places s words roots places)) = ap copied_size (copies_are can) ∙ flip_size words ats to ∙ ap (taken_by words) (sym copied) in
     let counted = moved_size copies in
     record {
       flipped = record { base = refl; pages = refl };

@@ -69,12 +69,12 @@ abbrev pub moved_word : List Move → ℕ → ℕ
 moved_word moves w = moved_meant moves w (meaning w)
 
 -- the words of an object of the area after the move: the same header and birth, and its fields after the move
-abbrev pub moved_words : AreaState → List Move → ℕ → List ℕ
-moved_words area moves at = slice_index area.words at ∷ birth_at area.words at ∷ map (moved_word moves) (field_words area.words at)
+abbrev pub promoted_words : AreaState → List Move → ℕ → List ℕ
+promoted_words area moves at = slice_index area.words at ∷ birth_at area.words at ∷ map (moved_word moves) (field_words area.words at)
 
 -- the record that puts an object of the area at its address
 abbrev pub base_of : AreaState → List Move → Move → Record
-base_of area moves m = Base area.transaction m.1 (moved_words area moves m.0)
+base_of area moves m = Base area.transaction m.1 (promoted_words area moves m.0)
 
 -- the record that puts a word of this meaning right, where it stands in a field
 abbrev pub fix_meant : ℕ → List Move → Field → ℕ → Option Word → List Record

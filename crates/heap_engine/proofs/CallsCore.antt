@@ -11,7 +11,7 @@ use Rattle.graph_model.specs.History.{account}
 use Rattle.graph_model.specs.Plain.{reply_of}
 use Rattle.graph_model.specs.History.{IsOfSession}
 use Rattle.core_laws.specs.Valid.{IsValid, RunsLocked}
-use Rattle.flip_copy.specs.Copied.{size_of}
+use Rattle.flip_copy.specs.Copied.{copied_size}
 use Rattle.heap_spaces.specs.Collection.{Collection}
 use Rattle.txn_table.specs.Roots.{AreRoots}
 use Rattle.memory_laws.proofs.Collecting.Flip.{flip_does, flip_refused}
@@ -133,8 +133,8 @@ module _ (m : Memory) where
   AnswersScan reply = (next : Option ℕ) × IsNextPage m.collection next × (reply ≡ reply_of (scan_refusal m next) (scan_reply m next))
 
   flip_granted : (roots : List ℕ) (reply : Reply) (P : Type 0) (runs : Option Collection) → m.collection ≡ runs → reply ≡ flip_reply m roots → ((objects words : ℕ) → reply ≡ answer.Flipped objects words → P) → (reply ≡ answer.Collecting → P) → P
-  flip_granted roots reply P None none given flipped still = flipped _ _ (given ∙ ap (λ (o : Option Collection). if is_some o then answer.Collecting else answer.Flipped (length (flip_copies m roots)) (size_of (flip_copies m roots))) none)
-  flip_granted roots reply P (Some k) run given flipped still = still (given ∙ ap (λ (o : Option Collection). if is_some o then answer.Collecting else answer.Flipped (length (flip_copies m roots)) (size_of (flip_copies m roots))) run)
+  flip_granted roots reply P None none given flipped still = flipped _ _ (given ∙ ap (λ (o : Option Collection). if is_some o then answer.Collecting else answer.Flipped (length (flip_copies m roots)) (copied_size (flip_copies m roots))) none)
+  flip_granted roots reply P (Some k) run given flipped still = still (given ∙ ap (λ (o : Option Collection). if is_some o then answer.Collecting else answer.Flipped (length (flip_copies m roots)) (copied_size (flip_copies m roots))) run)
 
   -- a flip has begun a collection, or one was running, or it was refused
   pub flip_or : (reply : Reply) (P : Type 0) → AnswersFlip reply → ((objects words : ℕ) → reply ≡ answer.Flipped objects words → P) → (reply ≡ answer.Collecting → P) → ((why : Refusal) → reply ≡ answer.Refused why → P) → P

@@ -23,7 +23,7 @@ use Rattle.log_machine.specs.Machine.{words_in, writes_of}
 use Rattle.log_machine.proofs.Addresses.{each_address}
 use Rattle.log_machine.proofs.ListLaws.{AllByRecursion-append}
 use Rattle.log_machine.proofs.WordsFrom.{from_below}
-use Rattle.flip_copy.specs.Copied.{moved_objects, size_of}
+use Rattle.flip_copy.specs.Copied.{moved_objects, copied_size}
 use Rattle.flip_copy.specs.Plan.{HasObjectSize, StoodInOrder, StandEndToEnd, AreCopiesOf}
 use Rattle.flip_copy.proofs.CopiesLaws.{size_more, moved_size, ordered_size, count_least, planned_size}
 use Rattle.graph_model.specs.declared.reply.Reply.TheVariants.{Collecting}
@@ -41,7 +41,7 @@ use Rattle.heap_engine.proofs.TakenBack.{inserted_at}
 
 -- The record.
 
-copies_bytes : (copies : List ObjectCopy) → length (flat_map copy_bytes copies) ≡ 8 * length copies + 8 * size_of copies
+copies_bytes : (copies : List ObjectCopy) → length (flat_map copy_bytes copies) ≡ 8 * length copies + 8 * copied_size copies
 copies_bytes [] = refl
 copies_bytes (copy ∷ copies) =
     let more = copies_bytes copies in
@@ -56,7 +56,7 @@ flip_bytes spaces copies is are =
     let count = count_least copies are.sized in
     omega (arith, bytes, size, count, is.few, is.room)
 
-copies_below : (end from stop to : ℕ) (copies : List ObjectCopy) → AllByRecursion HasObjectSize copies → StoodInOrder from stop copies → StandEndToEnd to copies → stop ≤ end → to + size_of copies ≤ end
+copies_below : (end from stop to : ℕ) (copies : List ObjectCopy) → AllByRecursion HasObjectSize copies → StoodInOrder from stop copies → StandEndToEnd to copies → stop ≤ end → to + copied_size copies ≤ end
     → AllByRecursion (λ w. w.0 < end) (flat_map writes_of copies)
 copies_below end from stop to [] sized ordered together stood fits = tt
 copies_below end from stop to (copy ∷ copies) sized ordered together stood fits =
@@ -74,12 +74,12 @@ flip_below spaces copies end is are long =
     let size = planned_size spaces copies are in
     let first = is.first in
     let stop : spaces.base + spaces.used ≤ end = elim first [ inl low ↦ omega (arith, low, is.room, long) | inr high ↦ omega (arith, high, is.room, long) ] in
-    let fits : (flipped spaces).base + size_of copies ≤ end = omega (arith, size, is.room, long) in
+    let fits : (flipped spaces).base + copied_size copies ≤ end = omega (arith, size, is.room, long) in
     (each_address (λ a. a < end) (flat_map writes_of copies) (copies_below end spaces.base (spaces.base + spaces.used) (flipped spaces).base copies are.sized are.ordered are.together stop fits), tt)
 
 -- The spaces and the collection.
 
-gray_below : (copies : List ObjectCopy) (s : FinSet nat_cmp) (to bound at : ℕ) → AllByRecursion HasObjectSize copies → StandEndToEnd to copies → to + size_of copies ≤ bound → (contains s at ≡ true → at < bound)
+gray_below : (copies : List ObjectCopy) (s : FinSet nat_cmp) (to bound at : ℕ) → AllByRecursion HasObjectSize copies → StandEndToEnd to copies → to + copied_size copies ≤ bound → (contains s at ≡ true → at < bound)
     → contains (with_all s (flat_map (λ (c : CopiedObject). gray_from c.to c.header) (moved_objects copies))) at ≡ true → at < bound
 gray_below [] s to bound at sized together fits before is = before is
 gray_below (copy ∷ copies) s to bound at sized together fits before is =
@@ -95,27 +95,27 @@ gray_below (copy ∷ copies) s to bound at sized together fits before is =
     here in_it = cases (copy.to == at) refl (sym (inserted_at s copy.to at) ∙ in_it)
 
 -- what is known of the collection that has begun
-pub flip_sound : (spaces now : SpacesState) (copies : List ObjectCopy) (runs : Option Collection) → IsSpaces spaces → AreCopiesOf spaces copies → now ≡ with_copied (flipped spaces) (size_of copies)
+pub flip_sound : (spaces now : SpacesState) (copies : List ObjectCopy) (runs : Option Collection) → IsSpaces spaces → AreCopiesOf spaces copies → now ≡ with_copied (flipped spaces) (copied_size copies)
     → runs ≡ Some (with_copies (begun spaces.used) (moved_objects copies)) → IsSoundIn now runs
 flip_sound spaces now copies runs is are same begins k own =
     let size = planned_size spaces copies are in
     let moved = moved_size copies in
     let begun_is : Some (with_copies (begun spaces.used) (moved_objects copies)) ≡ Some k = sym begins ∙ own in
-    let sound : IsSoundCollection (with_copied (flipped spaces) (size_of copies)) (with_copies (begun spaces.used) (moved_objects copies)) = record {
+    let sound : IsSoundCollection (with_copied (flipped spaces) (copied_size copies)) (with_copies (begun spaces.used) (moved_objects copies)) = record {
       copied = omega (arith, size, moved);
       used = omega (arith, is.room);
-      gray = λ at gray. gray_below copies (begun spaces.used).gray (flipped spaces).base ((flipped spaces).base + (0 + size_of copies)) at are.sized are.together (omega arith)
+      gray = λ at gray. gray_below copies (begun spaces.used).gray (flipped spaces).base ((flipped spaces).base + (0 + copied_size copies)) at are.sized are.together (omega arith)
           (λ none. absurd (false≢true (sym (contains-empty nat_cmp at) ∙ none))) gray;
     } in
-    subst (λ (s : SpacesState). IsSoundCollection s k) (sym same) (subst (λ (c : Collection). IsSoundCollection (with_copied (flipped spaces) (size_of copies)) c) (cc) sound)
+    subst (λ (s : SpacesState). IsSoundCollection s k) (sym same) (subst (λ (c : Collection). IsSoundCollection (with_copied (flipped spaces) (copied_size copies)) c) (cc) sound)
 
 -- what it owes is kept free
-pub flip_owes : (spaces now : SpacesState) (copies : List ObjectCopy) (runs : Option Collection) → now ≡ with_copied (flipped spaces) (size_of copies) → runs ≡ Some (with_copies (begun spaces.used) (moved_objects copies))
+pub flip_owes : (spaces now : SpacesState) (copies : List ObjectCopy) (runs : Option Collection) → now ≡ with_copied (flipped spaces) (copied_size copies) → runs ≡ Some (with_copies (begun spaces.used) (moved_objects copies))
     → now.owed ≡ owed_by runs
 flip_owes spaces now copies runs same begins =
     let moved = moved_size copies in
     let owed = ap (λ (s : SpacesState). s.owed) same in
-    let kept : spaces.used - size_of copies ≡ owed_by (Some (with_copies (begun spaces.used) (moved_objects copies))) = omega (arith, moved) in
+    let kept : spaces.used - copied_size copies ≡ owed_by (Some (with_copies (begun spaces.used) (moved_objects copies))) = omega (arith, moved) in
     owed ∙ kept ∙ sym (ap owed_by begins)
 
 -- it has kept the copies
@@ -129,13 +129,13 @@ flip_waits m roots runs = ap (λ (b : Bool). reply_of (if b then None else flip_
 
 -- the flip of these copies
 pub flips_with : (old new : Memory) (roots : List ℕ) (copies : List ObjectCopy) → copies ≡ flip_copies old roots → old.collection ≡ None → AreRoots old.table old.locks roots → HaveGoneAlong (pairs_of copies) old.table new.table
-    → Leaves old new (Flip copies ∷ []) new.table (rekeyed (key_moves (pairs_of copies)) old.locks) (with_copied (flipped old.spaces) (size_of copies)) (Some (with_copies (begun old.spaces.used) (moved_objects copies))) old.sealed
+    → Leaves old new (Flip copies ∷ []) new.table (rekeyed (key_moves (pairs_of copies)) old.locks) (with_copied (flipped old.spaces) (copied_size copies)) (Some (with_copies (begun old.spaces.used) (moved_objects copies))) old.sealed
     → Flips old new roots
 flips_with old new roots copies are idle named gone left = record {
   idle = idle;
   named = named;
   moved = subst (λ (cs : List ObjectCopy). HaveGoneAlong (pairs_of cs) old.table new.table) are gone;
   left =
-      subst (λ (cs : List ObjectCopy). Leaves old new (Flip cs ∷ []) new.table (rekeyed (key_moves (pairs_of cs)) old.locks) (with_copied (flipped old.spaces) (size_of cs)) (Some (with_copies (begun old.spaces.used) (moved_objects cs))) old.sealed)
+      subst (λ (cs : List ObjectCopy). Leaves old new (Flip cs ∷ []) new.table (rekeyed (key_moves (pairs_of cs)) old.locks) (with_copied (flipped old.spaces) (copied_size cs)) (Some (with_copies (begun old.spaces.used) (moved_objects cs))) old.sealed)
       are left;
 }

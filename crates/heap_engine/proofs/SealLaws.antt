@@ -21,7 +21,7 @@ use Rattle.log_machine.proofs.ListLaws.{AllByRecursion-append}
 use Rattle.log_machine.proofs.WordsFrom.{from_below}
 use Rattle.volatile_area.specs.Area.{AreaState, starts_of}
 use Rattle.stability_tracker.proofs.PromotionLaws.{promoted_start}
-use Rattle.graph_words.specs.Promotion.{Field, Move, field_of, field_cmp, written_fields, words_in_fields, words_taken, moves_to, moved_words, base_of, fix_meant, fix_of, promoted_by, promoted_need, moves_of, seal_records}
+use Rattle.graph_words.specs.Promotion.{Field, Move, field_of, field_cmp, written_fields, words_in_fields, words_taken, moves_to, promoted_words, base_of, fix_meant, fix_of, promoted_by, promoted_need, moves_of, seal_records}
 use Rattle.graph_words.proofs.Area.Fields.{field_cmp_total, written_from_field}
 use Rattle.graph_words.proofs.Places.Moves.{words_needed, needed-sum}
 use Rattle.graph_words.proofs.Stands.Run.{length-moved_words}
@@ -49,7 +49,7 @@ bases_below : (area : AreaState) (moves : List Move) (starts : List ℕ) (addres
 bases_below area moves [] address end fits = tt
 bases_below area moves (at ∷ rest) address end fits =
     let long = length-moved_words area moves at in
-    (each_address (λ a. a < end) (enumerate_from address (moved_words area moves at)) (from_below address end (moved_words area moves at) (omega arith)), bases_below area moves rest (address + words_taken area at) end (omega arith))
+    (each_address (λ a. a < end) (enumerate_from address (promoted_words area moves at)) (from_below address end (promoted_words area moves at) (omega arith)), bases_below area moves rest (address + words_taken area at) end (omega arith))
 
 fix_below : (t : ℕ) (moves : List Move) (f : Field) (w : ℕ) (meant : Option Word) (end : ℕ) → field_at f.0 f.1 < end → EachWritesBelow end (fix_meant t moves f w meant)
 fix_below t moves f w None end below = tt

@@ -1,6 +1,6 @@
 //! The events of a collection: it begins with a flip, scans the current space page by page, and ends where nothing is gray any more.
 ghost use Rattle.std.specs.Prelude.{◌≡◌, ◌↔◌, ℕ, ◌≤◌, ◌<◌, ◌^◌, List, length, Option, None, Some, Ok, OnErr, IfOk, IsSome, IsTrue};
-ghost use Rattle.flip_copy.specs.Copied.{size_of};
+ghost use Rattle.flip_copy.specs.Copied.{copied_size};
 ghost use Rattle.flip_copy.specs.Plan.{AreCopiesOf};
 ghost use Rattle.heap_memory.specs.Leaves.{key_moves};
 ghost use Rattle.heap_spaces.specs.Spaces.{flipped, with_copied};
@@ -179,9 +179,9 @@ fn lie_below(end: u64, entries: &[UndoEntry], pairs: &[(u32, u32)]) -> bool
 
 /// The two spaces change their roles, and the words of these copies are taken. It tells how many there are, and of how many words.
 fn change_spaces(spaces: &mut Spaces, plan: &FlipPlan) -> Reply
-    requires { size_of plan.now ≤ spaces.old.used }
-    ensures reply { result ≡ Flipped (length plan.now) (size_of plan.now) }
-    ensures spaces { spaces.new ≡ with_copied (flipped spaces.old) (size_of plan.now) }
+    requires { copied_size plan.now ≤ spaces.old.used }
+    ensures reply { result ≡ Flipped (length plan.now) (copied_size plan.now) }
+    ensures spaces { spaces.new ≡ with_copied (flipped spaces.old) (copied_size plan.now) }
 {
     spaces.flip();
     take_copies(spaces, plan.moved());

@@ -17,7 +17,7 @@ use Rattle.volatile_area.specs.Area.{with_object}
 use Rattle.heap_spaces.specs.Collection.{Collection}
 use Rattle.heap_spaces.specs.Copying.{begun, with_copies}
 use Rattle.heap_spaces.specs.Spaces.{SpacesState, with_taken, with_copied, flipped}
-use Rattle.flip_copy.specs.Copied.{moved_objects, size_of}
+use Rattle.flip_copy.specs.Copied.{moved_objects, copied_size}
 use Rattle.log_machine.specs.Collecting.{pairs_of}
 use Rattle.txn_table.specs.Roots.{AreRoots}
 use Rattle.txn_table.specs.Translation.{HaveGoneAlong}
@@ -171,7 +171,7 @@ pub record Flips (old new : Memory) (roots : List ℕ) : Type 0 where
   pub named : AreRoots old.table old.locks roots
   pub moved : HaveGoneAlong (pairs_of (flip_copies old roots)) old.table new.table
   pub left : let copies = flip_copies old roots in
-      Leaves old new (flip_records old roots) new.table (rekeyed (key_moves (pairs_of copies)) old.locks) (with_copied (flipped old.spaces) (size_of copies))
+      Leaves old new (flip_records old roots) new.table (rekeyed (key_moves (pairs_of copies)) old.locks) (with_copied (flipped old.spaces) (copied_size copies))
       (Some (with_copies (begun old.spaces.used) (moved_objects copies))) old.sealed
 
 -- The next page was scanned, or the collection has ended.

@@ -9,7 +9,7 @@ use Rattle.heap_words.specs.Word.{meaning}
 use Rattle.txn_table.specs.declared.place.Place.{Place}
 use Rattle.heap_memory.specs.Memory.{Memory, own, is_same_place, held_place, fields_held}
 use Rattle.heap_memory.specs.Collecting.{place_barrier, page_records, copied_in, words_copied, flip_copies}
-use Rattle.flip_copy.specs.Copied.{size_of}
+use Rattle.flip_copy.specs.Copied.{copied_size}
 use Rattle.heap_spaces.specs.Collection.{Collection}
 use Rattle.log_machine.specs.Machine.{put_record}
 
@@ -50,7 +50,7 @@ len_reply m s h = answer.Length (length (fields_held m (own m s) (held_place (ow
 
 -- what a flip from these roots is answered
 abbrev pub flip_reply : Memory → List ℕ → Reply
-flip_reply m roots = if is_some m.collection then answer.Collecting else answer.Flipped (length (flip_copies m roots)) (size_of (flip_copies m roots))
+flip_reply m roots = if is_some m.collection then answer.Collecting else answer.Flipped (length (flip_copies m roots)) (copied_size (flip_copies m roots))
 
 abbrev pub scan_reply_of : Memory → Option Collection → Option ℕ → Reply
 scan_reply_of m None next = answer.Idle

@@ -26,7 +26,7 @@ use Rattle.log_records.specs.declared.Record.TheVariants.{Copy, Collected}
 use Rattle.log_machine.specs.declared.UndoEntry.{UndoEntry}
 use Rattle.log_machine.specs.Machine.{State, spaces_of}
 use Rattle.graph_words.specs.Places.{Places, made_by}
-use Rattle.flip_copy.specs.Copied.{copies_in, flip_record, size_of}
+use Rattle.flip_copy.specs.Copied.{copies_in, flip_record, copied_size}
 use Rattle.page_scanner.specs.Scan.{scan_records}
 use Rattle.read_barrier.specs.Barrier.{barrier_page_of}
 use Rattle.heap_words.specs.declared.TheConstants.{PAGE_WORDS}
@@ -154,7 +154,7 @@ words_copied records = sum_by (λ (c : CopiedObject). c.words) (copied_in record
 -- what a flip is answered that has these records
 abbrev pub flip_reply : List Record → Reply
 flip_reply [] = answer.Collecting
-flip_reply (rec ∷ more) = answer.Flipped (length (copies_in rec)) (size_of (copies_in rec))
+flip_reply (rec ∷ more) = answer.Flipped (length (copies_in rec)) (copied_size (copies_in rec))
 
 abbrev pub scan_reply_in : State → List Record → Option Collection → Option ℕ → Reply
 scan_reply_in s records None page = answer.Idle

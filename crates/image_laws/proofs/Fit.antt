@@ -23,8 +23,8 @@ use Rattle.page_redo.specs.Redo.{lacks, redo_record, redo_all}
 use Rattle.page_redo.proofs.PageLaws.{put_kept, put_left}
 use Rattle.page_store.specs.declared.frame.Frame.{Frame}
 use Rattle.page_store.specs.declared.frame.Frame.TheVariants.{First, Second}
-use Rattle.page_store.specs.Frame.{words_in, frame_words, bytes_of, counting}
-use Rattle.page_store.specs.Page.{image_words, page_words, first_words, frame_of, frame_place}
+use Rattle.page_store.specs.Frame.{spelled_words, frame_words, bytes_of, counting}
+use Rattle.page_store.specs.Page.{image_words, stored_words, first_words, frame_of, frame_place}
 use Rattle.heap_model.specs.Bits.{AreOf64Bits}
 use Rattle.heap_model.specs.Image.{origin_of, redone_words, words_of}
 use Rattle.heap_model.proofs.Step.Bits.{fit_record, fit_behind}
@@ -37,8 +37,8 @@ number_fits : (bytes : List ℕ) → IsBytes bytes → little_number 8 bytes < 2
 number_fits bytes fits = omega (arith, fits 0, fits 1, fits 2, fits 3, fits 4, fits 5, fits 6, fits 7)
 
 -- words that bytes spell
-spelled_fit : (n : ℕ) (bytes : List ℕ) → IsBytes bytes → AreOf64Bits (words_in n bytes)
-unfolding words_in
+spelled_fit : (n : ℕ) (bytes : List ℕ) → IsBytes bytes → AreOf64Bits (spelled_words n bytes)
+unfolding spelled_words
 spelled_fit zero bytes fits at = omega arith
 spelled_fit (suc n) bytes fits zero = number_fits bytes fits
 spelled_fit (suc n) bytes fits (suc at) = spelled_fit n (drop 8 bytes) (from_bytes 8 bytes fits) at
@@ -70,7 +70,7 @@ counted_fit stood first second None fit one other = fit
 counted_fit stood first second (Some First) fit one other = frame_fit first one
 counted_fit stood first second (Some Second) fit one other = frame_fit second other
 
-page_fit : (log_bytes p : ℕ) (image : List ℕ) → IsBytes image → AreOf64Bits (page_words log_bytes p image)
+page_fit : (log_bytes p : ℕ) (image : List ℕ) → IsBytes image → AreOf64Bits (stored_words log_bytes p image)
 page_fit log_bytes p image fits =
     let first = frame_of log_bytes p image First in
     let second = frame_of log_bytes p image Second in
@@ -79,7 +79,7 @@ page_fit log_bytes p image fits =
 pub stored_fit : (log_bytes n : ℕ) (image : List ℕ) → IsBytes image → AreOf64Bits (image_words log_bytes n image)
 unfolding image_words
 stored_fit log_bytes zero image fits at = omega arith
-stored_fit log_bytes (suc n) image fits at = append_fit (image_words log_bytes n image) (page_words log_bytes n image) (stored_fit log_bytes n image fits) (page_fit log_bytes n image fits) at
+stored_fit log_bytes (suc n) image fits at = append_fit (image_words log_bytes n image) (stored_words log_bytes n image) (stored_fit log_bytes n image fits) (page_fit log_bytes n image fits) at
 
 -- Redo.
 

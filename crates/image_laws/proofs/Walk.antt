@@ -14,7 +14,7 @@ use Rattle.heap_words.specs.declared.Word.TheVariants as word
 use Rattle.heap_words.specs.Word.{meaning}
 use Rattle.object_layout.specs.Layout.{object_at, field_words, birth_at}
 use Rattle.object_layout.specs.Walk.{used_words, AreEndToEnd, IsRootAt, IsInside, AreInside, AreAscending, IsFilled, IsWalked, BreaksAt, at_root, behind, IsWalkFault, breaks, leads_out}
-use Rattle.object_layout.specs.CollectionWalk.{FromSpace, from_end, ending, copy_length, old_object, is_moved, old_object_at, AreOldObjects, moved_words, IsOldFilled, AreAmong, targets, AllKeepInside, IsCollectionWalked, IsOldFault, old_breaks, old_sum, IsFirstStray, IsFirstOut, IsCollectionFault, breaks_off, old_fails, gray_strays, field_leads_out, old_field_leads_out, IsWalkedBeside, IsWalkFaultBeside}
+use Rattle.object_layout.specs.CollectionWalk.{FromSpace, from_end, ending, copy_length, old_object, is_moved, old_object_at, AreOldObjects, words_moved, IsOldFilled, AreAmong, targets, AllKeepInside, IsCollectionWalked, IsOldFault, old_breaks, old_sum, IsFirstStray, IsFirstOut, IsCollectionFault, breaks_off, old_fails, gray_strays, field_leads_out, old_field_leads_out, IsWalkedBeside, IsWalkFaultBeside}
 use Rattle.object_layout.proofs.WalkLaws.{Contains-rest, Contains-cases, Contains-none, object_take_end}
 use Rattle.object_layout.proofs.Starts.{end_to_end_push, end_to_end_ascend}
 use Rattle.object_layout.proofs.OldStarts.{chained_push, chained_ascend, KeepSoFar, so_far_more, so_far_all, so_far_out}
@@ -233,7 +233,7 @@ module _ (words : List ℕ) (base used : ℕ) (from : FromSpace) where
       let ends : (at n : ℕ) → object at ≡ Some n → at + 2 + n ≤ from_end from = λ at n is. old_end words starts (from_end from) at n (is_moved from at) is in
       elim (chain_or_break object (from_end from) Chain push ends from.collection.used [] from.base (omega arith) (omega arith) refl) [
         | inr broken ↦ inr (broken.at, old_breaks (record { olds = broken.starts; objects = broken.chain; before = broken.before; none = broken.none }))
-        | inl (olds, chain) ↦ elim (same_or_not (moved_words words starts from olds) from.collection.copied) [
+        | inl (olds, chain) ↦ elim (same_or_not (words_moved words starts from olds) from.collection.copied) [
           | inl counted ↦ inl (olds, record { objects = chain; sum = counted })
           | inr other ↦ inr (from.base, old_sum olds chain other)
         ]

@@ -9,7 +9,7 @@ use Rattle.log_records.specs.declared.Record.{Record}
 use Rattle.log_records.specs.declared.Record.TheVariants.{Update, Base, Fix, Undo, Commit, End, Copy, Scan, Flip, Collected}
 use Rattle.log_records.specs.Record.{spelling}
 use Rattle.log_machine.specs.Machine.{State}
-use Rattle.flip_copy.specs.Copied.{size_of}
+use Rattle.flip_copy.specs.Copied.{copied_size}
 use Rattle.heap_model.specs.Core.{Core, IsRun, all_records, state_behind}
 use Rattle.core_laws.specs.Valid.{IsReached}
 
@@ -29,7 +29,7 @@ bytes_of (End t) = 0
 -- how many words a record copies
 abbrev pub moved_by_record : Record → ℕ
 moved_by_record (Copy from to words) = length words
-moved_by_record (Flip copies) = size_of copies
+moved_by_record (Flip copies) = copied_size copies
 moved_by_record rec = 0
 
 -- how many references it leads to the current space

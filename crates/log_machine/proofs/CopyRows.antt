@@ -16,7 +16,7 @@ use Rattle.heap_spaces.specs.Copying.{begun, with_copies, with_scanned}
 use Rattle.log_machine.specs.declared.UndoEntry.{UndoEntry}
 use Rattle.log_machine.specs.Machine.{State, owed, space_words, words_in}
 use Rattle.log_machine.specs.Sound.{IsLoser, AreLosers, IsSpaced, IsWithin, IsConsistent}
-use Rattle.log_machine.specs.Collecting.{other_base, can_move, can_hold, with_moved, with_copy, copied_in, copy_after, copies_after, is_current_page, can_put, scanned_in, collected_in, with_roles_changed, with_undo}
+use Rattle.log_machine.specs.Collecting.{other_base, can_move, can_hold, with_moved, with_copy, copied_while, copy_after, copies_after, is_current_page, can_put, scanned_in, collected_in, with_roles_changed, with_undo}
 use Rattle.log_machine.specs.CopyIndex.{StandInside}
 use Rattle.log_machine.proofs.ListLaws.{AllByRecursion-at}
 use Rattle.log_machine.proofs.MapLaws.{each_empty}
@@ -55,7 +55,7 @@ pub record IsCopied (s : State) (copy : ObjectCopy) (n : State) : Type 0 where
   pub can : CanCopy s k copy
   pub is : with_copy s k copy ≡ n
 
-copied_told : (s n : State) (copy : ObjectCopy) (c : Option Collection) → s.collection ≡ c → copied_in s copy c ≡ Some n → IsCopied s copy n
+copied_told : (s n : State) (copy : ObjectCopy) (c : Option Collection) → s.collection ≡ c → copied_while s copy c ≡ Some n → IsCopied s copy n
 copied_told s n copy None own e = absurd (cc e)
 copied_told s n copy (Some k) own e = let told = cond_some _ _ _ e in record { k = k; runs = own; can = can_copy_told s k copy told.0; is = told.1 }
 
@@ -118,7 +118,7 @@ passed s false n e = absurd (cc e)
 -- an object that can be copied, where a collection runs
 pub can_copy : (s : State) (k : Collection) (copy : ObjectCopy) → s.collection ≡ Some k → is_some (copy_after s copy) ≡ true → CanCopy s k copy
 can_copy s k copy own e =
-    let here : is_some (copied_in s copy (Some k)) ≡ true = ap (λ c. is_some (copied_in s copy c)) (sym own) ∙ e in
+    let here : is_some (copied_while s copy (Some k)) ≡ true = ap (λ c. is_some (copied_while s copy c)) (sym own) ∙ e in
     can_copy_told s k copy (passed s _ _ here)
 
 pub consistent_added : (s : State) (k now : Collection) (copy : ObjectCopy) (used : ℕ) → IsConsistent s → s.collection ≡ Some k → is_some (copy_after s copy) ≡ true → now ≡ with_moved k copy.from copy.to copy.words → used ≡ s.used + length copy.words
@@ -299,7 +299,7 @@ consistent_flip s undo k base is none begins other =
 -- Other writes that may be taken back.
 
 -- with a copy
-along_copied : (s n : State) (copy : ObjectCopy) (undo : FinMap nat_cmp (List UndoEntry)) (c : Option Collection) → copied_in s copy c ≡ Some n → copied_in (with_undo s undo) copy c ≡ Some (with_undo n undo)
+along_copied : (s n : State) (copy : ObjectCopy) (undo : FinMap nat_cmp (List UndoEntry)) (c : Option Collection) → copied_while s copy c ≡ Some n → copied_while (with_undo s undo) copy c ≡ Some (with_undo n undo)
 along_copied s n copy undo None e = absurd (cc e)
 along_copied s n copy undo (Some k) e =
     let told = cond_some _ _ _ e in

@@ -51,13 +51,13 @@ abbrev pub with_copy : State → Collection → ObjectCopy → State
 with_copy s k copy = record s { used = s.used + length copy.words; collection = Some (with_moved k copy.from copy.to copy.words) }
 
 -- the state after a copy of one object, if it can follow in a collection
-abbrev pub copied_in : State → ObjectCopy → Option Collection → Option State
-copied_in s copy None = None
-copied_in s copy (Some k) =
+abbrev pub copied_while : State → ObjectCopy → Option Collection → Option State
+copied_while s copy None = None
+copied_while s copy (Some k) =
     if can_move s k copy.from (length copy.words) && can_hold s copy.to (length copy.words) then Some (with_copy s k copy) else None
 
 abbrev pub copy_after : State → ObjectCopy → Option State
-copy_after s copy = copied_in s copy s.collection
+copy_after s copy = copied_while s copy s.collection
 
 -- the state after several, one after another
 abbrev pub copies_after : State → List ObjectCopy → Option State

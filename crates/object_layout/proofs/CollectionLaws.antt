@@ -7,7 +7,7 @@ use Rattle.std.proofs.lemmas.Option.{same_Some}
 use Rattle.heap_words.specs.Header.{header}
 use Rattle.object_layout.specs.Walk.{IsFilled, BreaksAt}
 use Rattle.heap_spaces.specs.Collection.{Collection}
-use Rattle.object_layout.specs.CollectionWalk.{FromSpace, from_end, copy_length, ending, old_object, is_moved, old_object_at, AreChained, AreOldObjects, moved_words, IsOldFilled, AreAmong, targets, AllKeepInside, IsCollectionWalked, OldBreaksAt, IsOldFault, old_breaks, old_sum, IsFirstStray, IsFirstOut, IsCollectionFault, breaks_off, old_fails, gray_strays, field_leads_out, old_field_leads_out, IsWalkedBeside, IsWalkFaultBeside}
+use Rattle.object_layout.specs.CollectionWalk.{FromSpace, from_end, copy_length, ending, old_object, is_moved, old_object_at, AreChained, AreOldObjects, words_moved, IsOldFilled, AreAmong, targets, AllKeepInside, IsCollectionWalked, OldBreaksAt, IsOldFault, old_breaks, old_sum, IsFirstStray, IsFirstOut, IsCollectionFault, breaks_off, old_fails, gray_strays, field_leads_out, old_field_leads_out, IsWalkedBeside, IsWalkFaultBeside}
 use Rattle.object_layout.proofs.WalkLaws.{object_take_end, filled_one, filled_breaks, breaks_one, walked_fault, fault_one}
 
 -- Objects end to end.
@@ -66,7 +66,7 @@ olds_break words starts from olds at filled off =
 pub old_filled_fault : (words starts : List ℕ) (from : FromSpace) (olds : List ℕ) (at : ℕ) → IsOldFilled words starts from olds → IsOldFault words starts from at → ⊥
 old_filled_fault words starts from olds at filled (old_breaks off) = olds_break words starts from olds at filled.objects off
 old_filled_fault words starts from olds at filled (old_sum others objects differ) =
-    differ (ap (moved_words words starts from) (olds_one words starts from others olds objects filled.objects) ∙ filled.sum)
+    differ (ap (words_moved words starts from) (olds_one words starts from others olds objects filled.objects) ∙ filled.sum)
 
 -- it has one
 pub old_fault_one : (words starts : List ℕ) (from : FromSpace) (a b : ℕ) → IsOldFault words starts from a → IsOldFault words starts from b → a ≡ b

@@ -15,7 +15,7 @@ use Rattle.heap_words.specs.declared.Word.TheVariants as word
 use Rattle.heap_words.specs.Header.{header}
 use Rattle.object_layout.specs.Layout.{object_at, whole_length, words_of, field_words}
 use Rattle.object_layout.specs.Walk.{IsInside, AreAscending, KeepsInside}
-use Rattle.object_layout.specs.CollectionWalk.{FromSpace, copy_length, ending, old_object, is_moved, old_object_at, AreChained, moved_size, moved_words, open_to, AllKeepInside, IsFirstOut}
+use Rattle.object_layout.specs.CollectionWalk.{FromSpace, copy_length, ending, old_object, is_moved, old_object_at, AreChained, moved_size, words_moved, open_to, AllKeepInside, IsFirstOut}
 use Rattle.object_layout.proofs.WalkLaws.{Contains-none, Contains-cases}
 
 -- Objects end to end.
@@ -65,7 +65,7 @@ size_of false (Some m) n is = refl
 
 -- the words that one object more adds to those that were copied
 pub moved_words_push : (words starts : List ℕ) (from : FromSpace) (olds : List ℕ) (at n : ℕ) → old_object_at words starts from at ≡ Some n
-    → moved_words words starts from (olds ++ at ∷ []) ≡ moved_words words starts from olds + (if is_moved from at then 2 + n else 0)
+    → words_moved words starts from (olds ++ at ∷ []) ≡ words_moved words starts from olds + (if is_moved from at then 2 + n else 0)
 moved_words_push words starts from olds at n is =
     let one = size_of (is_moved from at) (old_object_at words starts from at) n is in
     let all = sum_by-append (λ a. moved_size (is_moved from a) (old_object_at words starts from a)) olds (at ∷ []) in

@@ -61,13 +61,13 @@ moved_size true (Some n) = 2 + n
 moved_size moved object = 0
 
 -- the same of all these
-abbrev pub moved_words : List ℕ → List ℕ → FromSpace → List ℕ → ℕ
-moved_words words starts from olds = sum_by (λ at. moved_size (is_moved from at) (old_object_at words starts from at)) olds
+abbrev pub words_moved : List ℕ → List ℕ → FromSpace → List ℕ → ℕ
+words_moved words starts from olds = sum_by (λ at. moved_size (is_moved from at) (old_object_at words starts from at)) olds
 
 -- The from-space's used words are objects end to end, copied or not, and those that were copied are as many words as the collection counts.
 pub record IsOldFilled (words starts : List ℕ) (from : FromSpace) (olds : List ℕ) : Type 0 where
   pub objects : AreOldObjects words starts from olds (from_end from)
-  pub sum : moved_words words starts from olds ≡ from.collection.copied
+  pub sum : words_moved words starts from olds ≡ from.collection.copied
 
 -- each gray object is one of these
 abbrev pub AreAmong : FinSet nat_cmp → List ℕ → Type 0
@@ -107,7 +107,7 @@ pub record OldBreaksAt (words starts : List ℕ) (from : FromSpace) (at : ℕ) :
 -- Where the from-space fails first: where its objects break off; else at its base, if the copied ones are not as many words as are counted.
 pub data IsOldFault (words starts : List ℕ) (from : FromSpace) : ℕ → Type 0 where
   old_breaks : {at : ℕ} → OldBreaksAt words starts from at → IsOldFault words starts from at
-  old_sum : (olds : List ℕ) → AreOldObjects words starts from olds (from_end from) → moved_words words starts from olds ≢ from.collection.copied
+  old_sum : (olds : List ℕ) → AreOldObjects words starts from olds (from_end from) → words_moved words starts from olds ≢ from.collection.copied
       → IsOldFault words starts from from.base
 
 -- The least gray address at which none of these objects starts.

@@ -13,7 +13,7 @@ use Rattle.page_store.specs.Page.{page_lsn, image_words, first_words, HasPage, S
 use Rattle.page_cache.specs.Stored.{stored_pages}
 
 -- each of the stored pages has the words of its frame
-pub stored_pages-page : (pages log_bytes : ℕ) (image : List ℕ) (p : ℕ) → p < pages_in pages → page_words (stored_pages pages log_bytes image).words p ≡ store.page_words log_bytes p image
+pub stored_pages-page : (pages log_bytes : ℕ) (image : List ℕ) (p : ℕ) → p < pages_in pages → page_words (stored_pages pages log_bytes image).words p ≡ store.stored_words log_bytes p image
 stored_pages-page pages log_bytes image p lt = image_words-page log_bytes image (pages_in pages) p lt
 
 -- and its LSN
@@ -37,7 +37,7 @@ module _ (o : Origin) (log_bytes : ℕ) (records : List Record) where
 
   -- what each page of an image holds
   abbrev HoldsIn : ℕ → List ℕ → Type 0
-  HoldsIn q image = HoldsPrefix o records q (page_lsn log_bytes q image) (store.page_words log_bytes q image)
+  HoldsIn q image = HoldsPrefix o records q (page_lsn log_bytes q image) (store.stored_words log_bytes q image)
 
   -- is what the stored pages hold
   pub prefixes-image : (image : List ℕ) → ((q : ℕ) → q < pages_in pages → HoldsIn q image) → EachHoldsPrefix o records (stored_pages pages log_bytes image)
@@ -46,12 +46,12 @@ module _ (o : Origin) (log_bytes : ℕ) (records : List Record) where
     lsns_size = length-map-range_with_len (λ p. page_lsn log_bytes p image) 0 (pages_in pages);
     each = λ q lt.
         subst (λ (l : List ℕ). HoldsPrefix o records q (lsn_of (stored_pages pages log_bytes image) q) l) (sym (stored_pages-page pages log_bytes image q lt))
-        (subst (λ (k : ℕ). HoldsPrefix o records q k (store.page_words log_bytes q image)) (sym (stored_pages-lsn pages log_bytes image q lt)) (each q lt));
+        (subst (λ (k : ℕ). HoldsPrefix o records q k (store.stored_words log_bytes q image)) (sym (stored_pages-lsn pages log_bytes image q lt)) (each q lt));
   }
 
   image-prefixes : (image : List ℕ) → EachHoldsPrefix o records (stored_pages pages log_bytes image) → (q : ℕ) → q < pages_in pages → HoldsIn q image
   image-prefixes image is q lt =
-      subst (λ (k : ℕ). HoldsPrefix o records q k (store.page_words log_bytes q image)) (stored_pages-lsn pages log_bytes image q lt)
+      subst (λ (k : ℕ). HoldsPrefix o records q k (store.stored_words log_bytes q image)) (stored_pages-lsn pages log_bytes image q lt)
       (subst (λ (l : List ℕ). HoldsPrefix o records q (lsn_of (stored_pages pages log_bytes image) q) l) (stored_pages-page pages log_bytes image q lt) (is.each q lt))
 
   -- a page that an image has holds what it held elsewhere
@@ -65,7 +65,7 @@ module _ (o : Origin) (log_bytes : ℕ) (records : List Record) where
       → IsStoring log_bytes p lsn page old new → EachHoldsPrefix o records (stored_pages pages log_bytes new)
   EachHoldsPrefix-storing p lsn page old new is here storing = prefixes-image new (λ q lt.
       let before : HoldsIn q old = image-prefixes old is q lt in
-      let stays : SamePage log_bytes q old new → HoldsIn q new = λ same. has_held q (page_lsn log_bytes q old) (store.page_words log_bytes q old) new same before in
+      let stays : SamePage log_bytes q old new → HoldsIn q new = λ same. has_held q (page_lsn log_bytes q old) (store.stored_words log_bytes q old) new same before in
       elim (cases_eq q p) [
         | inl same ↦ ⊎_elim
             (λ old_page. stays (subst (λ (i : ℕ). SamePage log_bytes i old new) (sym same) old_page))

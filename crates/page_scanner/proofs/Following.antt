@@ -21,7 +21,7 @@ use Rattle.log_records.specs.declared.copies.ObjectCopy.{ObjectCopy}
 use Rattle.log_records.specs.declared.Record.{Record}
 use Rattle.log_records.specs.declared.Record.TheVariants.{Copy, Scan}
 use Rattle.log_machine.specs.Machine.{State, spaces_of}
-use Rattle.log_machine.specs.Collecting.{other_base, is_used, can_move, can_hold, can_put, copied_in, with_copy as with_copied, with_moved, is_current_page, leads_to_used, collecting_after, scanned_in}
+use Rattle.log_machine.specs.Collecting.{other_base, is_used, can_move, can_hold, can_put, copied_while, with_copy as with_copied, with_moved, is_current_page, leads_to_used, collecting_after, scanned_in}
 use Rattle.object_layout.specs.Layout.{object_at}
 use Rattle.object_layout.proofs.LayoutLaws.{object_header}
 use Rattle.page_scanner.specs.Scan.{Planned, nothing, going, copied_to, in_from_space, from_base, next_free, object_words, is_left, has_room, can_copy, with_copy, is_taken, can_write, written, is_current, scan, scan_records, records_of}
@@ -193,7 +193,7 @@ following_copy s k words q b n f within none object can =
     and_from (to == f.next.base + f.next.used) (nat_le (f.next.used + length ws) (space_words f.next.pages)) (eq-eqb to (f.next.base + f.next.used) place)
     (le-leb (f.next.used + length ws) (space_words f.next.pages) room) in
     let follows : collecting_after f.next (Copy b to ws) ≡ Some next =
-    ap (copied_in f.next copy) f.runs
+    ap (copied_while f.next copy) f.runs
     ∙ ap (λ t. if t then Some next else None) (and_from (can_move f.next f.now b (length ws)) (can_hold f.next to (length ws)) moves holds) in
     record {
       next = next;

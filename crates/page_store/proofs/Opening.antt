@@ -6,7 +6,7 @@ use Rattle.disk_model.specs.Disk.{part}
 use Rattle.image_plan.specs.Plan.{frame_offset}
 use Rattle.page_store.specs.declared.frame.Frame.TheVariants.{First, Second}
 use Rattle.page_store.specs.declared.frame.Stored.{Stored}
-use Rattle.page_store.specs.Page.{frame_of, page_lsn, page_frame, page_words, image_words}
+use Rattle.page_store.specs.Page.{frame_of, page_lsn, page_frame, stored_words, image_words}
 use Rattle.page_store.specs.Reading.{nothing_stored, IsReadTo}
 
 -- no page was read
@@ -32,7 +32,7 @@ part_part image at n k m fits =
 module _ (log_bytes : ℕ) (image : List ℕ) where
   -- one page more was read
   pub read_more : (p : ℕ) (table : List Stored) (words : List ℕ) (stored : Stored) (page : List ℕ) → IsReadTo log_bytes p table words image
-      → stored.lsn ≡ page_lsn log_bytes p image → stored.counts ≡ page_frame log_bytes p image → page ≡ page_words log_bytes p image → IsReadTo log_bytes (p + 1) (table ++ stored ∷ []) (words ++ page) image
+      → stored.lsn ≡ page_lsn log_bytes p image → stored.counts ≡ page_frame log_bytes p image → page ≡ stored_words log_bytes p image → IsReadTo log_bytes (p + 1) (table ++ stored ∷ []) (words ++ page) image
   unfolding image_words
   read_more p table words stored page so_far lsn_is frame_is page_is = record {
     pages = omega (arith, so_far.pages, length-append table (stored ∷ []));

@@ -9,7 +9,7 @@ use Rattle.image_plan.specs.Plan.{log_offset}
 use Rattle.page_store.specs.declared.frame.Frame.{Frame}
 use Rattle.page_store.specs.declared.store.PageStore.{PageStore}
 use Rattle.page_store.specs.Frame.{bytes_of, frame_words}
-use Rattle.page_store.specs.Page.{page_words, first_words, image_words}
+use Rattle.page_store.specs.Page.{stored_words, first_words, image_words}
 use Rattle.page_store.proofs.PageLaws.{pages_behind_log, frames_behind_log, same_frame}
 use Rattle.page_store.proofs.WordLaws.{length-words_in}
 use Rattle.page_store.specs.StoreState.{store_log, Knows}
@@ -31,7 +31,7 @@ length_words stood first second None size = size
 length_words stood first second (Some frame) size = length-words_in 64 _
 
 module _ (log_bytes : ℕ) (image : List ℕ) where
-  pub length-page_words : (p : ℕ) → length (page_words log_bytes p image) ≡ 64
+  pub length-page_words : (p : ℕ) → length (stored_words log_bytes p image) ≡ 64
   length-page_words p = length_words (first_words p) _ _ _ (length-first_words p)
 
   pub length-image_words : (n : ℕ) → length (image_words log_bytes n image) ≡ 64 * n
@@ -39,20 +39,20 @@ module _ (log_bytes : ℕ) (image : List ℕ) where
   length-image_words zero = refl
   length-image_words (suc n) =
       let so_far = length-image_words n in
-      omega (arith, so_far, length-append (image_words log_bytes n image) (page_words log_bytes n image), length-page_words n)
+      omega (arith, so_far, length-append (image_words log_bytes n image) (stored_words log_bytes n image), length-page_words n)
 
   -- page p stands in its place among the words of all
-  pub image_words-page : (n p : ℕ) → p < n → part (image_words log_bytes n image) (64 * p) 64 ≡ page_words log_bytes p image
+  pub image_words-page : (n p : ℕ) → p < n → part (image_words log_bytes n image) (64 * p) 64 ≡ stored_words log_bytes p image
   unfolding image_words
   image_words-page zero p none = absurd (omega arith)
   image_words-page (suc n) p below =
       let front = image_words log_bytes n image in
-      let last = page_words log_bytes n image in
+      let last = stored_words log_bytes n image in
       let size : length front ≡ 64 * n = length-image_words n in
       elim (cases_lt p n) [
         | inl less ↦ part_front front last (64 * p) (omega (arith, size)) ∙ image_words-page n p less
         | inr same ↦ let is : p ≡ n = omega arith in
-            ap (λ (k : ℕ). part (front ++ last) (64 * k) 64) is ∙ ap (λ (l : List ℕ). take 64 l) (drop_at front last (64 * n) size) ∙ take_all 64 last (omega (arith, length-page_words n)) ∙ ap (λ (k : ℕ). page_words log_bytes k image) (sym is)
+            ap (λ (k : ℕ). part (front ++ last) (64 * k) 64) is ∙ ap (λ (l : List ℕ). take 64 l) (drop_at front last (64 * n) size) ∙ take_all 64 last (omega (arith, length-page_words n)) ∙ ap (λ (k : ℕ). stored_words log_bytes k image) (sym is)
       ]
     where
       part_front : (front last : List ℕ) (at : ℕ) → at + 64 ≤ length front → part (front ++ last) at 64 ≡ part front at 64

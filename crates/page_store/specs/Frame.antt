@@ -25,13 +25,13 @@ abbrev pub frame_lsn : List ℕ → ℕ
 frame_lsn frame = little_number 8 (drop 8 frame)
 
 -- the first n words that bytes spell
-unfoldable pub words_in : ℕ → List ℕ → List ℕ
-words_in zero bytes = []
-words_in (suc n) bytes = little_number 8 bytes ∷ words_in n (drop 8 bytes)
+unfoldable pub spelled_words : ℕ → List ℕ → List ℕ
+spelled_words zero bytes = []
+spelled_words (suc n) bytes = little_number 8 bytes ∷ spelled_words n (drop 8 bytes)
 
 -- the words in a frame
 abbrev pub frame_words : List ℕ → List ℕ
-frame_words frame = words_in PAGE_WORDS (drop 16 frame)
+frame_words frame = spelled_words PAGE_WORDS (drop 16 frame)
 
 -- Of two frames the open one counts; of two open ones the one with the greater LSN, or the first if the LSNs are equal.
 abbrev pub newest : Bool → Bool → ℕ → ℕ → Option Frame

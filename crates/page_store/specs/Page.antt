@@ -35,22 +35,22 @@ first_words zero = 17 ∷ replicate 63 0
 first_words (suc p) = replicate PAGE_WORDS 0
 
 -- the words of page p
-abbrev pub page_words : ℕ → ℕ → List ℕ → List ℕ
-page_words log_bytes p image = words_or (first_words p) (frame_of log_bytes p image First) (frame_of log_bytes p image Second)
+abbrev pub stored_words : ℕ → ℕ → List ℕ → List ℕ
+stored_words log_bytes p image = words_or (first_words p) (frame_of log_bytes p image First) (frame_of log_bytes p image Second)
 
 -- the words of the first n pages, one page after another
 unfoldable pub image_words : ℕ → ℕ → List ℕ → List ℕ
 image_words log_bytes zero image = []
-image_words log_bytes (suc n) image = image_words log_bytes n image ++ page_words log_bytes n image
+image_words log_bytes (suc n) image = image_words log_bytes n image ++ stored_words log_bytes n image
 
 -- page p of an image has this LSN and these words
 pub record HasPage (log_bytes p lsn : ℕ) (words image : List ℕ) : Type 0 where
   pub lsn_is : page_lsn log_bytes p image ≡ lsn
-  pub words_are : page_words log_bytes p image ≡ words
+  pub words_are : stored_words log_bytes p image ≡ words
 
 -- page p has the same LSN and words in both images
 abbrev pub SamePage : ℕ → ℕ → List ℕ → List ℕ → Type 0
-SamePage log_bytes p old new = HasPage log_bytes p (page_lsn log_bytes p old) (page_words log_bytes p old) new
+SamePage log_bytes p old new = HasPage log_bytes p (page_lsn log_bytes p old) (stored_words log_bytes p old) new
 
 -- new has the size of old, and the same bytes but for the two frames of page p
 abbrev pub SameButPage : ℕ → ℕ → List ℕ → List ℕ → Type 0

@@ -21,7 +21,7 @@ use Rattle.log_machine.specs.Collecting.{other_base}
 use Rattle.log_machine.specs.Machine.{State, owed, space_words, spaces_of}
 use Rattle.graph_words.specs.Places.{Places, addresses}
 use Rattle.collection_words.specs.Completed.{in_other_space, taken_by}
-use Rattle.collection_words.specs.LaidOut.{IsForwarded, LeadsHere, MayLeadBack}
+use Rattle.collection_words.specs.LaidOut.{StandsOrForwards, LeadsHere, MayLeadBack}
 use Rattle.collection_words.proofs.Laid.Old.{collection_within, current_not_other}
 use Rattle.collection_words.proofs.Laid.Sources.{IsCollecting, here_ends, left_object}
 use Rattle.collection_words.proofs.Laid.Within.{start_within}
@@ -90,8 +90,8 @@ object_recorded words at n is fit fields =
 
 -- The objects of the from-space.
 
-forwarded_on : {s : State} {k : Collection} {places remaining : Places} {words : List ℕ} → IsCollecting s k places remaining words → (b : ℕ) (t : Bool) → t ≡ true → IsForwarded words (addresses places) b t
-    → scanned.IsForwarded (spaces_of s) words b
+forwarded_on : {s : State} {k : Collection} {places remaining : Places} {words : List ℕ} → IsCollecting s k places remaining words → (b : ℕ) (t : Bool) → t ≡ true → StandsOrForwards words (addresses places) b t
+    → scanned.StandsOrForwards (spaces_of s) words b
 forwarded_on is b false moved none = absurd (cc moved)
 forwarded_on is b true moved (to, leads, has) =
     let within = start_within is.laid to has in
@@ -157,7 +157,7 @@ collected {s} {k} {places} {remaining} {words} is small fit =
     let space = collection_within is in
     let room = is.spaced.room in
     let owes : owed s ≡ owed_by (Some k) = ap owed_by is.run in
-    let unmoved = λ (at : ℕ) (has : Contains starts at) (left : contains k.moved at ≡ false). subst (IsForwarded words (addresses places) at) left (is.from.forwarded at has) in
+    let unmoved = λ (at : ℕ) (has : Contains starts at) (left : contains k.moved at ≡ false). subst (StandsOrForwards words (addresses places) at) left (is.from.forwarded at has) in
     let all = olds_counted k words (other_base s) starts (other_base s + k.used) is.from.chain unmoved in
     let sum = is.from.sum in
     let left = ap (taken_by words) is.from.left in

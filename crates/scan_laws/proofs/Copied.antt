@@ -26,7 +26,7 @@ use Rattle.log_machine.proofs.ListLaws.{AllByRecursion-map}
 use Rattle.graph_words.specs.Places.{Places, address_of, addresses}
 use Rattle.graph_words.proofs.Seal.Places.{address_of-append_left}
 use Rattle.collection_words.specs.Completed.{IsMade, StandsCompleted, in_other_space, without}
-use Rattle.collection_words.specs.Copying.{copied_words, next_copy, object_words_at, with_place}
+use Rattle.collection_words.specs.Copying.{copied_words, next_copy, words_to_copy, with_place}
 use Rattle.collection_words.specs.LaidOut.{IsUnderway, LeadsHere}
 use Rattle.collection_words.specs.Placing.{Placing, moved_by, moved_by_all, placing_of}
 use Rattle.collection_words.specs.Writes.{AreBacked, IsCurrentField, IsHereWrite}
@@ -228,9 +228,9 @@ done_copy {s} {k} {places} {starts} {words} {v} {q} d b n start unmoved none obj
     let place : to ≡ free = omega (arith, base, used) in
     let many : room.fields ≡ n = cc (sym room.object ∙ left.1.is) in
     let second : b + 1 ≡ suc b = omega arith in
-    let moves : object_words_at d.moved b ≡ ws = made_words words d.moved b b n left.1 ∙ ap (λ (y : ℕ). slice_index words b ∷ slice_index words y ∷ field_words words b) second ∙ sym (object_parts words b n object) in
+    let moves : words_to_copy d.moved b ≡ ws = made_words words d.moved b b n left.1 ∙ ap (λ (y : ℕ). slice_index words b ∷ slice_index words y ∷ field_words words b) second ∙ sym (object_parts words b n object) in
     let copy : ObjectCopy = record { from = b; to = free; words = ws } in
-    let same : next_copy d.next d.moved b ≡ copy = ap (λ (x : ℕ). record { from = b; to = x; words = object_words_at d.moved b }) place ∙ ap (λ (l : List ℕ). record { from = b; to = free; words = l }) moves in
+    let same : next_copy d.next d.moved b ≡ copy = ap (λ (x : ℕ). record { from = b; to = x; words = words_to_copy d.moved b }) place ∙ ap (λ (l : List ℕ). record { from = b; to = free; words = l }) moves in
     let others = copied_words d.next d.moved b in
     let last = copied_state d.next d.now d.moved b in
     let currents = with_place d.next d.currents id in

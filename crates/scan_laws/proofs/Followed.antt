@@ -18,7 +18,7 @@ use Rattle.log_machine.specs.Machine.{State, field_at, spaces_of}
 use Rattle.log_machine.proofs.ListLaws.{AllByRecursion-append}
 use Rattle.graph_words.specs.Places.{Places, addresses}
 use Rattle.collection_words.specs.Completed.{IsMade, in_other_space}
-use Rattle.collection_words.specs.LaidOut.{IsForwarded, LeadsHere, MayLeadBack}
+use Rattle.collection_words.specs.LaidOut.{StandsOrForwards, LeadsHere, MayLeadBack}
 use Rattle.collection_words.proofs.Laid.Old.{current_not_other, old_in_other}
 use Rattle.collection_words.proofs.Laid.Sources.{IsCollecting}
 use Rattle.collection_words.proofs.Laid.Within.{start_within}
@@ -144,7 +144,7 @@ done_write s k places starts words v q r d object field from to w f meant start 
 
 -- What is known where a field leads to an object of the from-space.
 
-forwarded_to : (words starts : List ℕ) (b to : ℕ) (t : Bool) → IsForwarded words starts b t → header (slice_index words b) ≡ Some (Forward to) → Contains starts to
+forwarded_to : (words starts : List ℕ) (b to : ℕ) (t : Bool) → StandsOrForwards words starts b t → header (slice_index words b) ≡ Some (Forward to) → Contains starts to
 forwarded_to words starts b to true (there, leads, has) forward = let same : there ≡ to = cc (sym leads ∙ forward) in subst (λ (x : ℕ). Contains starts x) same has
 forwarded_to words starts b to false (n, object) forward = absurd (no_forward words b n to object forward)
 

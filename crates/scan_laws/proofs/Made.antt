@@ -7,7 +7,7 @@ use Rattle.object_layout.specs.Layout.{birth_at, field_words, object_at}
 use Rattle.object_layout.proofs.LayoutLaws.{length-field_words, object_header}
 use Rattle.graph_words.proofs.Stands.Objects.{word_at_field}
 use Rattle.collection_words.specs.Completed.{IsMade}
-use Rattle.collection_words.specs.Copying.{object_words_at}
+use Rattle.collection_words.specs.Copying.{words_to_copy}
 
 -- an object has its own words
 pub made_same : (words : List ℕ) (at n : ℕ) → object_at words at ≡ Some n → IsMade (λ w. w) words words at at n
@@ -35,7 +35,7 @@ made_fields words moved a b n made =
     sym (word_at_field moved b n i made.is inside) ∙ made.fields i inside ∙ word_at_field words a n i made.was inside)
 
 -- all its words
-pub made_words : (words moved : List ℕ) (a b n : ℕ) → IsMade (λ w. w) words moved a b n → object_words_at moved b ≡ slice_index words a ∷ birth_at words a ∷ field_words words a
+pub made_words : (words moved : List ℕ) (a b n : ℕ) → IsMade (λ w. w) words moved a b n → words_to_copy moved b ≡ slice_index words a ∷ birth_at words a ∷ field_words words a
 made_words words moved a b n made =
     let there = (bits-header (slice_index moved b) (Length n) (object_header moved b n made.is).0).1 in
     let here = (bits-header (slice_index words a) (Length n) (object_header words a n made.was).0).1 in

@@ -11,7 +11,7 @@ use Rattle.object_layout.specs.Layout.{birth_at, field_words, object_at}
 use Rattle.object_layout.specs.Walk.{AreEndToEnd}
 use Rattle.object_layout.proofs.WalkLaws.{Contains-cases, Contains-none}
 use Rattle.volatile_area.specs.Area.{AreaState}
-use Rattle.graph_words.specs.Promotion.{Move, base_of, moved, moved_word, moved_words, moves_to, words_taken}
+use Rattle.graph_words.specs.Promotion.{Move, base_of, moved, moved_word, promoted_words, moves_to, words_taken}
 use Rattle.graph_words.proofs.Places.Moves.{AreDistinct, moved_of, words_needed}
 use Rattle.graph_words.proofs.Seal.Stands.{ends_append, ends_moved}
 use Rattle.graph_words.proofs.Stands.Objects.{word_at_field}
@@ -33,7 +33,7 @@ bases-before : (area : AreaState) (moves : List Move) (starts : List ℕ) (addre
 bases-before area moves [] address now x before = refl
 bases-before area moves (at ∷ rest) address now x before =
     bases-before area moves rest (address + words_taken area at) (put_record now (base_of area moves (at, address))) x (omega arith)
-    ∙ put_from-before now address x (moved_words area moves at) before
+    ∙ put_from-before now address x (promoted_words area moves at) before
 
 bases-behind : (area : AreaState) (moves : List Move) (starts : List ℕ) (address : ℕ) (now : List ℕ) (x : ℕ) → address + words_needed area starts ≤ x
     → get_or (fold put_record now (map (base_of area moves) (moves_to area starts address))) x 0 ≡ get_or now x 0
@@ -41,7 +41,7 @@ bases-behind area moves [] address now x behind = refl
 bases-behind area moves (at ∷ rest) address now x behind =
     let long = length-moved_words area moves at in
     bases-behind area moves rest (address + words_taken area at) (put_record now (base_of area moves (at, address))) x (omega arith)
-    ∙ put_from-behind now address x (moved_words area moves at) (omega arith)
+    ∙ put_from-behind now address x (promoted_words area moves at) (omega arith)
 
 -- a word before the address stays
 pub based-before : (area : AreaState) (starts : List ℕ) (address : ℕ) (now : List ℕ) (x : ℕ) → x < address → slice_index (based area starts address now) x ≡ slice_index now x
@@ -66,7 +66,7 @@ based_object {area} {starts} are address now fits at new has there =
     let moves = moves_to area starts address in
     let ws = map (moved_word moves) (field_words area.words at) in
     let long : length ws ≡ length (field_words area.words at) = length-map (field_words area.words at) (moved_word moves) in
-    let run : take (words_taken area at) (drop new (based area starts address now)) ≡ moved_words area moves at =
+    let run : take (words_taken area at) (drop new (based area starts address now)) ≡ promoted_words area moves at =
     ap (λ xs. take (words_taken area at) (drop new xs)) (put_bases area moves starts address now fits)
     ∙ put_at area moves starts address (take address now) (drop (address + words_needed area starts) now) at new (length-take-le address now (omega arith)) there in
     object_from_words (based area starts address now) new (birth_at area.words at) ws (omega (arith, long, are.few at has))

@@ -21,7 +21,7 @@ use Rattle.graph_words.proofs.Places.Moved.{moved_word-moved, moved_word-plain}
 use Rattle.graph_words.proofs.Places.Moves.{moved_to}
 use Rattle.graph_words.proofs.Seal.Places.{addresses-promoted}
 use Rattle.collection_words.specs.Completed.{IsMade}
-use Rattle.collection_words.specs.LaidOut.{EachField, IsForwarded, IsFromSpace, LeadsHere, MayLeadBack, is_gray, old_length}
+use Rattle.collection_words.specs.LaidOut.{EachField, StandsOrForwards, IsFromSpace, LeadsHere, MayLeadBack, is_gray_field, old_length}
 use Rattle.collection_words.proofs.Copy.Named.{named}
 use Rattle.collection_words.proofs.Copy.Words.{kept_made}
 use Rattle.collection_words.proofs.Laid.Filled.{filled_by, filling}
@@ -160,7 +160,7 @@ laid_filled p is =
 
 -- each object of it is forwarded as it was, with as many fields
 pub old_each : (p : Promoting) → (is : IsPromoting p) → (at : ℕ) → Contains is.is.from.starts at
-    → IsForwarded (behind p) (addresses (currents p)) at (contains p.k.moved at) × (old_length (behind p) at ≡ old_length p.words at)
+    → StandsOrForwards (behind p) (addresses (currents p)) at (contains p.k.moved at) × (old_length (behind p) at ≡ old_length p.words at)
 old_each p is at has = by_moved (contains p.k.moved at) refl (is.is.from.forwarded at has)
   where
     bounds : (other_base p.s ≤ at) × (at < other_base p.s + space_words p.s.pages)
@@ -169,8 +169,8 @@ old_each p is at has = by_moved (contains p.k.moved at) refl (is.is.from.forward
     head : slice_index (behind p) at ≡ slice_index p.words at
     head = kept_old p is at bounds.0 bounds.1
 
-    by_moved : (b : Bool) → contains p.k.moved at ≡ b → IsForwarded p.words (addresses p.places) at b
-        → IsForwarded (behind p) (addresses (currents p)) at b × (old_length (behind p) at ≡ old_length p.words at)
+    by_moved : (b : Bool) → contains p.k.moved at ≡ b → StandsOrForwards p.words (addresses p.places) at b
+        → StandsOrForwards (behind p) (addresses (currents p)) at b × (old_length (behind p) at ≡ old_length p.words at)
     by_moved true moved (to, forward, stands) =
         let there = start_within is.is.laid to stands in
         let made = kept_here p is to there.fields stands there.object in (
@@ -223,10 +223,10 @@ promoted_laid p is =
         filled = laid_filled p is;
         here = λ at has n i object within not_gray. elim (current_cases p is at has) [
           | inl old ↦
-              let black : contains p.k.gray at ≡ false = sym (ap (λ o. is_gray o at i) is.is.run) ∙ not_gray in
+              let black : contains p.k.gray at ≡ false = sym (ap (λ o. is_gray_field o at i) is.is.run) ∙ not_gray in
               old_fields p is (λ w. LeadsHere (addresses (currents p)) (meaning w)) at old (λ m j was inside.
               leads_on (addresses p.places) (addresses (currents p)) (still_current p) (meaning (slice_index p.words (field_at at j)))
-              (is.is.laid.here at old m j was inside (ap (λ o. is_gray o at j) is.is.run ∙ black))) n i object within
+              (is.is.laid.here at old m j was inside (ap (λ o. is_gray_field o at j) is.is.run ∙ black))) n i object within
           | inr new ↦ new_leads p is at new n i object within
         ];
         from = subst (λ o. MatchOption o (p.remaining ≡ []) (λ k. IsFromSpace (next p) k (currents p) p.remaining (behind p))) (sym is.is.run) space;

@@ -17,7 +17,7 @@ use Rattle.log_machine.proofs.WordsLaws.{length-taken_back}
 use Rattle.object_layout.specs.Layout.{id_at, id_of}
 use Rattle.volatile_area.specs.Area.{AreaState}
 use Rattle.graph_words.specs.Places.{Places, address_of}
-use Rattle.graph_words.specs.Promotion.{Move, base_of, moved_words, moves_of, moves_to, promoted_need, promoted_places, promotion_records, seal_records, words_taken, written_fields}
+use Rattle.graph_words.specs.Promotion.{Move, base_of, promoted_words, moves_of, moves_to, promoted_need, promoted_places, promotion_records, seal_records, words_taken, written_fields}
 use Rattle.graph_words.specs.Stands.{AreNamedByBirth, Stands, StandsCommitted}
 use Rattle.graph_words.proofs.Area.Fields.{write_at, written_from_field}
 use Rattle.graph_words.proofs.Places.Addresses.{placed_as, some_address}
@@ -63,7 +63,7 @@ bases_back us area moves [] address now below = refl
 bases_back us area moves (at ∷ rest) address now below =
     let after = address + words_taken area at in
     bases_back us area moves rest after (put_record now (base_of area moves (at, address))) (further us address after (omega arith) below)
-    ∙ ap (λ x. fold put_record x (map (base_of area moves) (moves_to area rest after))) (run_back us (moved_words area moves at) now address below)
+    ∙ ap (λ x. fold put_record x (map (base_of area moves) (moves_to area rest after))) (run_back us (promoted_words area moves at) now address below)
 
 module _ (c : Seal) (can : CanSealWithin c) where
   -- The records.

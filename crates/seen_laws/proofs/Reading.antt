@@ -20,7 +20,7 @@ use Rattle.graph_words.proofs.Places.Lists.{AllByRecursion-from_get}
 use Rattle.graph_words.proofs.Seal.Places.{address_of-append_left}
 use Rattle.graph_words.proofs.Stands.Objects.{stands_field, stands_object, word_at_field}
 use Rattle.collection_words.specs.Completed.{StandsCompleted, future}
-use Rattle.collection_words.specs.LaidOut.{LeadsHere, is_gray}
+use Rattle.collection_words.specs.LaidOut.{LeadsHere, is_gray_field}
 use Rattle.collection_words.specs.Writes.{AreBacked}
 use Rattle.collection_words.proofs.Copy.Named.{own_front}
 use Rattle.collection_words.proofs.Copy.Stands.{completed_own}
@@ -58,7 +58,7 @@ record IsValueHere (t made : ℕ) (places : Places) (g : Graph) (v : Val) (w : �
   visible : IsVisible places t made v
 
 value_left : {s : State} {places remaining : Places} {words : List ℕ} {t made : ℕ} {g : Graph} (us : List UndoEntry) → IsHeap s places remaining words → AreBacked places words us
-    → StandsCompleted t made places remaining g us words s → (id : Id) (at i : ℕ) → address_of places id ≡ Some at → i < length (fields g id) → is_gray s.collection at i ≡ false
+    → StandsCompleted t made places remaining g us words s → (id : Id) (at i : ℕ) → address_of places id ≡ Some at → i < length (fields g id) → is_gray_field s.collection at i ≡ false
     → IsValueHere t made places g (slice_index_or (fields g id) i Null) (slice_index (taken_back us words) (field_at at i))
 value_left {s} {places} {remaining} {words} {t} {made} {g} us heap backed stands id at i there within black = elim (heap_cases heap) [
   | inl none ↦
@@ -84,7 +84,7 @@ value_left {s} {places} {remaining} {words} {t} {made} {g} us heap backed stands
 
 -- a field that is not gray, and that these writes did not write, has the word of its value, which leads to current objects
 pub field_here : {s : State} {places remaining : Places} {words : List ℕ} {t made : ℕ} {g : Graph} (us : List UndoEntry) → IsHeap s places remaining words → AreBacked places words us
-    → StandsCompleted t made places remaining g us words s → (id : Id) (at i : ℕ) → address_of places id ≡ Some at → i < length (fields g id) → is_gray s.collection at i ≡ false → IsUnwritten us (field_at at i)
+    → StandsCompleted t made places remaining g us words s → (id : Id) (at i : ℕ) → address_of places id ≡ Some at → i < length (fields g id) → is_gray_field s.collection at i ≡ false → IsUnwritten us (field_at at i)
     → IsFieldHere t made places g words id at i
 field_here {s} {places} {remaining} {words} {g = g} us heap backed stands id at i there within black unwritten =
     let value = value_left us heap backed stands id at i there within black in

@@ -12,7 +12,7 @@ use Rattle.log_machine.specs.Machine.{Loser, State, all_taken_back, field_at, lo
 use Rattle.graph_words.specs.Places.{Places, address_of}
 use Rattle.graph_words.specs.Stands.{AreNamedByBirth, Stands}
 use Rattle.collection_words.specs.Completed.{StandsCompleted, completed, future}
-use Rattle.collection_words.specs.LaidOut.{is_gray}
+use Rattle.collection_words.specs.LaidOut.{is_gray_field}
 use Rattle.collection_words.specs.Writes.{AreBacked, IsHereWrite}
 use Rattle.collection_words.proofs.Laid.TakenBack.{each_taken_back-list}
 use Rattle.seen_laws.specs.Heap.{AreAllBacked, AreNames, IsFieldHere, IsHeap, IsUnwritten, IsUnwrittenByOthers, StandsSealed, StandsViewed}
@@ -75,7 +75,7 @@ viewed_object s places remaining words {t} {made} heap backed stands id at there
 
 -- a field of it that is not gray, and that no other wrote, has the word of its value
 pub viewed_field : (s : State) (places remaining : Places) (words : List ℕ) {t made : ℕ} {g : Graph} → IsHeap s places remaining words → AreAllBacked s places words → StandsViewed t made places remaining g words s
-    → (id : Id) (at i : ℕ) → address_of places id ≡ Some at → i < length (fields g id) → is_gray s.collection at i ≡ false → IsUnwrittenByOthers s t (field_at at i) → IsFieldHere t made places g words id at i
+    → (id : Id) (at i : ℕ) → address_of places id ≡ Some at → i < length (fields g id) → is_gray_field s.collection at i ≡ false → IsUnwrittenByOthers s t (field_at at i) → IsFieldHere t made places g words id at i
 viewed_field s places remaining words {t} {made} heap backed stands id at i there within black unwritten =
     field_here (writes_of_all (others s t)) heap (backed_others s t places words backed) (viewed_stands s t made places remaining words stands) id at i there within black
     (none_wrote (others s t) (field_at at i)

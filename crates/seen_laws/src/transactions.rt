@@ -7,7 +7,7 @@ ghost use Rattle.log_machine.specs.Machine.{State, all_taken_back, field_at};
 ghost use Rattle.graph_words.specs.Places.{Places, address_of};
 ghost use Rattle.graph_words.specs.Stands.{AreNamedByBirth};
 ghost use Rattle.collection_words.specs.Completed.{completed, future};
-ghost use Rattle.collection_words.specs.LaidOut.{is_gray};
+ghost use Rattle.collection_words.specs.LaidOut.{is_gray_field};
 ghost use Rattle.seen_laws.specs.Heap.{AreAllBacked, AreNames, IsFieldHere, IsHeap, IsUnwrittenByOthers, StandsSealed, StandsViewed};
 
 /// The graph of the transactions that have ended is seen in the words as they stand without the writes of the others.
@@ -27,5 +27,5 @@ pub fn transactions_find_lengths()
 
 /// A field of it that is not gray, and that no other transaction wrote, has the word of the value that the transaction sees.
 pub fn transactions_find_fields()
-    ensures { (s : State) (places remaining : Places) (words : List ℕ) (t made : ℕ) (g : Graph) (id : Id) (at i : ℕ) → IsHeap s places remaining words → AreAllBacked s places words → StandsViewed t made places remaining g words s → address_of places id ≡ Some at → i < length (fields g id) → is_gray s.collection at i ≡ false → IsUnwrittenByOthers s t (field_at at i) → IsFieldHere t made places g words id at i }
+    ensures { (s : State) (places remaining : Places) (words : List ℕ) (t made : ℕ) (g : Graph) (id : Id) (at i : ℕ) → IsHeap s places remaining words → AreAllBacked s places words → StandsViewed t made places remaining g words s → address_of places id ≡ Some at → i < length (fields g id) → is_gray_field s.collection at i ≡ false → IsUnwrittenByOthers s t (field_at at i) → IsFieldHere t made places g words id at i }
 {}

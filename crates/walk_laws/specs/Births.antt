@@ -12,8 +12,8 @@ use Rattle.log_machine.specs.Collecting.{other_base}
 use Rattle.collection_words.specs.LaidOut.{AreOldEndToEnd}
 
 -- an object of the from-space is not copied
-abbrev pub is_left : Collection → ℕ → Bool
-is_left k at = not (contains k.moved at)
+abbrev pub is_uncopied : Collection → ℕ → Bool
+is_uncopied k at = not (contains k.moved at)
 
 -- The from-space still tells the births of its objects, copied or not: they differ, a copy has that of its original, and no other places are
 -- taken for those of copied objects.
@@ -38,7 +38,7 @@ pub record AreBornInBoth (next : ℕ) (words : List ℕ) (base used : ℕ) (from
   pub born_before : AreBornBefore next words base walked.starts
   pub originals : AreOriginals from.collection words walked.olds
   pub old_born_before : AreBornBeforeOrRoot next words walked.olds
-  pub left_apart : (at b : ℕ) → Contains walked.olds at → is_left from.collection at ≡ true → Contains walked.starts b → birth_at words at ≢ birth_at words b
+  pub left_apart : (at b : ℕ) → Contains walked.olds at → is_uncopied from.collection at ≡ true → Contains walked.starts b → birth_at words at ≢ birth_at words b
 
 -- the same of a walk of the current space alone or of both
 abbrev pub AreBornBeside : ℕ → (words : List ℕ) (base used : ℕ) (from : Option FromSpace) → IsWalkedBeside words base used from → Type 0

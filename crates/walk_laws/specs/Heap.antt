@@ -11,7 +11,7 @@ use Rattle.graph_words.specs.Places.{AreOld, Places, made_by}
 use Rattle.graph_words.specs.Stands.{AreNamedByBirth, ArePlaced}
 use Rattle.collection_words.specs.Completed.{StandsCompleted, future, in_other_space}
 use Rattle.collection_words.specs.LaidOut.{IsLaidOut}
-use Rattle.walk_laws.specs.Births.{HasOriginals, is_left}
+use Rattle.walk_laws.specs.Births.{HasOriginals, is_uncopied}
 use Rattle.heap_words.specs.declared.TheConstants.{STABLE_WORDS}
 
 -- The spaces.
@@ -42,7 +42,7 @@ current_starts words base used (Some from) walked = walked.starts
 -- those of the from-space that are not copied
 abbrev pub left_starts : (words : List ℕ) (base used : ℕ) (from : Option FromSpace) → IsWalkedBeside words base used from → List ℕ
 left_starts words base used None walked = []
-left_starts words base used (Some from) walked = filter (is_left from.collection) walked.olds
+left_starts words base used (Some from) walked = filter (is_uncopied from.collection) walked.olds
 
 -- the same of the walk of a state
 abbrev pub current_of : (s : State) (words : List ℕ) → IsStateWalked s words → List ℕ

@@ -11,7 +11,7 @@ ghost use Rattle.graph_words.specs.Places.{AreOld, Places};
 ghost use Rattle.collection_words.specs.Completed.{StandsCompleted};
 ghost use Rattle.collection_words.specs.LaidOut.{IsLaidOut, IsUnderway};
 ghost use Rattle.collection_words.specs.Writes.{AreBacked};
-ghost use Rattle.walk_laws.specs.Births.{is_left};
+ghost use Rattle.walk_laws.specs.Births.{is_uncopied};
 ghost use Rattle.walk_laws.specs.Heap.{AreNamedApart, AreSpaces, HoldsGraph, HoldsWhole, IsStateWalked, address_name_beside, current_of, left_of, places_by};
 
 /// The walk of a heap in which a committed graph stands passes, within a collection or without one.
@@ -31,7 +31,7 @@ pub fn taken_back_heaps_hold_graphs()
 
 /// Where the walk of both spaces passes a collection is under way, with the words laid out, under any names.
 pub fn walked_spaces_are_laid_out()
-    ensures { (s : State) (k : Collection) (words : List ℕ) (name : ℕ → Id) → s.collection ≡ Some k → AreSpaces s words → (walked : IsCollectionWalked words s.base s.used (record { base = other_base s; collection = k })) → IsUnderway s k (places_by name walked.starts) (places_by name (filter (is_left k) walked.olds)) words }
+    ensures { (s : State) (k : Collection) (words : List ℕ) (name : ℕ → Id) → s.collection ≡ Some k → AreSpaces s words → (walked : IsCollectionWalked words s.base s.used (record { base = other_base s; collection = k })) → IsUnderway s k (places_by name walked.starts) (places_by name (filter (is_uncopied k) walked.olds)) words }
 {}
 
 /// Where the walk passes a graph stands, under any names that keep the objects apart and give the root's to the one at the base.

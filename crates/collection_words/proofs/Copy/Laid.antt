@@ -17,14 +17,14 @@ use Rattle.object_layout.specs.Layout.{led, object_at}
 use Rattle.object_layout.specs.Walk.{AreEndToEnd, IsFilled, IsInside}
 use Rattle.object_layout.proofs.ObjectLaws.{end_to_end_push}
 use Rattle.object_layout.proofs.WalkLaws.{Contains-cases, Contains-head, Contains-none, Contains-rest}
-use Rattle.log_machine.specs.Collecting.{can_hold, can_move, copied_in, copy_after, other_base, with_copy, with_moved}
+use Rattle.log_machine.specs.Collecting.{can_hold, can_move, copied_while, copy_after, other_base, with_copy, with_moved}
 use Rattle.log_machine.specs.Machine.{State, field_at, owed, space_words, words_in}
 use Rattle.log_machine.specs.Sound.{IsSpaced}
 use Rattle.graph_words.specs.Places.{Places, addresses}
 use Rattle.graph_words.proofs.Places.Addresses.{address_of-Contains}
 use Rattle.collection_words.specs.Completed.{IsMade, without}
-use Rattle.collection_words.specs.Copying.{copied_words, next_copy, object_words_at, with_place}
-use Rattle.collection_words.specs.LaidOut.{IsForwarded, IsFromSpace, LeadsHere, MayLeadBack, is_gray, old_length}
+use Rattle.collection_words.specs.Copying.{copied_words, next_copy, words_to_copy, with_place}
+use Rattle.collection_words.specs.LaidOut.{StandsOrForwards, IsFromSpace, LeadsHere, MayLeadBack, is_gray_field, old_length}
 use Rattle.collection_words.proofs.Copy.Ascending.{addresses_without, filter_twice, other_than}
 use Rattle.collection_words.proofs.Copy.Words.{CopyRoom, IsCopying, copied_forward, copied_here, copied_left, copied_made, copied_old, copy_room, length-copied}
 use Rattle.collection_words.proofs.Laid.Filled.{filled_by, filling}
@@ -38,7 +38,7 @@ use Rattle.stability_tracker.proofs.ListLaws.{Contains-from_filter}
 
 -- the collection and the state behind the copy of an object
 abbrev pub copied_collection : State → Collection → List ℕ → ℕ → Collection
-copied_collection s k words from = with_moved k from (s.base + s.used) (object_words_at words from)
+copied_collection s k words from = with_moved k from (s.base + s.used) (words_to_copy words from)
 
 abbrev pub copied_state : State → Collection → List ℕ → ℕ → State
 copied_state s k words from = with_copy s k (next_copy s words from)
@@ -59,14 +59,14 @@ copy_row {s} {k} {places} {remaining} {words} {id} {from} copying =
     let sum = is.from.sum in
     let rest = room.rest in
     let free = room.room in
-    let long = length (object_words_at words from) in
+    let long = length (words_to_copy words from) in
     let moves : can_move s k from long ≡ true =
     and_from _ _
     (and_from _ _ (and_from _ _ (le-leb 2 long (omega arith)) (and_from _ _ (le-leb (other_base s) from room.above) (le-leb (from + long) (other_base s + k.used) (omega arith))))
     (le-leb (k.copied + long) k.used (omega arith)))
     (ap not left.unmoved) in
     let holds : can_hold s (s.base + s.used) long ≡ true = and_from _ _ (eq-eqb (s.base + s.used) (s.base + s.used) refl) (le-leb (s.used + long) (space_words s.pages) (omega arith)) in
-    ap (copied_in s (next_copy s words from)) is.run
+    ap (copied_while s (next_copy s words from)) is.run
     ∙ ap (λ b. if b then Some (copied_state s k words from) else None) (and_from _ _ moves holds)
 
 -- Its spaces.
@@ -158,8 +158,8 @@ inside_leads starts old_starts (Some (word.Stable at)) inside = inr (at, refl, i
 -- The from-space.
 
 old_other : {s : State} {k : Collection} {places remaining : Places} {words : List ℕ} {id : Id} {from : ℕ} (copying : IsCopying s k places remaining words id from) (room : CopyRoom s k places remaining words from)
-    (at : ℕ) → Contains copying.is.from.starts at → at ≢ from → (b : Bool) → contains k.moved at ≡ b → IsForwarded words (addresses places) at b
-    → IsForwarded (copied_words s words from) (addresses (with_place s places id)) at b × (old_length (copied_words s words from) at ≡ old_length words at)
+    (at : ℕ) → Contains copying.is.from.starts at → at ≢ from → (b : Bool) → contains k.moved at ≡ b → StandsOrForwards words (addresses places) at b
+    → StandsOrForwards (copied_words s words from) (addresses (with_place s places id)) at b × (old_length (copied_words s words from) at ≡ old_length words at)
 old_other {s} {k} {places} {remaining} {words} {id} {from} copying room at has other true moved (to, forward, here) =
     let others = copied_words s words from in
     let bounds = other_bounds s at (old_in_other copying.is at has) in
@@ -176,7 +176,7 @@ old_other {s} {k} {places} {remaining} {words} {id} {from} copying room at has o
 
 old_gone : {s : State} {k : Collection} {places remaining : Places} {words : List ℕ} {id : Id} {from : ℕ} (copying : IsCopying s k places remaining words id from) (room : CopyRoom s k places remaining words from)
     → s.base + s.used < 2097152
-    → IsForwarded (copied_words s words from) (addresses (with_place s places id)) from true × (old_length (copied_words s words from) from ≡ old_length words from)
+    → StandsOrForwards (copied_words s words from) (addresses (with_place s places id)) from true × (old_length (copied_words s words from) from ≡ old_length words from)
 old_gone {s} {k} {places} {remaining} {words} {id} {from} copying room small =
     let others = copied_words s words from in
     let to = s.base + s.used in
@@ -186,10 +186,10 @@ old_gone {s} {k} {places} {remaining} {words} {id} {from} copying room small =
 
 pub old_each : {s : State} {k : Collection} {places remaining : Places} {words : List ℕ} {id : Id} {from : ℕ} (copying : IsCopying s k places remaining words id from) (room : CopyRoom s k places remaining words from)
     → s.base + s.used < 2097152 → (at : ℕ) → Contains copying.is.from.starts at
-    → IsForwarded (copied_words s words from) (addresses (with_place s places id)) at (contains (insert k.moved from) at) × (old_length (copied_words s words from) at ≡ old_length words at)
+    → StandsOrForwards (copied_words s words from) (addresses (with_place s places id)) at (contains (insert k.moved from) at) × (old_length (copied_words s words from) at ≡ old_length words at)
 old_each {s} {k} {places} {remaining} {words} {id} {from} copying room small at has =
     let others = copied_words s words from in
-    let Both : ℕ → Bool → Type 0 = λ x b. IsForwarded others (addresses (with_place s places id)) x b × (old_length others x ≡ old_length words x) in
+    let Both : ℕ → Bool → Type 0 = λ x b. StandsOrForwards others (addresses (with_place s places id)) x b × (old_length others x ≡ old_length words x) in
     elim (cases_order at from) [
       | inl same ↦ subst (λ (x : ℕ). Both x (contains (insert k.moved from) x)) (sym same) (subst (Both from) (sym (contains-new k.moved from)) (old_gone copying room small))
       | inr beside ↦
@@ -297,7 +297,7 @@ copied_laid {s} {k} {places} {remaining} {words} {id} {from} copying limit =
               | inl before ↦
                   let there = start_within is.laid at before in
                   made_words (λ w. LeadsHere (addresses (with_place s places id)) (meaning w)) words others at at there.fields (copied_here copying room at there.fields before there.object) n i object below
-                  (λ was. leads_more s places id (meaning (slice_index words (field_at at i))) (is.laid.here at before n i was below (ap (λ o. is_gray o at i) is.run ∙ black.1)))
+                  (λ was. leads_more s places id (meaning (slice_index words (field_at at i))) (is.laid.here at before n i was below (ap (λ o. is_gray_field o at i) is.run ∙ black.1)))
               | inr new ↦ absurd (black.0 new)
             ];
         from = space;

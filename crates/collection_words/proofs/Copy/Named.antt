@@ -18,7 +18,7 @@ use Rattle.graph_words.specs.Places.{Places, address_of, addresses}
 use Rattle.graph_words.proofs.Places.Addresses.{address_of-Contains, address_of-rest, named_at, none_or_some, some_address}
 use Rattle.graph_words.proofs.Seal.Places.{address_of-append_left, address_of-append_right}
 use Rattle.collection_words.specs.Completed.{end_of, followed, followed_by, future, in_other_space, moves_from}
-use Rattle.collection_words.specs.LaidOut.{IsForwarded, IsFromSpace, LeadsHere, MayLeadBack}
+use Rattle.collection_words.specs.LaidOut.{StandsOrForwards, IsFromSpace, LeadsHere, MayLeadBack}
 use Rattle.collection_words.specs.Placed.{Ascend, HaveOwnNames}
 use Rattle.collection_words.proofs.Copy.Ascending.{ascend_chain, ascend_filter, put_destination}
 use Rattle.collection_words.proofs.Copy.Moved.{behind_there, not_first}
@@ -69,7 +69,7 @@ refers {places = places} {remaining = remaining} is own from w (Some (word.Stabl
 refers {s} {k} {places} {remaining} {words} is own from w meant means old (inr (at, leads, has)) =
     inr (by_moved (contains k.moved at) refl (from.forwarded at has))
   where
-    by_moved : (b : Bool) → contains k.moved at ≡ b → IsForwarded words (addresses places) at b → (id : Id) × RefersTo s places remaining words w id
+    by_moved : (b : Bool) → contains k.moved at ≡ b → StandsOrForwards words (addresses places) at b → (id : Id) × RefersTo s places remaining words w id
     by_moved true moved (to, forward, here) =
         let object = named places to (own_front places remaining own) here in (object.0, forwarded at to (means ∙ leads) (old at has) forward object.1)
     by_moved false unmoved object =

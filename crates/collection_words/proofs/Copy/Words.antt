@@ -21,7 +21,7 @@ use Rattle.graph_words.specs.Places.{Places, address_of, addresses}
 use Rattle.graph_words.proofs.Places.Addresses.{address_of-Contains}
 use Rattle.graph_words.proofs.Stands.Objects.{word_at_field}
 use Rattle.collection_words.specs.Completed.{IsMade, taken_by, without}
-use Rattle.collection_words.specs.Copying.{copied_words, next_copy, object_words_at}
+use Rattle.collection_words.specs.Copying.{copied_words, next_copy, words_to_copy}
 use Rattle.collection_words.specs.LaidOut.{AreOldEndToEnd, old_length}
 use Rattle.collection_words.specs.Placed.{HaveOwnNames}
 use Rattle.collection_words.proofs.Copy.Ascending.{addresses_without, taken_without}
@@ -43,7 +43,7 @@ pub record IsCopying (s : State) (k : Collection) (places remaining : Places) (w
 pub record CopyRoom (s : State) (k : Collection) (places remaining : Places) (words : List ℕ) (from : ℕ) : Type 0 where
   pub fields : ℕ
   pub object : object_at words from ≡ Some fields
-  pub size : length (object_words_at words from) ≡ 2 + fields
+  pub size : length (words_to_copy words from) ≡ 2 + fields
   pub above : other_base s ≤ from
   pub below : from + 2 + fields ≤ other_base s + space_words s.pages
   pub rest : taken_by words (addresses remaining) ≡ 2 + fields + taken_by words (addresses (without remaining from))
@@ -74,8 +74,8 @@ copy_room {s} {k} {places} {remaining} {words} {id} {from} copying =
     }
 
 copied_is : (s : State) (words : List ℕ) (from : ℕ)
-    → copied_words s words from ≡ slice_set (put_all words (enumerate_from (s.base + s.used) (object_words_at words from))) from (header_bits (Forward (s.base + s.used)))
-copied_is s words from = put_all-append words (enumerate_from (s.base + s.used) (object_words_at words from)) ((from, header_bits (Forward (s.base + s.used))) ∷ [])
+    → copied_words s words from ≡ slice_set (put_all words (enumerate_from (s.base + s.used) (words_to_copy words from))) from (header_bits (Forward (s.base + s.used)))
+copied_is s words from = put_all-append words (enumerate_from (s.base + s.used) (words_to_copy words from)) ((from, header_bits (Forward (s.base + s.used))) ∷ [])
 
 -- the words stay as many
 pub length-copied : (s : State) (words : List ℕ) (from : ℕ) → length (copied_words s words from) ≡ length words
@@ -91,10 +91,10 @@ copy_apart {s} {from = from} copying at above below =
 
 -- each word of the object is one of the copy
 pub copied_new : {s : State} {k : Collection} {places remaining : Places} {words : List ℕ} {id : Id} {from : ℕ} → (copying : IsCopying s k places remaining words id from) → (room : CopyRoom s k places remaining words from)
-    → (j : ℕ) → j < 2 + room.fields → slice_index (copied_words s words from) (s.base + s.used + j) ≡ get_or (object_words_at words from) j 0
+    → (j : ℕ) → j < 2 + room.fields → slice_index (copied_words s words from) (s.base + s.used + j) ≡ get_or (words_to_copy words from) j 0
 copied_new {s} {words = words} {from = from} copying room j within =
     let to = s.base + s.used in
-    let ws = object_words_at words from in
+    let ws = words_to_copy words from in
     let size = room.size in
     let free = room.room in
     ap (λ (l : List ℕ). get_or l (to + j) 0) (copied_is s words from)
@@ -106,10 +106,10 @@ pub copied_forward : {s : State} {k : Collection} {places remaining : Places} {w
     → slice_index (copied_words s words from) from ≡ header_bits (Forward (s.base + s.used))
 copied_forward {s} {words = words} {from = from} copying room =
     let to = s.base + s.used in
-    let long = length-put_all (enumerate_from to (object_words_at words from)) words in
+    let long = length-put_all (enumerate_from to (words_to_copy words from)) words in
     let whole = (object_header words from room.fields room.object).1 in
     ap (λ (l : List ℕ). get_or l from 0) (copied_is s words from)
-    ∙ get_or-set_same (put_all words (enumerate_from to (object_words_at words from))) from (header_bits (Forward to)) 0 (omega arith)
+    ∙ get_or-set_same (put_all words (enumerate_from to (words_to_copy words from))) from (header_bits (Forward to)) 0 (omega arith)
 
 -- every other word is as before
 pub copied_kept : {s : State} {k : Collection} {places remaining : Places} {words : List ℕ} {from : ℕ} (room : CopyRoom s k places remaining words from) (i : ℕ) → i ≢ from
@@ -117,14 +117,14 @@ pub copied_kept : {s : State} {k : Collection} {places remaining : Places} {word
 copied_kept {s} {words = words} {from = from} room i other (inl before) =
     let to = s.base + s.used in
     ap (λ (l : List ℕ). get_or l i 0) (copied_is s words from)
-    ∙ get_or-set_other (put_all words (enumerate_from to (object_words_at words from))) from i (header_bits (Forward to)) 0 other
-    ∙ put_from-before words to i (object_words_at words from) before
+    ∙ get_or-set_other (put_all words (enumerate_from to (words_to_copy words from))) from i (header_bits (Forward to)) 0 other
+    ∙ put_from-before words to i (words_to_copy words from) before
 copied_kept {s} {words = words} {from = from} room i other (inr behind) =
     let to = s.base + s.used in
     let size = room.size in
     ap (λ (l : List ℕ). get_or l i 0) (copied_is s words from)
-    ∙ get_or-set_other (put_all words (enumerate_from to (object_words_at words from))) from i (header_bits (Forward to)) 0 other
-    ∙ put_from-behind words to i (object_words_at words from) (omega arith)
+    ∙ get_or-set_other (put_all words (enumerate_from to (words_to_copy words from))) from i (header_bits (Forward to)) 0 other
+    ∙ put_from-behind words to i (words_to_copy words from) (omega arith)
 
 -- each used word is
 pub copied_current : {s : State} {k : Collection} {places remaining : Places} {words : List ℕ} {id : Id} {from : ℕ} → (copying : IsCopying s k places remaining words id from) → CopyRoom s k places remaining words from

@@ -22,7 +22,7 @@ use Rattle.log_machine.proofs.WordsLaws.{length-put_all}
 use Rattle.graph_words.specs.Places.{Places, addresses}
 use Rattle.collection_words.specs.Completed.{IsMade, moves_from, places_from, taken_at, taken_by}
 use Rattle.collection_words.specs.Flipped.{HasBegun, IsFlipping, flipped_words}
-use Rattle.collection_words.specs.LaidOut.{AreOldEndToEnd, IsForwarded, IsFromSpace, IsUnderway, LeadsHere, MayLeadBack, is_gray, old_length}
+use Rattle.collection_words.specs.LaidOut.{AreOldEndToEnd, StandsOrForwards, IsFromSpace, IsUnderway, LeadsHere, MayLeadBack, is_gray_field, old_length}
 use Rattle.collection_words.proofs.Flip.Parted.{chosen_apart, chosen_fit, chosen_made, chosen_taken, stayed_made}
 use Rattle.collection_words.proofs.Flip.Words.{flip_forward, flipping}
 use Rattle.collection_words.proofs.Laid.Filled.{AreFilling, filled_by, filling}
@@ -77,7 +77,7 @@ old_ends words others from (a ∷ rest) end each (n, same, object, more) =
 -- a start is forwarded to its copy, or stays
 pub start_kind : {s n : State} {k : Collection} {places chosen remaining : Places} {words : List ℕ} → IsFlipping s places chosen remaining words → HasBegun s n k places chosen remaining words
     → (at m : ℕ) → Contains (addresses places) at → object_at words at ≡ Some m → (b : Bool) → contains k.moved at ≡ b
-    → IsForwarded (flipped_words s words (addresses chosen)) (addresses (places_from words chosen (other_base s))) at b × (old_length (flipped_words s words (addresses chosen)) at ≡ Some m)
+    → StandsOrForwards (flipped_words s words (addresses chosen)) (addresses (places_from words chosen (other_base s))) at b × (old_length (flipped_words s words (addresses chosen)) at ≡ Some m)
 start_kind {s} {n} {k} {places} {chosen} {remaining} {words} flip begun at m has object true moved =
     let to = other_base s in
     let others = flipped_words s words (addresses chosen) in
@@ -155,14 +155,14 @@ flip_from {s} {n} {k} {places} {chosen} {remaining} {words} none flip begun =
           let made = chosen_made flip move.0 there source.fields source.object move.1 in
           let same = same_Some source.fields m (sym made.is ∙ object) in
           subst (λ (w : ℕ). MayLeadBack (addresses (places_from words chosen to)) starts (meaning w)) (sym (made.fields i (omega arith)))
-          (leads_back (addresses (places_from words chosen to)) starts (meaning (slice_index words (field_at move.0 i))) (flip.laid.here move.0 start source.fields i source.object (omega arith) (ap (λ o. is_gray o move.0 i) none)));
+          (leads_back (addresses (places_from words chosen to)) starts (meaning (slice_index words (field_at move.0 i))) (flip.laid.here move.0 start source.fields i source.object (omega arith) (ap (λ o. is_gray_field o move.0 i) none)));
       inside = λ at has m i object below.
           let start = (left_is at has).0 in
           let source = start_within flip.laid at start in
           let made = stay at source.fields has source.object in
           let same = same_Some source.fields m (sym made.is ∙ object) in
           subst (λ (w : ℕ). IsInside starts (meaning w)) (sym (made.fields i (omega arith)))
-          (leads_inside starts (meaning (slice_index words (field_at at i))) (flip.laid.here at start source.fields i source.object (omega arith) (ap (λ o. is_gray o at i) none))
+          (leads_inside starts (meaning (slice_index words (field_at at i))) (flip.laid.here at start source.fields i source.object (omega arith) (ap (λ o. is_gray_field o at i) none))
           (begun.plain at has source.fields i source.object (omega arith)));
     }
   where
@@ -208,7 +208,7 @@ flip_laid {s} {n} {k} {places} {chosen} {remaining} {words} none flip begun =
           root = first.is;
           birth = first.birth ∙ all.birth;
         }));
-        here = λ at has m i object below not_gray. let clash = sym not_gray ∙ ap (λ o. is_gray o at i) begun.run ∙ begun.gray at has in cc;
+        here = λ at has m i object below not_gray. let clash = sym not_gray ∙ ap (λ o. is_gray_field o at i) begun.run ∙ begun.gray at has in cc;
         from = subst (λ o. MatchOption o (remaining ≡ []) (λ c. IsFromSpace n c currents remaining others)) (sym begun.run) from;
       };
     }

@@ -19,7 +19,7 @@ use Rattle.graph_words.specs.Places.{Places, address_of, addresses}
 use Rattle.graph_words.proofs.Places.Addresses.{address_of-Contains, some_address}
 use Rattle.graph_words.proofs.Stands.Objects.{word_at_field}
 use Rattle.collection_words.specs.Completed.{IsMade, moves_from, places_from, taken_at, taken_by}
-use Rattle.collection_words.specs.Copying.{object_words_at}
+use Rattle.collection_words.specs.Copying.{words_to_copy}
 use Rattle.collection_words.specs.Flipped.{HasFlipped, HasStayed, HaveParted, IsFlipping, WasCopied, flipped_words}
 use Rattle.collection_words.specs.Placed.{Ascend}
 use Rattle.collection_words.proofs.Copy.Ascending.{ascend_low}
@@ -99,7 +99,7 @@ chosen_made {s} {chosen = chosen} {words = words} flip at there n object move =
     let others = flipped_words s words (addresses chosen) in
     let size = taken_object words at n object in
     let fits = chosen_fit flip in
-    let each : (j : ℕ) → j < 2 + n → slice_index others (there + j) ≡ get_or (object_words_at words at) j 0 =
+    let each : (j : ℕ) → j < 2 + n → slice_index others (there + j) ≡ get_or (words_to_copy words at) j 0 =
     λ j few. flip_new words (addresses chosen) words to at there j (chosen_apart flip) move (omega arith) fits in
     let within = (move_within words (addresses chosen) to at there move).1 in
     let long = length-put_all (flipping words (addresses chosen) to) words in

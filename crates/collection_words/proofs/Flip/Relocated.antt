@@ -13,7 +13,7 @@ use Rattle.graph_words.specs.Places.{Places, address_of, addresses}
 use Rattle.graph_words.proofs.Places.Addresses.{address_of-Contains}
 use Rattle.collection_words.specs.Completed.{IsMade, completed, followed, future}
 use Rattle.collection_words.specs.Flipped.{HasStayed, HaveParted, WasCopied}
-use Rattle.collection_words.specs.LaidOut.{IsLaidOut, LeadsHere, is_gray}
+use Rattle.collection_words.specs.LaidOut.{IsLaidOut, LeadsHere, is_gray_field}
 use Rattle.collection_words.specs.Relocated.{HasMoved, HaveSameIds, IsRelocatedObject, IsRelocatedWord}
 use Rattle.collection_words.specs.Placed.{HaveOwnNames}
 use Rattle.collection_words.proofs.Copy.Moved.{behind_there}
@@ -86,7 +86,7 @@ flipped_object {s} {n} {k} {places} {currents} {remaining} {words} {moved} flip 
       led = λ i below.
           let w = slice_index words (field_at at i) in
           let new : slice_index V (field_at to i) ≡ f w = after.made.fields i (omega arith) ∙ ap f (middle.fields i below) in
-          subst (IsRelocatedWord places P' w) (sym new) (parted_word flip w (meaning w) refl (flip.laid.here at has part.fields i middle.was below (ap (λ o. is_gray o at i) flip.none)));
+          subst (IsRelocatedWord places P' w) (sym new) (parted_word flip w (meaning w) refl (flip.laid.here at has part.fields i middle.was below (ap (λ o. is_gray_field o at i) flip.none)));
     }
 
 flipped_same : {s n : State} {k : Collection} {places currents remaining : Places} {words moved : List ℕ} → IsFlip s n k places currents remaining words moved → HaveSameIds places (currents ++ future n moved remaining)

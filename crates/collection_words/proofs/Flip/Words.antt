@@ -10,8 +10,8 @@ use Rattle.log_machine.specs.Machine.{copy_writes, put_all, writes_of}
 use Rattle.log_machine.proofs.WordsLaws.{length-put_all}
 use Rattle.log_machine.proofs.WordsFrom.{put_from-at, put_from-before, put_from-behind}
 use Rattle.collection_words.specs.Completed.{moves_from, taken_at, taken_by}
-use Rattle.collection_words.specs.Copying.{object_words_at}
-use Rattle.collection_words.specs.Flipped.{flip_copies}
+use Rattle.collection_words.specs.Copying.{words_to_copy}
+use Rattle.collection_words.specs.Flipped.{copies_of_flip}
 use Rattle.collection_words.specs.Placed.{Ascend}
 use Rattle.collection_words.proofs.Copy.Ascending.{ascend_low}
 use Rattle.collection_words.proofs.Words.Put.{put_all-append}
@@ -42,13 +42,13 @@ one_forward now from to ws within =
 
 -- the writes of the copies of these objects, from an address on
 abbrev pub flipping : List ℕ → List ℕ → ℕ → List (ℕ × ℕ)
-flipping words roots to = flat_map writes_of (flip_copies words roots to)
+flipping words roots to = flat_map writes_of (copies_of_flip words roots to)
 
 -- a word is as before that is neither where one of them stood nor one of a copy
 pub flip_kept : (words roots now : List ℕ) (to i : ℕ) → (Contains roots i → ⊥) → (i < to) ⊎ (to + taken_by words roots ≤ i) → slice_index (put_all now (flipping words roots to)) i ≡ slice_index now i
 flip_kept words [] now to i none place = refl
 flip_kept words (a ∷ rest) now to i none place =
-    let ws = object_words_at words a in
+    let ws = words_to_copy words a in
     let next = put_all now (copy_writes a to ws) in
     let size : length ws ≡ taken_at words a = omega arith in
     let here : (i < to) ⊎ (to + length ws ≤ i) = elim place [ inl before ↦ inl before | inr behind ↦ inr (omega arith) ] in
@@ -63,10 +63,10 @@ LieApart roots to end = (r : ℕ) → Contains roots r → (r < to) ⊎ (end ≤
 
 -- each word of each object is one of its copy
 pub flip_new : (words roots now : List ℕ) (to at there j : ℕ) → LieApart roots to (to + taken_by words roots) → Contains (moves_from words roots to) (at, there) → j < taken_at words at
-    → to + taken_by words roots ≤ length now → slice_index (put_all now (flipping words roots to)) (there + j) ≡ get_or (object_words_at words at) j 0
+    → to + taken_by words roots ≤ length now → slice_index (put_all now (flipping words roots to)) (there + j) ≡ get_or (words_to_copy words at) j 0
 flip_new words [] now to at there j apart has within fits = absurd (Contains-none (at, there) has)
 flip_new words (a ∷ rest) now to at there j apart has within fits =
-    let ws = object_words_at words a in
+    let ws = words_to_copy words a in
     let next = put_all now (copy_writes a to ws) in
     let size : length ws ≡ taken_at words a = omega arith in
     let long = length-put_all (copy_writes a to ws) now in
@@ -80,7 +80,7 @@ flip_new words (a ∷ rest) now to at there j apart has within fits =
           ap (λ (x : ℕ). slice_index (put_all next (flipping words rest (to + taken_at words a))) (x + j)) (sym second)
           ∙ flip_kept words rest next (to + taken_at words a) (to + j) (λ is. off (to + j) (Contains-rest a rest (to + j) is) refl) (inl (omega arith))
           ∙ one_new now a to j ws (off a (Contains-head a rest)) (omega arith) (omega arith)
-          ∙ ap (λ (x : ℕ). get_or (object_words_at words x) j 0) first
+          ∙ ap (λ (x : ℕ). get_or (words_to_copy words x) j 0) first
       | inr behind ↦
           flip_new words rest next (to + taken_at words a) at there j (λ r is. elim (apart r (Contains-rest a rest r is)) [ inl before ↦ inl (omega arith) | inr past ↦ inr (omega arith) ]) behind within (omega arith)
     ]
@@ -90,7 +90,7 @@ pub flip_forward : (words roots now : List ℕ) (low to at there : ℕ) → Asce
     → slice_index (put_all now (flipping words roots to)) at ≡ header_bits (Forward there)
 flip_forward words [] now low to at there up apart has within = absurd (Contains-none (at, there) has)
 flip_forward words (a ∷ rest) now low to at there up apart has within =
-    let ws = object_words_at words a in
+    let ws = words_to_copy words a in
     let next = put_all now (copy_writes a to ws) in
     let long = length-put_all (copy_writes a to ws) now in
     ap (λ (l : List ℕ). slice_index l at) (put_all-append now (copy_writes a to ws) (flipping words rest (to + taken_at words a)))

@@ -14,7 +14,7 @@ use Rattle.graph_words.specs.Places.{IsVisible, Places, addresses}
 use Rattle.graph_words.specs.Stands.{Stands}
 use Rattle.graph_words.proofs.Stands.Objects.{stands_field, stands_object, stands_placed}
 use Rattle.collection_words.specs.Completed.{completed, completed_places, future}
-use Rattle.collection_words.specs.LaidOut.{AreHeapWords, IsFromSpace, IsLaidOut, LeadsHere, is_gray}
+use Rattle.collection_words.specs.LaidOut.{AreHeapWords, IsFromSpace, IsLaidOut, LeadsHere, is_gray_field}
 use Rattle.collection_words.proofs.Heap.Front.{all_at, visible_leads_all}
 use Rattle.collection_words.proofs.Laid.Completed.{completed_none, move_made}
 use Rattle.collection_words.proofs.Laid.Followed.{move_placed, raw_word}
@@ -72,7 +72,7 @@ stands_alike {s} {places} {remaining} {words} heap at n has object = elim (heap_
 
 -- a field of it that is not gray has its own word in the completed words
 pub heap_word : {s : State} {places remaining : Places} {words : List ℕ} → AreHeapWords s places remaining words → (at n i : ℕ) → Contains (addresses places) at → object_at words at ≡ Some n → i < n
-    → is_gray s.collection at i ≡ false → slice_index (completed s places remaining words) (field_at at i) ≡ slice_index words (field_at at i)
+    → is_gray_field s.collection at i ≡ false → slice_index (completed s places remaining words) (field_at at i) ≡ slice_index words (field_at at i)
 heap_word {s} {places} {remaining} {words} heap at n i has object below black = elim (heap_cases heap) [
   | inl none ↦ ap (λ (ws : List ℕ). slice_index ws (field_at at i)) (completed_none s places remaining words none.none)
   | inr runs ↦ raw_word runs.1 at n i has object below black

@@ -12,7 +12,7 @@ use Rattle.log_machine.specs.Machine.{State, field_at}
 use Rattle.log_machine.specs.Sound.{IsSpaced}
 use Rattle.graph_words.specs.Places.{Places, addresses}
 use Rattle.collection_words.specs.Completed.{completed, end_of, followed, followed_by, in_other_space, moves_from, taken_by}
-use Rattle.collection_words.specs.LaidOut.{IsLaidOut, LeadsHere, is_gray}
+use Rattle.collection_words.specs.LaidOut.{IsLaidOut, LeadsHere, is_gray_field}
 use Rattle.collection_words.proofs.Laid.Completed.{move_made}
 use Rattle.collection_words.proofs.Laid.Old.{current_not_other}
 use Rattle.collection_words.proofs.Laid.Sources.{IsCollecting, here_ends}
@@ -88,7 +88,7 @@ move_kind {s} {places} {remaining} {words} laid at there has =
 
 -- A field that is not gray has its own word in the completed words.
 pub raw_word : {s : State} {k : Collection} {places remaining : Places} {words : List ℕ} → IsCollecting s k places remaining words → (at n i : ℕ) → Contains (addresses places) at → object_at words at ≡ Some n
-    → i < n → is_gray s.collection at i ≡ false → slice_index (completed s places remaining words) (field_at at i) ≡ slice_index words (field_at at i)
+    → i < n → is_gray_field s.collection at i ≡ false → slice_index (completed s places remaining words) (field_at at i) ≡ slice_index words (field_at at i)
 raw_word {s} {places = places} {remaining = remaining} {words = words} is at n i has object below not_gray =
     (move_made is at at n (move_placed is.laid at has) object).fields i below
     ∙ followed_here is.spaced is.laid words (slice_index words (field_at at i)) (is.laid.here at has n i object below not_gray)

@@ -14,7 +14,7 @@ use Rattle.log_machine.proofs.StateLaws.{spaced_more}
 use Rattle.graph_words.specs.Places.{Places, addresses}
 use Rattle.graph_words.proofs.Area.Field.{end_to_end_whole}
 use Rattle.collection_words.specs.Completed.{future, places_from, taken_by}
-use Rattle.collection_words.specs.LaidOut.{IsForwarded, IsFromSpace, IsLaidOut}
+use Rattle.collection_words.specs.LaidOut.{StandsOrForwards, IsFromSpace, IsLaidOut}
 use Rattle.collection_words.proofs.Moves.Ends.{addresses-append, places-append, places-same, taken_by-append, taken_by-ends}
 
 -- A collection runs, and the words are laid out.
@@ -57,7 +57,7 @@ pub left_object : {s : State} {k : Collection} {places remaining : Places} {word
 left_object {k = k} {places = places} {words = words} from at has =
     let kept = Contains-from_filter (λ (a : ℕ). not (contains k.moved a)) from.starts at (subst (λ (xs : List ℕ). Contains xs at) from.left has) in
     let still = no_true (contains k.moved at) kept.1 in
-    let object = subst (IsForwarded words (addresses places) at) still (from.forwarded at kept.0) in
+    let object = subst (StandsOrForwards words (addresses places) at) still (from.forwarded at kept.0) in
     record { start = kept.0; unmoved = still; fields = object.0; object = object.1 }
 
 -- at each place, and where one remains, stands an object

@@ -21,7 +21,7 @@ use Rattle.graph_words.specs.Places.{Places, addresses}
 use Rattle.graph_words.proofs.Area.Field.{birth_with_word, ends_with_word, object_with_word}
 use Rattle.graph_words.proofs.Stands.Field.{IsField}
 use Rattle.collection_words.specs.Completed.{completed, followed, followed_words, in_other_space, moves_from, taken_at}
-use Rattle.collection_words.specs.LaidOut.{AreOldEndToEnd, IsForwarded, IsFromSpace, IsLaidOut, LeadsHere, MayLeadBack, old_length}
+use Rattle.collection_words.specs.LaidOut.{AreOldEndToEnd, StandsOrForwards, IsFromSpace, IsLaidOut, LeadsHere, MayLeadBack, old_length}
 use Rattle.collection_words.specs.Writes.{IsCurrentField, IsHereWrite}
 use Rattle.collection_words.proofs.Laid.Completed.{completed-before, completed-behind, completed_put, length-completed}
 use Rattle.collection_words.proofs.Laid.Filled.{filled_by, filling}
@@ -153,8 +153,8 @@ old_ends_same words others from (a ∷ rest) end same (n, equal, long, more) =
 
 -- an object of the from-space that is forwarded to one of places, or that is whole, is so behind the write
 write_forwarded : {s : State} {k : Collection} {places remaining : Places} {words : List ℕ} {object field word : ℕ} → IsCollecting s k places remaining words → IsHereWrite places words object field word
-    → (at : ℕ) → in_other_space s at ≡ true → (b : Bool) → (b ≡ false → Contains (addresses remaining) at) → IsForwarded words (addresses places) at b
-    → IsForwarded (with_word words object field word) (addresses places) at b × (old_length (with_word words object field word) at ≡ old_length words at)
+    → (at : ℕ) → in_other_space s at ≡ true → (b : Bool) → (b ≡ false → Contains (addresses remaining) at) → StandsOrForwards words (addresses places) at b
+    → StandsOrForwards (with_word words object field word) (addresses places) at b × (old_length (with_word words object field word) at ≡ old_length words at)
 write_forwarded {s} {places = places} {remaining = remaining} {words = words} {object = object} {field = field} {word = word} is write at other true left (to, forward, has) =
     let others = with_word words object field word in
     let head = ap header (write_old is write at other) ∙ forward in
@@ -179,7 +179,7 @@ write_from : {s : State} {k : Collection} {places remaining : Places} {words : L
 write_from {s} {k} {places} {remaining} {words} {object} {field} {word} is write =
     let others = with_word words object field word in
     let from = is.from in
-    let each : (at : ℕ) → Contains from.starts at → IsForwarded others (addresses places) at (contains k.moved at) × (old_length others at ≡ old_length words at) =
+    let each : (at : ℕ) → Contains from.starts at → StandsOrForwards others (addresses places) at (contains k.moved at) × (old_length others at ≡ old_length words at) =
     λ at has. write_forwarded is write at (old_in_other is at has) (contains k.moved at) (λ unmoved. unmoved_left from at has unmoved) (from.forwarded at has) in
     record {
       starts = from.starts;

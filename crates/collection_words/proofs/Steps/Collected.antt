@@ -29,7 +29,7 @@ use Rattle.graph_words.specs.Stands.{Stands, StandsAt}
 use Rattle.graph_words.proofs.Stands.Objects.{stands_at, stands_field, stands_get, stands_object, stands_one, stands_within, word_at_field}
 use Rattle.graph_words.proofs.Stands.Visible.{place_of-apart, place_of-placed}
 use Rattle.collection_words.specs.Completed.{StandsCompleted, completed, future}
-use Rattle.collection_words.specs.LaidOut.{IsLaidOut, LeadsHere, is_gray}
+use Rattle.collection_words.specs.LaidOut.{IsLaidOut, LeadsHere, is_gray_field}
 use Rattle.collection_words.specs.Writes.{AreBacked}
 use Rattle.collection_words.specs.Placed.{HaveOwnNames}
 use Rattle.collection_words.proofs.Copy.Named.{named, own_front}
@@ -51,8 +51,8 @@ pub collected_row : {s : State} {k : Collection} {places remaining : Places} {wo
     → collected_in s s.collection ≡ Some (collected_state s)
 collected_row {s} {k} is none = ap (collected_in s) is.run ∙ ap (λ b. if b then Some (collected_state s) else None) (eq-eqb (len k.gray) 0 none)
 
-none_gray : {s : State} {k : Collection} {places remaining : Places} {words : List ℕ} → IsCollecting s k places remaining words → len k.gray ≡ 0 → (at i : ℕ) → is_gray s.collection at i ≡ false
-none_gray {k = k} is none at i = ap (λ o. is_gray o at i) is.run ∙ ap (λ set. contains set at) (empty_of_len k.gray none) ∙ contains-empty nat_cmp at
+none_gray : {s : State} {k : Collection} {places remaining : Places} {words : List ℕ} → IsCollecting s k places remaining words → len k.gray ≡ 0 → (at i : ℕ) → is_gray_field s.collection at i ≡ false
+none_gray {k = k} is none at i = ap (λ o. is_gray_field o at i) is.run ∙ ap (λ set. contains set at) (empty_of_len k.gray none) ∙ contains-empty nat_cmp at
 
 -- The words are laid out without a collection.
 pub collected_laid : {s : State} {k : Collection} {places remaining : Places} {words : List ℕ} → IsCollecting s k places remaining words → len k.gray ≡ 0 → IsLaidOut (collected_state s) places [] words

@@ -21,7 +21,7 @@ use Rattle.graph_words.specs.Places.{Places, addresses}
 use Rattle.graph_words.specs.Stands.{Stands}
 use Rattle.graph_words.proofs.Area.Field.{field_with_word}
 use Rattle.collection_words.specs.Completed.{StandsCompleted, completed, followed, future}
-use Rattle.collection_words.specs.LaidOut.{EachField, IsFromSpace, IsLaidOut, LeadsHere, is_gray}
+use Rattle.collection_words.specs.LaidOut.{EachField, IsFromSpace, IsLaidOut, LeadsHere, is_gray_field}
 use Rattle.collection_words.specs.Writes.{IsHereWrite, IsScanWrite}
 use Rattle.collection_words.proofs.Laid.Completed.{completed_put, move_made}
 use Rattle.collection_words.proofs.Laid.Followed.{followed_here, move_placed}
@@ -202,7 +202,7 @@ scan_laid {s} {k} {places} {remaining} {words} is page each =
       laid = record {
         filled = is.laid.filled;
         here = λ at has m i there below not_gray. elim (gray_left (contains k.gray at) (page_of at == page) (sym (contains-without k.gray page at) ∙ not_gray)) [
-          | inl black ↦ is.laid.here at has m i there below (ap (λ o. is_gray o at i) is.run ∙ black)
+          | inl black ↦ is.laid.here at has m i there below (ap (λ o. is_gray_field o at i) is.run ∙ black)
           | inr scanned ↦ each at scanned.0 scanned.1 m i there below
         ];
         from = from;

@@ -9,7 +9,7 @@ use Rattle.log_records.specs.declared.Record.{Record}
 use Rattle.log_machine.specs.Machine.{State, undo_of}
 use Rattle.gated_log.specs.Log.{records_of}
 use Rattle.graph_words.specs.Places.{address_of}
-use Rattle.collection_words.specs.LaidOut.{is_gray}
+use Rattle.collection_words.specs.LaidOut.{is_gray_field}
 use Rattle.collection_words.specs.Placing.{moved_by_all}
 use Rattle.heap_model.specs.Core.{Core, all_records, call_barrier, ground, held_barrier, moved, need, placing, reserved, undo_behind, undo_with, used}
 use Rattle.heap_model.proofs.Step.Goes.{used-append}
@@ -108,9 +108,9 @@ call_behind a b c rs own h kept go room disk =
 -- What a call reads or writes is not gray behind its barrier.
 pub black_call : (a : Account) (c : Core) (h : Agrees a c) (s : ℕ) (t : Transaction) → a.active s ≡ Some t → (hd i : ℕ) (id : Id) → held (view c.g0 a t).registers hd ≡ Some id
     → (b : Agrees a (behind c (call_barrier (ground c) c.g0 a (a.active s) hd i))) → (at : ℕ) → address_of (behind c (call_barrier (ground c) c.g0 a (a.active s) hd i)).places id ≡ Some at
-    → is_gray b.behind.collection at i ≡ false
+    → is_gray_field b.behind.collection at i ≡ false
 black_call a c h s t e hd i id holds =
-    let P : Core → Type 0 = λ d. (b : Agrees a d) → (at : ℕ) → address_of d.places id ≡ Some at → is_gray b.behind.collection at i ≡ false in
+    let P : Core → Type 0 = λ d. (b : Agrees a d) → (at : ℕ) → address_of d.places id ≡ Some at → is_gray_field b.behind.collection at i ≡ false in
     subst (λ (o : Option Transaction). P (behind c (call_barrier (ground c) c.g0 a o hd i))) (sym e)
     (subst (λ (o : Option Id). P (behind c (held_barrier (ground c) o i))) (sym holds)
     (subst P (moved_is c (held_barrier (ground c) (Some id) i)) (black_held a c h id i)))

@@ -14,7 +14,7 @@ use Rattle.log_machine.specs.Machine.{State, after_all, space_words, spaces_of}
 use Rattle.log_machine.proofs.MachineLaws.{after_all-append2}
 use Rattle.gated_log.specs.Log.{records_of}
 use Rattle.graph_words.specs.Places.{Places, address_of}
-use Rattle.collection_words.specs.LaidOut.{is_gray}
+use Rattle.collection_words.specs.LaidOut.{is_gray_field}
 use Rattle.collection_words.specs.Placing.{Placing}
 use Rattle.collection_words.proofs.Laid.Within.{StandsWithin, placed_within}
 use Rattle.page_scanner.specs.Passing.{collecting_after_all}
@@ -29,7 +29,7 @@ use Rattle.core_laws.proofs.Collecting.Scan.{keep}
 use Rattle.core_laws.specs.Valid.{Agrees}
 
 -- an object that starts in a page where nothing is gray is not gray
-pub page_black : (o : Option Collection) (at i : ℕ) → is_gray_in o (page_of at) ≡ false → is_gray o at i ≡ false
+pub page_black : (o : Option Collection) (at i : ℕ) → is_gray_in o (page_of at) ≡ false → is_gray_field o at i ≡ false
 page_black None at i none = refl
 page_black (Some k) at i none = by (contains k.gray at) refl
   where
@@ -55,10 +55,10 @@ scan_behind a c h k run page records planned rows =
 
 -- So no object that starts in its page is gray then.
 pub scan_black : (a : Account) (c : Core) (h : Agrees a c) (k : Collection) (run : h.behind.collection ≡ Some k) (page : ℕ) (records : List Record) (planned : scan_records (spaces_of h.behind) k (all_words c) page ≡ Some records)
-    → after_all h.behind records ≡ collecting_after_all h.behind records → (b : Agrees a (moved c records)) → (at i : ℕ) → page_of at ≡ page → is_gray b.behind.collection at i ≡ false
+    → after_all h.behind records ≡ collecting_after_all h.behind records → (b : Agrees a (moved c records)) → (at i : ℕ) → page_of at ≡ page → is_gray_field b.behind.collection at i ≡ false
 scan_black a c h k run page records planned rows b at i here =
     let kept = keep a c h k run page records planned in
-    ap (λ (n : State). is_gray n.collection at i) (scan_behind a c h k run page records planned rows b) ∙ ap (λ o. is_gray o at i) kept.underway.run ∙ kept.black at here
+    ap (λ (n : State). is_gray_field n.collection at i) (scan_behind a c h k run page records planned rows b) ∙ ap (λ o. is_gray_field o at i) kept.underway.run ∙ kept.black at here
 
 -- Behind the barrier.
 
@@ -93,7 +93,7 @@ one_behind a c h b = same_Some h.behind b.behind (sym h.told.reached ∙ b.told.
 -- an object whose page was scanned, if it was gray, is not gray behind the scan
 black_scanned : (a : Account) (c : Core) (h : Agrees a c) (id : Id) (at0 i : ℕ) → address_of c.places id ≡ Some at0 → (o : Option Collection) → h.behind.collection ≡ o → is_gray_in o (page_of at0) ≡ true
     → (p : Option (List Record)) → page_records_of (spaces_of h.behind) (all_words c) (page_of at0) o ≡ p → (b : Agrees a (moved c (unwrap_or p [])))
-    → (at : ℕ) → address_of (moved c (unwrap_or p [])).places id ≡ Some at → is_gray b.behind.collection at i ≡ false
+    → (at : ℕ) → address_of (moved c (unwrap_or p [])).places id ≡ Some at → is_gray_field b.behind.collection at i ≡ false
 black_scanned a c h id at0 i is None run gray p planned b at there = absurd (no_gray (page_of at0) gray)
 black_scanned a c h id at0 i is (Some k) run gray None planned b at there =
     let plan = total (spaces_of h.behind) k (all_words c) (page_of at0) (collected_heap a c h k run) (starts_here a c h id at0 is) in
@@ -108,23 +108,23 @@ black_scanned a c h id at0 i is (Some k) run gray (Some records) planned b at th
 -- so is one whose page holds nothing gray
 black_page : (a : Account) (c : Core) (h : Agrees a c) (id : Id) (at0 i : ℕ) → address_of c.places id ≡ Some at0 → (g : Bool) → is_gray_in h.behind.collection (page_of at0) ≡ g
     → (b : Agrees a (moved c (if g then page_records h.behind (all_words c) (page_of at0) else [])))
-    → (at : ℕ) → address_of (moved c (if g then page_records h.behind (all_words c) (page_of at0) else [])).places id ≡ Some at → is_gray b.behind.collection at i ≡ false
+    → (at : ℕ) → address_of (moved c (if g then page_records h.behind (all_words c) (page_of at0) else [])).places id ≡ Some at → is_gray_field b.behind.collection at i ≡ false
 black_page a c h id at0 i is false gray b at there =
     let same : at0 ≡ at = same_Some at0 at (sym is ∙ there) in
-    subst (λ (x : ℕ). is_gray b.behind.collection x i ≡ false) same
-    (ap (λ (s : State). is_gray s.collection at0 i) (sym (one_behind a c h b)) ∙ page_black h.behind.collection at0 i gray)
+    subst (λ (x : ℕ). is_gray_field b.behind.collection x i ≡ false) same
+    (ap (λ (s : State). is_gray_field s.collection at0 i) (sym (one_behind a c h b)) ∙ page_black h.behind.collection at0 i gray)
 black_page a c h id at0 i is true gray b at there =
     black_scanned a c h id at0 i is h.behind.collection refl gray (page_records_of (spaces_of h.behind) (all_words c) (page_of at0) h.behind.collection) refl b at there
 
 black_at : (a : Account) (c : Core) (h : Agrees a c) (id : Id) (i : ℕ) (o : Option ℕ) → address_of c.places id ≡ o → (b : Agrees a (moved c (barrier_at (Some h.behind) (all_words c) o i)))
-    → (at : ℕ) → address_of (moved c (barrier_at (Some h.behind) (all_words c) o i)).places id ≡ Some at → is_gray b.behind.collection at i ≡ false
+    → (at : ℕ) → address_of (moved c (barrier_at (Some h.behind) (all_words c) o i)).places id ≡ Some at → is_gray_field b.behind.collection at i ≡ false
 black_at a c h id i None is b at there = let never = sym is ∙ there in absurd (cc never)
 black_at a c h id i (Some at0) is b at there = black_page a c h id at0 i is (is_gray_in h.behind.collection (page_of at0)) refl b at there
 
 -- behind its barrier an object is not gray
 pub black_held : (a : Account) (c : Core) (h : Agrees a c) (id : Id) (i : ℕ) → (b : Agrees a (moved c (held_barrier (ground c) (Some id) i)))
-    → (at : ℕ) → address_of (moved c (held_barrier (ground c) (Some id) i)).places id ≡ Some at → is_gray b.behind.collection at i ≡ false
+    → (at : ℕ) → address_of (moved c (held_barrier (ground c) (Some id) i)).places id ≡ Some at → is_gray_field b.behind.collection at i ≡ false
 black_held a c h id i =
     let P : Option State → Type 0 = λ s. (b : Agrees a (moved c (barrier_at s (all_words c) (address_of c.places id) i)))
-    → (at : ℕ) → address_of (moved c (barrier_at s (all_words c) (address_of c.places id) i)).places id ≡ Some at → is_gray b.behind.collection at i ≡ false in
+    → (at : ℕ) → address_of (moved c (barrier_at s (all_words c) (address_of c.places id) i)).places id ≡ Some at → is_gray_field b.behind.collection at i ≡ false in
     subst P (sym h.told.reached) (black_at a c h id i (address_of c.places id) refl)

@@ -26,7 +26,7 @@ use Rattle.collection_words.specs.Relocated.{HaveSameIds}
 use Rattle.collection_words.proofs.Laid.Names.{own_names}
 use Rattle.collection_words.proofs.Moves.Sources.{put_same}
 use Rattle.heap_model.specs.CoreTold.{HoldsAtHand}
-use Rattle.core_laws.specs.Valid.{AreLocked, AreUnlocked, IsLocked, IsWriting}
+use Rattle.core_laws.specs.Valid.{AreLockedWrites, AreUnlocked, IsLockedWrite, IsWriting}
 
 -- Names.
 
@@ -97,7 +97,7 @@ carried_fields places currents g (u ∷ us) (v ∷ vs) all of = (
   carried_fields places currents g us vs all.1 of.1,
 )
 
-carried_locked : (places currents : Places) (locks : List Lock) (us vs : List UndoEntry) → AreCarried places currents us vs → AreLocked places locks us → AreLocked currents locks vs
+carried_locked : (places currents : Places) (locks : List Lock) (us vs : List UndoEntry) → AreCarried places currents us vs → AreLockedWrites places locks us → AreLockedWrites currents locks vs
 carried_locked places currents locks [] [] all held = tt
 carried_locked places currents locks [] (v ∷ vs) all held = absurd all
 carried_locked places currents locks (u ∷ us) [] all held = absurd all

@@ -25,7 +25,7 @@ use Rattle.core_laws.proofs.Collecting.Least.{IsAmong, least_among, or_first, or
 use Rattle.core_laws.proofs.Collecting.Scan.{keep}
 use Rattle.core_laws.proofs.Step.Goes.{writing_of}
 use Rattle.core_laws.proofs.Step.Sound.{reached_agrees}
-use Rattle.core_laws.specs.Collects.{HoldsTheorem, IsScanned, ScanTheorem}
+use Rattle.core_laws.specs.Collects.{HoldsTheorem, CanBeScanned, ScanTheorem}
 use Rattle.core_laws.specs.Valid.{Agrees, IsValid}
 
 -- The next page.

@@ -10,7 +10,7 @@ use Rattle.heap_spaces.specs.Spaces.{IsSpaces}
 use Rattle.log_records.specs.Record.{IsRecord}
 use Rattle.log_machine.specs.Machine.{field_at, spaces_of}
 use Rattle.graph_words.specs.Places.{addresses}
-use Rattle.collection_words.specs.LaidOut.{LeadsHere, is_gray}
+use Rattle.collection_words.specs.LaidOut.{LeadsHere, is_gray_field}
 use Rattle.collection_words.proofs.Laid.Within.{start_within}
 use Rattle.flip_copy.proofs.FlipRecord.{planned_record}
 use Rattle.flip_laws.proofs.Roots.{flip_planned, root_start}
@@ -33,5 +33,5 @@ flip_spelled a c h none =
           let object = start_within can.laid at start in
           all_fields IsFieldWord (all_words c) at object.fields object.object (λ i below.
           here_word (addresses c.places) (slice_index (all_words c) (field_at at i)) (meaning (slice_index (all_words c) (field_at at i))) refl
-          (can.laid.here at start object.fields i object.object below (ap (λ o. is_gray o at i) none)));
+          (can.laid.here at start object.fields i object.object below (ap (λ o. is_gray_field o at i) none)));
     })

@@ -32,7 +32,7 @@ use Rattle.graph_words.proofs.Seal.Stands.{ends_on}
 use Rattle.graph_words.specs.Stands.{Stands, StandsAt, StandsCommitted, AreWritten, IsOfField, AreOfFields}
 use Rattle.graph_words.proofs.Stands.Objects.{stands_field_apart, stands_field_one, stands_get, stands_object, stands_one, stands_placed, stands_words}
 use Rattle.graph_words.proofs.Stands.Visible.{StandsAsBefore, area_used-same, committed_address, committed_visible, index_of-same, map_bits_of-same, place_of-apart, place_of-placed}
-use Rattle.core_laws.specs.Valid.{AreLocked}
+use Rattle.core_laws.specs.Valid.{AreLockedWrites}
 
 -- A transaction that goes on while another one is sealed: what it sees, has made, holds and has written, before and behind the seal.
 pub record Bystander : Type 0 where
@@ -63,7 +63,7 @@ pub record IsBystander (c : Bystander) : Type 0 where
   pub has : HasMade c.places c.g c.u c.made
   pub written : AreWritten c.places c.g c.undo
   pub of_fields : AreOfFields c.places c.g c.undo
-  pub locked : AreLocked c.places c.locks c.undo
+  pub locked : AreLockedWrites c.places c.locks c.undo
   pub settled : StandsCommitted c.later_places c.sealed c.committed c.base c.later_used
   pub back : taken_back c.undo c.later_words ≡ c.committed
   pub grown : (id : Id) (at : ℕ) → address_of c.places id ≡ Some at → address_of c.later_places id ≡ Some at
@@ -91,7 +91,7 @@ record IsHeldField (places : Places) (g : Graph) (locks : List Lock) (v : UndoEn
 
 -- writes of fields are such where they are of objects that are held so
 held_fields : {t made : ℕ} {places : Places} {g : Graph} {words : List ℕ} {base used : ℕ} → Stands t made places g words base used
-    → (locks : List Lock) (us : List UndoEntry) → AreOfFields places g us → AreLocked places locks us → AllByRecursion (IsHeldField places g locks) us
+    → (locks : List Lock) (us : List UndoEntry) → AreOfFields places g us → AreLockedWrites places locks us → AllByRecursion (IsHeldField places g locks) us
 held_fields stands locks [] all locked = tt
 held_fields stands locks (v ∷ us) all locked =
     let one = all.0 in

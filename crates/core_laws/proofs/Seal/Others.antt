@@ -42,7 +42,7 @@ use Rattle.core_laws.proofs.Seal.Bystander.{Bystander, IsBystander, beside_field
 use Rattle.core_laws.proofs.Step.Goes.{writing_of}
 use Rattle.core_laws.proofs.Sessions.OtherWrites.{IsAway, length-others, others_get, undo_other}
 use Rattle.core_laws.proofs.Seal.Words.{own_taken_back}
-use Rattle.core_laws.specs.Valid.{AreLocked, AreUnlocked, IsLocked, Agrees}
+use Rattle.core_laws.specs.Valid.{AreLockedWrites, AreUnlocked, IsLockedWrite, Agrees}
 
 -- Words, and where objects stand in them, before a seal and behind it.
 pub record Sealed : Type 0 where
@@ -123,12 +123,12 @@ module _ (a : Account) (c : Core) (h : Agrees a c) {numbers : List ℕ} {heard :
       sym (get_same before.graph behind.graph q here there (alike.views.objects q (λ same. differ (sym same)) free))
 
   -- it has locked what it wrote, with more objects in the current space
-  pub locked_beside : (more : Places) → AreLocked (c.places ++ more) (locks_of after u) (undo_of last u.number)
+  pub locked_beside : (more : Places) → AreLockedWrites (c.places ++ more) (locks_of after u) (undo_of last u.number)
   locked_beside more =
       let w = writing_of a c r u also h in
-      subst (λ us. AreLocked (c.places ++ more) (locks_of after u) us) (sym same_undo)
-      (subst (λ ls. AreLocked (c.places ++ more) ls its_undo) alike.locks
-      (AllByRecursion-map (IsLocked c.places (locks_of left u)) (IsLocked (c.places ++ more) (locks_of left u)) its_undo
+      subst (λ us. AreLockedWrites (c.places ++ more) (locks_of after u) us) (sym same_undo)
+      (subst (λ ls. AreLockedWrites (c.places ++ more) ls its_undo) alike.locks
+      (AllByRecursion-map (IsLockedWrite c.places (locks_of left u)) (IsLockedWrite (c.places ++ more) (locks_of left u)) its_undo
       (λ v one. record { id = one.id; object = address_of-append_left c.places more one.id v.object one.object; lock = one.lock }) w.locked))
 
   -- and no locked object remains
@@ -148,7 +148,7 @@ module _ (a : Account) (c : Core) (h : Agrees a c) {numbers : List ℕ} {heard :
       (subst (λ rs. AllByRecursion (HoldsAtHand (c.places ++ more) u.number before.made) rs) alike.views.registers here)
 
   module _ (p : Sealed) (law : IsSealed c h.behind last t.number after p) (sees : Sees h.behind before u.number its_undo p.places p.words p.used)
-      (locked : AreLocked p.places (locks_of left u) its_undo) where
+      (locked : AreLockedWrites p.places (locks_of left u) its_undo) where
     -- the words as it sees them before
     abbrev its_words : List ℕ
     its_words = others_taken_back h.behind u.number p.words

@@ -46,7 +46,7 @@ use Rattle.graph_words.proofs.Stands.Objects.{stands_field, stands_object, stand
 use Rattle.graph_words.proofs.Stands.Visible.{committed_at_hand, visible_on}
 use Rattle.graph_words.proofs.Stands.Write.{begin_made_next, committed_stands}
 use Rattle.collection_words.specs.Completed.{future}
-use Rattle.collection_words.specs.LaidOut.{AreHeapWords, IsFromSpace, LeadsHere, is_gray}
+use Rattle.collection_words.specs.LaidOut.{AreHeapWords, IsFromSpace, LeadsHere, is_gray_field}
 use Rattle.collection_words.specs.Writes.{AreBacked, IsHereWrite}
 use Rattle.collection_words.proofs.Copy.Stands.{root_current}
 use Rattle.collection_words.proofs.Heap.Cases.{HasNone, IsPlain, plain}
@@ -293,7 +293,7 @@ module _ (a : Account) (c : Core) (h : Agrees a c) {numbers : List ℕ} {heard :
               let same = same_Some lies.fields (length (fields seen.graph id)) (sym lies.object ∙ object) in
               let below = lies.below in
               let kept = untouched promotion now x (promotion_writes (λ y. x ≢ y) own_area own_words own_undo next_free (λ y above here. omega arith) other) in
-              let leads = h.told.heap.laid.here at (address_of-Contains c.places id at old) (length (fields seen.graph id)) i object within (ap (λ k. is_gray k at i) none.none) in
+              let leads = h.told.heap.laid.here at (address_of-Contains c.places id at old) (length (fields seen.graph id)) i object within (ap (λ k. is_gray_field k at i) none.none) in
               subst (λ (w : ℕ). LeadsHere (addresses later) (meaning w)) (sym kept) (leads_more c.places placed (meaning (slice_index now x)) leads)
         ]
       ]

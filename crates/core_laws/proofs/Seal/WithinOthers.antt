@@ -39,7 +39,7 @@ use Rattle.core_laws.proofs.Seal.Told as seal
 use Rattle.core_laws.proofs.Seal.Within.{can, listed, listed_all, listed_is, seen_within, within}
 use Rattle.core_laws.proofs.Seal.WithinTold.{told_there}
 use Rattle.core_laws.proofs.Step.Goes.{words_with, writing_of}
-use Rattle.core_laws.specs.Valid.{AreLocked, IsLocked, IsWriting, Agrees}
+use Rattle.core_laws.specs.Valid.{AreLockedWrites, IsLockedWrite, IsWriting, Agrees}
 
 module _ (a : Account) (c : Core) (h : Agrees a c) {numbers : List ℕ} {heard : Heard} (o : IsOrdered c.g0 numbers a heard) (s : ℕ) (t : Transaction) (e : a.active s ≡ Some t)
     (k : Collection) (run : IsCollecting h.behind k c.places c.remaining (all_words c)) (space : seal.HasSpace a c h o s t e) where
@@ -101,10 +101,10 @@ module _ (a : Account) (c : Core) (h : Agrees a c) {numbers : List ℕ} {heard :
         let w = writing_of a c r u also h in
         record { stands = w.stands; has = whole_made w; written = w.written; of_fields = whole_fields w }
 
-    locked : AreLocked words.places (locks_of (serial c.g0 a.sealed) u) its_undo
+    locked : AreLockedWrites words.places (locks_of (serial c.g0 a.sealed) u) its_undo
     locked =
         let ls = locks_of (serial c.g0 a.sealed) u in
-        AllByRecursion-map (IsLocked c.places ls) (IsLocked words.places ls) its_undo
+        AllByRecursion-map (IsLockedWrite c.places ls) (IsLockedWrite words.places ls) its_undo
         (λ v one. record { id = one.id; object = address_of-append_left c.places (future h.behind (all_words c) c.remaining) one.id v.object one.object; lock = one.lock })
         (writing_of a c r u also h).locked
 

@@ -22,7 +22,7 @@ use Rattle.volatile_area.specs.Area.{AreaState}
 use Rattle.graph_words.proofs.Area.Fields.{written_from_field, write_at}
 use Rattle.graph_words.proofs.Promotion.Fix.{fixes}
 use Rattle.graph_words.proofs.Places.Lists.{AllByRecursion-from_get, Contains-get}
-use Rattle.graph_words.specs.Promotion.{Field, Move, base_of, fix_meant, fix_of, moves_of, moves_to, moved_words, promoted_by, promotion_records, words_taken, written_fields}
+use Rattle.graph_words.specs.Promotion.{Field, Move, base_of, fix_meant, fix_of, moves_of, moves_to, promoted_words, promoted_by, promotion_records, words_taken, written_fields}
 use Rattle.core_laws.proofs.Sessions.OtherWrites.{IsAway}
 
 -- Where records write.
@@ -48,7 +48,7 @@ bases_write : (P : ℕ → Type 0) (area : AreaState) (moves : List Move) (from 
     → WriteAt P (map (base_of area moves) (moves_to area starts address))
 bases_write P area moves from [] address above free = tt
 bases_write P area moves from (at ∷ rest) address above free = (
-  run_writes P from address (moved_words area moves at) above free,
+  run_writes P from address (promoted_words area moves at) above free,
   bases_write P area moves from rest (address + words_taken area at) (omega arith) free,
 )
 

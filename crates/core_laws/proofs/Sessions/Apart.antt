@@ -31,12 +31,12 @@ use Rattle.graph_words.proofs.Places.Addresses.{address_of-Contains, some_addres
 use Rattle.graph_words.proofs.Seal.Places.{address_of-append_left}
 use Rattle.graph_words.proofs.Stands.Objects.{stands_object, stands_one, stands_field_apart, stands_field_one, word_at_field}
 use Rattle.collection_words.specs.Completed.{completed, completed_places, future}
-use Rattle.collection_words.specs.LaidOut.{is_gray}
+use Rattle.collection_words.specs.LaidOut.{is_gray_field}
 use Rattle.collection_words.proofs.Heap.Cases.{stands_alike}
 use Rattle.collection_words.proofs.Laid.Within.{placed_within}
 use Rattle.heap_model.proofs.ListLaws.{AllByRecursion-at}
 use Rattle.heap_model.specs.Core.{Core, all_words}
-use Rattle.core_laws.specs.Valid.{IsLocked, IsWriting, Agrees}
+use Rattle.core_laws.specs.Valid.{IsLockedWrite, IsWriting, Agrees}
 use Rattle.core_laws.proofs.Step.Goes.{writing_of}
 use Rattle.core_laws.proofs.Sessions.OtherWrites.{IsAway, others_at, length-others}
 use Rattle.core_laws.proofs.Sessions.Whole.{value_here, whole_made, word_here}
@@ -125,7 +125,7 @@ module _ (a : Account) (c : Core) (h : Agrees a c) {numbers : List ℕ} {heard :
       → length (fields (view c.g0 a t).graph id) ≡ length (fields (serial c.g0 a.sealed) id)
   same_length s t e id at is = same_length_all s t e id at (among_all id at is)
 
-  held_field : (s : ℕ) (t : Transaction) → a.active s ≡ Some t → (v : UndoEntry) → IsOfField c.places (view c.g0 a t).graph v → IsLocked c.places (locks_of (serial c.g0 a.sealed) t) v
+  held_field : (s : ℕ) (t : Transaction) → a.active s ≡ Some t → (v : UndoEntry) → IsOfField c.places (view c.g0 a t).graph v → IsLockedWrite c.places (locks_of (serial c.g0 a.sealed) t) v
       → IsHeldBy t v
   held_field s t e v field locked =
       let same : locked.id ≡ field.id = stands_one h.told.stands locked.id field.id v.object (among_all locked.id v.object locked.object) (among_all field.id v.object field.object) in
@@ -139,7 +139,7 @@ module _ (a : Account) (c : Core) (h : Agrees a c) {numbers : List ℕ} {heard :
   held_fields : (s : ℕ) (t : Transaction) → a.active s ≡ Some t → AllByRecursion (IsHeldBy t) (undo_of h.behind t.number)
   held_fields s t e =
       let w = writing_of a c s t e h in
-      both_hold (IsOfField c.places (view c.g0 a t).graph) (IsLocked c.places (locks_of (serial c.g0 a.sealed) t)) (IsHeldBy t) (undo_of h.behind t.number)
+      both_hold (IsOfField c.places (view c.g0 a t).graph) (IsLockedWrite c.places (locks_of (serial c.g0 a.sealed) t)) (IsHeldBy t) (undo_of h.behind t.number)
       (held_field s t e) w.fields w.locked
 
   others_held : (q : ℕ) (vs : List UndoEntry) → get h.behind.undo q ≡ Some vs → (w : IsWrittenBy a c h.behind q vs) → AllByRecursion (IsHeldBy w.transaction) vs
@@ -258,7 +258,7 @@ module _ (a : Account) (c : Core) (h : Agrees a c) {numbers : List ℕ} {heard :
   length_now s t e id at is = length-field_words (all_words c) at (length (fields (view c.g0 a t).graph id)) (object_now s t e id at is)
 
   module _ (s : ℕ) (t : Transaction) (e : a.active s ≡ Some t) (id : Id) (at i : ℕ) (is : address_of c.places id ≡ Some at) (within : i < length (fields (view c.g0 a t).graph id))
-      (free : IsFree c.g0 a t.number (Some (id, Shared))) (black : is_gray h.behind.collection at i ≡ false) where
+      (free : IsFree c.g0 a t.number (Some (id, Shared))) (black : is_gray_field h.behind.collection at i ≡ false) where
     -- the value of a field that is not gray, of an object that no other transaction holds exclusively, is seen among the current objects
     pub value_now : IsVisible c.places t.number (view c.g0 a t).made (slice_index_or (fields (view c.g0 a t).graph id) i Null)
     value_now = value_here (writing_of a c s t e h) h.told.heap id at is (object_now s t e id at is) i within (away_field s t e id at i is within free) black
@@ -269,7 +269,7 @@ module _ (a : Account) (c : Core) (h : Agrees a c) {numbers : List ℕ} {heard :
 
   -- so is that of any field of an object at hand, and of one past its last
   pub value_at_hand : (s : ℕ) (t : Transaction) → a.active s ≡ Some t → (id : Id) → IsAtHand c.places t.number (view c.g0 a t).made id → (i : ℕ) → IsFree c.g0 a t.number (Some (id, Shared))
-      → ((at : ℕ) → address_of c.places id ≡ Some at → is_gray h.behind.collection at i ≡ false) → IsVisible c.places t.number (view c.g0 a t).made (slice_index_or (fields (view c.g0 a t).graph id) i Null)
+      → ((at : ℕ) → address_of c.places id ≡ Some at → is_gray_field h.behind.collection at i ≡ false) → IsVisible c.places t.number (view c.g0 a t).made (slice_index_or (fields (view c.g0 a t).graph id) i Null)
   value_at_hand s t e id (inl there) i free black =
       let place = some_address (address_of c.places id) there in
       at_or_null (IsVisible c.places t.number (view c.g0 a t).made) (fields (view c.g0 a t).graph id) i tt (λ within. value_now s t e id place.0 i place.1 within free (black place.0 place.1))
@@ -277,7 +277,7 @@ module _ (a : Account) (c : Core) (h : Agrees a c) {numbers : List ℕ} {heard :
       AllByRecursion-at (IsVisible c.places t.number (view c.g0 a t).made) (fields (view c.g0 a t).graph id) i Null tt (own_visible (writing_of a c s t e h).made own)
 
   -- all of its fields
-  pub fields_now : (s : ℕ) (t : Transaction) → a.active s ≡ Some t → (id : Id) (at : ℕ) → address_of c.places id ≡ Some at → IsFree c.g0 a t.number (Some (id, Shared)) → ((i : ℕ) → is_gray h.behind.collection at i ≡ false)
+  pub fields_now : (s : ℕ) (t : Transaction) → a.active s ≡ Some t → (id : Id) (at : ℕ) → address_of c.places id ≡ Some at → IsFree c.g0 a t.number (Some (id, Shared)) → ((i : ℕ) → is_gray_field h.behind.collection at i ≡ false)
       → field_words (all_words c) at ≡ map (bits_of (place_of c.places (view c.g0 a t).graph)) (fields (view c.g0 a t).graph id)
   fields_now s t e id at is free black =
       let now = all_words c in

@@ -13,7 +13,7 @@ use Rattle.collection_words.specs.Completed.{completed, completed_places}
 use Rattle.collection_words.specs.LaidOut.{AreHeapWords}
 use Rattle.collection_words.specs.Writes.{AreBacked, IsHereWrite}
 use Rattle.collection_words.proofs.Heap.Write.{heap_taken_back, heap_write}
-use Rattle.core_laws.specs.Valid.{AreLocked, IsWriting}
+use Rattle.core_laws.specs.Valid.{AreLockedWrites, IsWriting}
 use Rattle.core_laws.proofs.Sessions.OtherWrites.{undo_other, others_write, others_abort}
 
 -- A state in which a transaction's own writes that may be taken back are the same, and what it sees too.
@@ -37,7 +37,7 @@ stays_same {places} {remaining} {v} {u} {locks} {words} {more} {s} {r} w same = 
   written = subst (λ (ps : Places). AreWritten ps v.graph (undo_of r u)) (sym same.there)
       (subst (λ (us : List UndoEntry). AreWritten (completed_places s places remaining words) v.graph us) (sym same.own) w.written);
   fields = subst (λ (us : List UndoEntry). AreOfFields places v.graph us) (sym same.own) w.fields;
-  locked = subst (λ (us : List UndoEntry). AreLocked places locks us) (sym same.own) w.locked;
+  locked = subst (λ (us : List UndoEntry). AreLockedWrites places locks us) (sym same.own) w.locked;
   unlocked = w.unlocked;
   handles = w.handles;
 }

@@ -17,7 +17,7 @@ use Rattle.graph_words.proofs.Places.Addresses.{address_of-Contains, none_or_som
 use Rattle.graph_words.proofs.Seal.Places.{address_of-append_left}
 use Rattle.graph_words.proofs.Stands.Objects.{stands_field, visible_meaning}
 use Rattle.collection_words.specs.Completed.{completed, completed_places, future}
-use Rattle.collection_words.specs.LaidOut.{AreHeapWords, LeadsHere, is_gray}
+use Rattle.collection_words.specs.LaidOut.{AreHeapWords, LeadsHere, is_gray_field}
 use Rattle.collection_words.proofs.Copy.Stands.{root_current}
 use Rattle.collection_words.proofs.Heap.Cases.{heap_word}
 use Rattle.collection_words.proofs.Heap.Front.{has_front, same_address, of_fields_front, visible_front, visible_here, visible_leads, word_front}
@@ -87,7 +87,7 @@ module _ {places remaining : Places} {v : View} {t : ℕ} {locks : List Lock} {w
 
   -- a field of a current object, where no other transaction has written
   module _ (heap : AreHeapWords state places remaining words) (id : Id) (at : ℕ) (there : address_of places id ≡ Some at) (object : object_at words at ≡ Some (length (fields v.graph id)))
-      (i : ℕ) (within : i < length (fields v.graph id)) (away : IsAway state t (field_at at i)) (black : is_gray state.collection at i ≡ false) where
+      (i : ℕ) (within : i < length (fields v.graph id)) (away : IsAway state t (field_at at i)) (black : is_gray_field state.collection at i ≡ false) where
     abbrev value : Val
     value = slice_index_or (fields v.graph id) i Null
 

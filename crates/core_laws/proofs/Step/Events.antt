@@ -29,7 +29,7 @@ use Rattle.log_records.specs.declared.Record.{Record}
 use Rattle.log_machine.specs.Machine.{State, undo_of, abort_records}
 use Rattle.heap_spaces.specs.Collection.{Collection}
 use Rattle.graph_words.specs.Places.{Places, IsVisible, address_of}
-use Rattle.collection_words.specs.LaidOut.{is_gray}
+use Rattle.collection_words.specs.LaidOut.{is_gray_field}
 use Rattle.heap_model.specs.Core.{Core, ground, all_records, next_number, undo_with, undo_behind, kept_for, view_records, call_records, call_barrier, barrier_records, behind_barrier, own_records, event_records, event_places, sealed_places, used, need, reserved, reserved_after, room_refusal, words_refusal, log_refusal, core_refusal, granted_by, with_entry, is_dirty, done, after_refusal, after}
 use Rattle.heap_model.specs.Collecting.{flip_reply, next_page, scan_reply, scan_reply_in}
 use Rattle.heap_model.proofs.Step.Goes.{need_nothing}
@@ -218,7 +218,7 @@ barrier_goes c event own valid is may records go =
 -- what a get reads, of an object that is not gray and that no other transaction holds exclusively
 get_reads : (a : Account) (d : Core) (h : Agrees a d) {numbers : List ℕ} {heard : Heard} (o : IsOrdered d.g0 numbers a heard) (s hd i h2 : ℕ) (t : Transaction) → (e : a.active s ≡ Some t)
     → ((id : Id) → held (view d.g0 a t).registers hd ≡ Some id → IsFree d.g0 a t.number (Some (id, Shared)))
-    → ((id : Id) → held (view d.g0 a t).registers hd ≡ Some id → (at : ℕ) → address_of d.places id ≡ Some at → is_gray h.behind.collection at i ≡ false)
+    → ((id : Id) → held (view d.g0 a t).registers hd ≡ Some id → (at : ℕ) → address_of d.places id ≡ Some at → is_gray_field h.behind.collection at i ≡ false)
     → ReadsVisible d.places t.number (view d.g0 a t).made (view d.g0 a t) (Get s hd i h2)
 get_reads a d h o s hd i h2 t e free black = read_here (held (view d.g0 a t).registers hd) refl
   where
@@ -268,8 +268,8 @@ write_goes c t event hd i v valid runs is may e w seen barrier records =
     let same : own_records c event ≡ own = records ∙ ap (λ (d : Core). view_records d.places t.number (view c.g0 a t) hd i v) (moved_is c (barrier_records c event)) in
     barrier_goes c event own valid is may same (λ more large there room.
     let d = scanned (roomy c more) event in
-    let black : (id : Id) → held (view c.g0 a t).registers hd ≡ Some id → (b : Agrees a d) → (at : ℕ) → address_of d.places id ≡ Some at → is_gray b.behind.collection at i ≡ false =
-    λ id holds. subst (λ (rs : List Record). (b : Agrees a (behind (roomy c more) rs)) → (at : ℕ) → address_of (behind (roomy c more) rs).places id ≡ Some at → is_gray b.behind.collection at i ≡ false)
+    let black : (id : Id) → held (view c.g0 a t).registers hd ≡ Some id → (b : Agrees a d) → (at : ℕ) → address_of d.places id ≡ Some at → is_gray_field b.behind.collection at i ≡ false =
+    λ id holds. subst (λ (rs : List Record). (b : Agrees a (behind (roomy c more) rs)) → (at : ℕ) → address_of (behind (roomy c more) rs).places id ≡ Some at → is_gray_field b.behind.collection at i ≡ false)
     (sym barrier) (black_call a (roomy c more) large s t e hd i id holds) in
     write_agrees a d o s t event hd i v own there e w.graph w.made (seen d there refl) w.within w.lock (held_free c event t hd Exclusive valid e may.free w.lock) (w.reads d.places)
     (λ id holds at place. black id holds there at place) refl room)

@@ -40,7 +40,7 @@ use Rattle.core_laws.proofs.Sessions.Actives.{each_session, sessions_with, after
 use Rattle.core_laws.proofs.Sessions.Unlocked.{unlocked_on}
 use Rattle.core_laws.proofs.Sessions.Whole.{none_left, rooted, whole_made}
 use Rattle.core_laws.proofs.Step.Told.{none_yet, others_all}
-use Rattle.core_laws.specs.Valid.{IsLocked, AreLocked, IsWriting, IsWriter, Agrees}
+use Rattle.core_laws.specs.Valid.{IsLockedWrite, AreLockedWrites, IsWriting, IsWriter, Agrees}
 
 -- Room.
 
@@ -72,7 +72,7 @@ begin_writing a c n h above some =
       apart = λ k. none_left h.behind (all_words c) c.remaining (made_by n k) (old_apart h.behind.next later n k old.1 above some);
       written = subst (AreWritten whole (serial c.g0 a.sealed)) (sym nothing) (begin_written seen);
       fields = subst (AreOfFields c.places (serial c.g0 a.sealed)) (sym nothing) tt;
-      locked = subst (AreLocked c.places []) (sym nothing) tt;
+      locked = subst (AreLockedWrites c.places []) (sym nothing) tt;
       unlocked = tt;
       handles = none_at_hand c.places n 0 64;
     }
@@ -146,11 +146,11 @@ quiet_goes a c s t event h e writes =
     })
 
 -- with one call more the objects that were written are still held
-pub locked_on : (places : Places) (g : Graph) (t : Transaction) (event : Event) (undo : List UndoEntry) → AreLocked places (locks_of g t) undo → AreLocked places (locks_of g (after_call t event)) undo
+pub locked_on : (places : Places) (g : Graph) (t : Transaction) (event : Event) (undo : List UndoEntry) → AreLockedWrites places (locks_of g t) undo → AreLockedWrites places (locks_of g (after_call t event)) undo
 locked_on places g t event undo all =
     let more = option_to_list (lock_of (run g t).registers event) in
-    subst (λ ls. AreLocked places ls undo) (sym (locks_of_calls-append (fresh_view g) t.number t.calls event))
-    (AllByRecursion-map (IsLocked places (locks_of g t)) (IsLocked places (locks_of g t ++ more)) undo
+    subst (λ ls. AreLockedWrites places ls undo) (sym (locks_of_calls-append (fresh_view g) t.number t.calls event))
+    (AllByRecursion-map (IsLockedWrite places (locks_of g t)) (IsLockedWrite places (locks_of g t ++ more)) undo
     (λ u is. record { id = is.id; object = is.object; lock = Contains-append_left (locks_of g t) more (is.id, Exclusive) is.lock }) all)
 
 quiet_writing : (places remaining : Places) (g : Graph) (t : Transaction) (event : Event) (now : List ℕ) (state : State) → AreHeapWords state places remaining now → IsQuiet (run g t) t.number event

@@ -29,7 +29,7 @@ use Rattle.graph_words.proofs.Places.Addresses.{some_address}
 use Rattle.graph_words.specs.Stands.{Stands, AreWritten, AreOfFields}
 use Rattle.graph_words.proofs.Seal.Places.{address_of-append_left}
 use Rattle.collection_words.specs.Completed.{completed, completed_places, future}
-use Rattle.collection_words.specs.LaidOut.{AreHeapWords, is_gray}
+use Rattle.collection_words.specs.LaidOut.{AreHeapWords, is_gray_field}
 use Rattle.collection_words.specs.Writes.{IsHereWrite}
 use Rattle.collection_words.proofs.Heap.Front.{visible_front}
 use Rattle.collection_words.proofs.Heap.Write.{heap_write}
@@ -50,7 +50,7 @@ use Rattle.core_laws.proofs.Sessions.Actives.{each_session, writer_by, after_cal
 use Rattle.core_laws.proofs.Sessions.Unlocked.{unlocked_on}
 use Rattle.core_laws.proofs.Sessions.Whole.{rooted, same_word, whole_made}
 use Rattle.core_laws.proofs.Step.Told.{IsWriteAt, here, was_whole, write_told}
-use Rattle.core_laws.specs.Valid.{IsActive, AreLocked, IsWriting, IsWriter, Agrees}
+use Rattle.core_laws.specs.Valid.{IsActive, AreLockedWrites, IsWriting, IsWriter, Agrees}
 
 -- What the transaction sees.
 
@@ -121,7 +121,7 @@ stable_write_writing pages first_number born places remaining g k records now t 
       fields = subst (AreOfFields places (call v n event).view.graph) (sym undo) (subst (λ k. AreOfFields places k (entry ∷ undo_of state n)) back
           (of_fields_kept places v.graph (with_field v.graph id i x) (entry ∷ undo_of state n) (λ q to is. length-with_field v.graph id i x q)
           (record { id = id; object = one.place; field = one.within }, w.fields)));
-      locked = subst (AreLocked places (locks_of g (after_call t event))) (sym undo)
+      locked = subst (AreLockedWrites places (locks_of g (after_call t event))) (sym undo)
           (record { id = id; object = one.place; lock = lock }, locked_on places g t event (undo_of state n) w.locked);
       unlocked = unlocked_on places remaining g t event now state w;
       handles = subst (λ m. AllByRecursion (HoldsAtHand places n m) (call v n event).view.registers) same handles;
@@ -148,13 +148,13 @@ record IsWrite (a : Account) (c : Core) (s : ℕ) (t : Transaction) (event : Eve
   lock : lock_of (view c.g0 a t).registers event ≡ lock_on (view c.g0 a t).registers hd Exclusive
   free : (id : Id) → held (view c.g0 a t).registers hd ≡ Some id → IsFree c.g0 a t.number (Some (id, Exclusive))
   reads : ReadsVisible c.places t.number (view c.g0 a t).made (view c.g0 a t) event
-  black : (id : Id) → held (view c.g0 a t).registers hd ≡ Some id → (at : ℕ) → address_of c.places id ≡ Some at → is_gray agrees.behind.collection at i ≡ false
+  black : (id : Id) → held (view c.g0 a t).registers hd ≡ Some id → (at : ℕ) → address_of c.places id ≡ Some at → is_gray_field agrees.behind.collection at i ≡ false
 
 -- A write into an object that stands in the current space.
 
 -- a write of a field of an object that no other transaction holds is one that the records can tell
 pub writes_at : (a : Account) (c : Core) (h : Agrees a c) {numbers : List ℕ} {heard : Heard} (o : IsOrdered c.g0 numbers a heard) (s : ℕ) (t : Transaction) (e : a.active s ≡ Some t) (id : Id) (at i : ℕ) (v : Val)
-    → address_of c.places id ≡ Some at → i < length (fields (view c.g0 a t).graph id) → IsVisible c.places t.number (view c.g0 a t).made v → IsFree c.g0 a t.number (Some (id, Exclusive)) → is_gray h.behind.collection at i ≡ false
+    → address_of c.places id ≡ Some at → i < length (fields (view c.g0 a t).graph id) → IsVisible c.places t.number (view c.g0 a t).made v → IsFree c.g0 a t.number (Some (id, Exclusive)) → is_gray_field h.behind.collection at i ≡ false
     → IsWriteAt c.pages c.first_number c.born c.places c.remaining (serial c.g0 a.sealed) (view c.g0 a t) (c.before + length a.sealed) t.number (locks_of (serial c.g0 a.sealed) t) (all_records c) (all_words c) h.behind id at i v
 writes_at a c h o s t e id at i v place within seen free black =
     let shared = free_shared c.g0 a t.number id free in
@@ -275,7 +275,7 @@ pub write_agrees : (a : Account) (c : Core) {numbers : List ℕ} {heard : Heard}
     → lock_of (view c.g0 a t).registers event ≡ lock_on (view c.g0 a t).registers hd Exclusive
     → ((id : Id) → held (view c.g0 a t).registers hd ≡ Some id → IsFree c.g0 a t.number (Some (id, Exclusive)))
     → ReadsVisible c.places t.number (view c.g0 a t).made (view c.g0 a t) event
-    → ((id : Id) → held (view c.g0 a t).registers hd ≡ Some id → (at : ℕ) → address_of c.places id ≡ Some at → is_gray h.behind.collection at i ≡ false) → more ≡ view_records c.places t.number (view c.g0 a t) hd i v → HasRoom c more (called a s event)
+    → ((id : Id) → held (view c.g0 a t).registers hd ≡ Some id → (at : ℕ) → address_of c.places id ≡ Some at → is_gray_field h.behind.collection at i ≡ false) → more ≡ view_records c.places t.number (view c.g0 a t) hd i v → HasRoom c more (called a s event)
     → Agrees (called a s event) (record c { pending = c.pending ++ more })
 write_agrees a c o s t event hd i v more h e graph made visible granted lock free reads black is room =
     let seen = view c.g0 a t in

@@ -33,7 +33,7 @@ use Rattle.graph_words.specs.Stands.{StandsCommitted}
 use Rattle.graph_words.proofs.Places.Addresses.{address_of-Contains}
 use Rattle.graph_words.proofs.Stands.Objects.{visible_field_word}
 use Rattle.collection_words.specs.Completed.{completed, completed_places, future}
-use Rattle.collection_words.specs.LaidOut.{AreHeapWords, is_gray}
+use Rattle.collection_words.specs.LaidOut.{AreHeapWords, is_gray_field}
 use Rattle.collection_words.specs.Writes.{AreBacked, IsCurrentField, IsHereWrite}
 use Rattle.collection_words.proofs.Heap.Cases.{heap_word}
 use Rattle.collection_words.proofs.Heap.Front.{visible_front}
@@ -79,7 +79,7 @@ pub record IsWriteAt (pages first_number : ℕ) (born : Bool) (places remaining 
   pub object : object_at now at ≡ Some (length (fields v.graph id))
   pub within : i < length (fields v.graph id)
   pub seen : IsVisible places t v.made x
-  pub black : is_gray state.collection at i ≡ false
+  pub black : is_gray_field state.collection at i ≡ false
   pub old : IsVisible places t v.made (slice_index_or (fields v.graph id) i Null)
   pub was : get_or now (field_at at i) 0 ≡ word_in places v.graph (slice_index_or (fields v.graph id) i Null)
 

@@ -14,7 +14,7 @@ use Rattle.log_records.proofs.RecordLaws.{length-Base}
 use Rattle.log_machine.specs.declared.UndoEntry.{UndoEntry}
 use Rattle.log_machine.specs.Machine.{field_at}
 use Rattle.volatile_area.specs.Area.{AreaState}
-use Rattle.graph_words.specs.Promotion.{Field, Move, written_fields, words_taken, moves_to, moved_words, base_of, fix_meant, fix_of, promoted_by, promoted_need, moves_of, seal_records}
+use Rattle.graph_words.specs.Promotion.{Field, Move, written_fields, words_taken, moves_to, promoted_words, base_of, fix_meant, fix_of, promoted_by, promoted_need, moves_of, seal_records}
 use Rattle.graph_words.proofs.Places.Moves.{words_needed, needed-sum}
 use Rattle.graph_words.proofs.Promotion.Fix.{fixes}
 use Rattle.graph_words.proofs.Stands.Run.{length-moved_words}
@@ -31,7 +31,7 @@ pub length-base_records : (area : AreaState) (moves : List Move) (starts : List 
     → length (spellings (map (base_of area moves) (moves_to area starts address))) ≡ 9 * length starts + 8 * words_needed area starts
 length-base_records area moves [] address = refl
 length-base_records area moves (at ∷ rest) address =
-    let first = length-Base area.transaction address (moved_words area moves at) in
+    let first = length-Base area.transaction address (promoted_words area moves at) in
     let later = length-base_records area moves rest (address + words_taken area at) in
     let taken = length-moved_words area moves at in
     let both = length-append (spelling (base_of area moves (at, address))) (spellings (map (base_of area moves) (moves_to area rest (address + words_taken area at)))) in

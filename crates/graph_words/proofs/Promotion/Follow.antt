@@ -15,7 +15,7 @@ use Rattle.object_layout.specs.Layout.{field_words, birth_at}
 use Rattle.object_layout.proofs.WalkLaws.{Contains-head, Contains-rest}
 use Rattle.volatile_area.specs.Area.{AreaState}
 use Rattle.graph_words.proofs.Places.Moves.{words_needed}
-use Rattle.graph_words.specs.Promotion.{Field, Move, words_taken, moves_to, moved_word, moved_words, base_of, fix_of, fix_meant}
+use Rattle.graph_words.specs.Promotion.{Field, Move, words_taken, moves_to, moved_word, promoted_words, base_of, fix_of, fix_meant}
 use Rattle.graph_words.proofs.Promotion.Sealed.{sealed_state}
 use Rattle.graph_words.proofs.Places.Moved.{moved_word-stable, moved_words-settled}
 use Rattle.graph_words.proofs.Promotion.Fix.{fixes}
@@ -73,7 +73,7 @@ grows_base : (s : State) (area : AreaState) (moves : List Move) (at : ℕ) → i
     → Grows s area.transaction (words_taken area at) (base_of area moves (at, s.base + s.used) ∷ [])
 grows_base s area moves at number room is =
     let t = area.transaction in
-    let ws = moved_words area moves at in
+    let ws = promoted_words area moves at in
     let long : length ws ≡ words_taken area at = length-moved_words area moves at in
     let free : IsNextFree s (s.base + s.used) (length ws) = record { at = refl; room = omega arith } in
     let own : is_promoted_by t ws ≡ true =

@@ -22,7 +22,7 @@ use Rattle.graph_words.specs.Places.{address_of, index_of, IsOwn, IsVisible, bit
 use Rattle.graph_words.proofs.Places.Addresses.{none_or_some}
 use Rattle.graph_words.proofs.Stands.Objects.{stands_field, stands_field_apart, stands_within, visible_meaning}
 use Rattle.graph_words.proofs.Stands.Visible.{place_of-placed}
-use Rattle.graph_words.specs.Promotion.{Field, written_fields, words_taken, moved, moved_word, moved_words, base_of}
+use Rattle.graph_words.specs.Promotion.{Field, written_fields, words_taken, moved, moved_word, promoted_words, base_of}
 use Rattle.graph_words.proofs.Area.Fields.{field_from_written}
 use Rattle.graph_words.proofs.Promotion.Fix.{fixes, fixes_beside, fixes_behind, fixes_right, fixes_at}
 use Rattle.graph_words.proofs.Places.Moved.{moved_word-plain, volatile_told}
@@ -148,7 +148,7 @@ later_behind c is x above =
 
 -- at its new address stand the words of an object after the move
 pub later_run : (c : Sealing) → Appends c → (at new : ℕ) → moved (moves c) at ≡ Some new → c.address ≤ new
-    → take (words_taken (area c) at) (drop new (later_words c)) ≡ moved_words (area c) (moves c) at
+    → take (words_taken (area c) at) (drop new (later_words c)) ≡ promoted_words (area c) (moves c) at
 later_run c is at new there above =
     let room = is.room in
     ap (take (words_taken (area c) at)) (later_behind c is new above ∙ ap (drop new) (middle_is c is))

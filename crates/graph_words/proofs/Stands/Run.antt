@@ -8,7 +8,7 @@ use Rattle.log_machine.specs.Machine.{put_all, put_record}
 use Rattle.log_machine.proofs.WordsFrom.{put_from}
 use Rattle.log_machine.proofs.WordsLaws.{length-put_record}
 use Rattle.volatile_area.specs.Area.{AreaState}
-use Rattle.graph_words.specs.Promotion.{Move, moved_word, words_taken, moves_to, moved, moved_words, base_of}
+use Rattle.graph_words.specs.Promotion.{Move, moved_word, words_taken, moves_to, moved, promoted_words, base_of}
 use Rattle.graph_words.proofs.Places.Moves.{moved-cases, words_needed}
 
 put_run : (now : List ℕ) (address : ℕ) (run : List ℕ) → address + length run ≤ length now
@@ -16,12 +16,12 @@ put_run : (now : List ℕ) (address : ℕ) (run : List ℕ) → address + length
 put_run now address run fits = put_from now address run fits ∙ append_assoc (take address now) run (drop (address + length run) now)
 
 -- an object keeps its length when it moves
-pub length-moved_words : (area : AreaState) (moves : List Move) (at : ℕ) → length (moved_words area moves at) ≡ words_taken area at
+pub length-moved_words : (area : AreaState) (moves : List Move) (at : ℕ) → length (promoted_words area moves at) ≡ words_taken area at
 length-moved_words area moves at = omega (arith, length-map (field_words area.words at) (moved_word moves))
 
 -- the words of these objects after the move
 abbrev pub all_moved : AreaState → List Move → List ℕ → List ℕ
-all_moved area moves starts = flat_map (moved_words area moves) starts
+all_moved area moves starts = flat_map (promoted_words area moves) starts
 
 front_of_run : (now run : List ℕ) (address : ℕ) (rest : List ℕ) → address ≤ length now → take (address + length run) (take address now ++ (run ++ rest)) ≡ take address now ++ run
 front_of_run now run address rest within =
@@ -43,7 +43,7 @@ pub put_bases : (area : AreaState) (moves : List Move) (starts : List ℕ) (addr
     ≡ take address now ++ (all_moved area moves starts ++ drop (address + words_needed area starts) now)
 put_bases area moves [] address now fits = sym (take-append-drop address now) ∙ ap (λ n. take address now ++ drop n now) (omega arith)
 put_bases area moves (at ∷ rest) address now fits =
-    let run = moved_words area moves at in
+    let run = promoted_words area moves at in
     let long : length run ≡ words_taken area at = length-moved_words area moves at in
     let next = put_record now (base_of area moves (at, address)) in
     let is : next ≡ take address now ++ (run ++ drop (address + length run) now) = put_run now address run (omega arith) in
@@ -60,10 +60,10 @@ put_bases area moves (at ∷ rest) address now fits =
 
 -- what stands at an object's new address then are its words after the move
 pub put_at : (area : AreaState) (moves : List Move) (starts : List ℕ) (address : ℕ) (before behind : List ℕ) (at new : ℕ) → length before ≡ address
-    → moved (moves_to area starts address) at ≡ Some new → take (words_taken area at) (drop new (before ++ (all_moved area moves starts ++ behind))) ≡ moved_words area moves at
+    → moved (moves_to area starts address) at ≡ Some new → take (words_taken area at) (drop new (before ++ (all_moved area moves starts ++ behind))) ≡ promoted_words area moves at
 put_at area moves [] address before behind at new long is = absurd (cc is)
 put_at area moves (a ∷ rest) address before behind at new long is =
-    let run = moved_words area moves a in
+    let run = promoted_words area moves a in
     let taken : length run ≡ words_taken area a = length-moved_words area moves a in
     let later = all_moved area moves rest ++ behind in
     let grouped : before ++ (all_moved area moves (a ∷ rest) ++ behind) ≡ (before ++ run) ++ later =
@@ -75,7 +75,7 @@ put_at area moves (a ∷ rest) address before behind at new long is =
           ∙ ap (λ xs. take (words_taken area a) (drop address xs)) (ap (λ xs. before ++ xs) (append_assoc run (all_moved area moves rest) behind))
           ∙ ap (take (words_taken area a)) (drop_at before (run ++ later) address long)
           ∙ take_at run later (words_taken area a) taken
-          ∙ ap (moved_words area moves) here.0
+          ∙ ap (promoted_words area moves) here.0
       | inr other ↦
           ap (λ xs. take (words_taken area at) (drop new xs)) grouped
           ∙ put_at area moves rest (address + words_taken area a) (before ++ run) behind at new (omega (arith, length-append before run)) other.1

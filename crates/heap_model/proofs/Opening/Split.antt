@@ -16,7 +16,7 @@ use Rattle.collection_words.specs.LaidOut.{IsLaidOut}
 use Rattle.collection_words.proofs.Laid.Followed.{place_current}
 use Rattle.collection_words.proofs.Laid.Old.{old_in_other}
 use Rattle.collection_words.proofs.Laid.Sources.{collecting}
-use Rattle.walk_laws.specs.Births.{is_left}
+use Rattle.walk_laws.specs.Births.{is_uncopied}
 use Rattle.walk_laws.specs.Heap.{AreSpaces}
 use Rattle.walk_laws.proofs.Graph.Beside.{none_left}
 use Rattle.heap_model.specs.Opening.{current_in, remaining_in}
@@ -72,7 +72,7 @@ laid_split s places remaining words spaces laid =
     there None none at has = absurd (Contains-none at (subst (λ (ps : Places). Contains (addresses ps) at) (none_left s places remaining words none laid) has))
     there (Some k) run at has =
         let is = collecting k run spaces.spaced spaces.long laid in
-        old_in_other is at (Contains-from_filter (is_left k) is.from.starts at (subst (λ (xs : List ℕ). Contains xs at) is.from.left has)).0
+        old_in_other is at (Contains-from_filter (is_uncopied k) is.from.starts at (subst (λ (xs : List ℕ). Contains xs at) is.from.left has)).0
 
 -- old names are old in both spaces
 pub split_old : (next : ℕ) (s : State) (all : Places) → AreOld next all → AreOld next (current_in (Some s) all ++ remaining_in (Some s) all)

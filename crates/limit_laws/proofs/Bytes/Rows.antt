@@ -19,7 +19,7 @@ use Rattle.log_machine.specs.Collecting.{collected_in, copies_after, copy_after,
 use Rattle.log_machine.specs.Machine.{State, after, after_all, is_number_or_none, number_of, row_after, turned, undo_of, with_entries, without_newest}
 use Rattle.log_machine.proofs.CopyRows.{copy_told}
 use Rattle.log_machine.proofs.FlipLaws.{flip_told}
-use Rattle.flip_copy.specs.Copied.{size_of}
+use Rattle.flip_copy.specs.Copied.{copied_size}
 use Rattle.core_laws.proofs.Collecting.Least.{or_second}
 use Rattle.limit_laws.specs.Bytes.{begun_by, bytes_of, led_by, left_by, moved_by_record}
 use Rattle.limit_laws.proofs.Bytes.Sets.{len_more, subset_less}
@@ -42,7 +42,7 @@ copy_cost s n from to words e =
     let after = ap (λ (x : State). left_by x.collection) (sym told.is) in
     (told.can.front, omega (arith, after, left_some s.collection told.k told.runs, len_more told.k.gray to))
 
-copies_cost : (s n : State) (copies : List ObjectCopy) → copies_after s copies ≡ Some n → length (flat_map copy_bytes copies) + left_by n.collection ≤ 16 * size_of copies + left_by s.collection
+copies_cost : (s n : State) (copies : List ObjectCopy) → copies_after s copies ≡ Some n → length (flat_map copy_bytes copies) + left_by n.collection ≤ 16 * copied_size copies + left_by s.collection
 copies_cost s n [] e = let same = ap (λ (x : State). left_by x.collection) (same_Some s n e) in omega arith
 copies_cost s n (copy ∷ copies) e =
     option_and_then_some (λ next. copies_after next copies) (copy_after s copy) n e (λ next one rest.

@@ -20,7 +20,7 @@ use Rattle.graph_words.proofs.Places.Addresses.{some_address}
 use Rattle.graph_words.proofs.Seal.Places.{address_of-append_left, address_of-append_right}
 use Rattle.graph_words.proofs.Stands.Visible.{committed_address}
 use Rattle.collection_words.specs.Completed.{StandsCompleted, future, places_from, taken_at}
-use Rattle.collection_words.specs.LaidOut.{is_gray}
+use Rattle.collection_words.specs.LaidOut.{is_gray_field}
 use Rattle.collection_words.specs.Placed.{HaveOwnNames}
 use Rattle.collection_words.specs.Placing.{moved_by_all, placing_of}
 use Rattle.collection_words.proofs.Copy.Stands.{completed_own, root_current}
@@ -80,7 +80,7 @@ module _ (a : Account) (e : Core) (h : Agrees a e) (k : Collection) (run : h.beh
       let left = back us is (backed_all h.behind e.places (all_words e) h.told.backed) stands in
       let heap : IsHeap h.behind e.places e.remaining (taken_back us (all_words e)) = record { spaced = left.is.spaced; long = left.is.long; laid = left.is.laid } in
       let within = slice_get_within (fields g z) i (Ref y) refers in
-      let here = field_here [] heap tt left.stands z at i there within (ap (λ o. is_gray o at i) run ∙ black) tt in
+      let here = field_here [] heap tt left.stands z at i there within (ap (λ o. is_gray_field o at i) run ∙ black) tt in
       let value : slice_index_or (fields g z) i Null ≡ Ref y = same_Some (slice_index_or (fields g z) i Null) (Ref y) (sym (slice_get-get_or (fields g z) i Null within) ∙ refers) in
       let to = committed_address e.places y (subst (IsVisible e.places 0 0) value here.visible) in
       current_left y to.0 to.1

@@ -26,7 +26,7 @@ use Rattle.graph_words.specs.Places.{Places, address_of, addresses}
 use Rattle.graph_words.proofs.Places.Addresses.{address_of-cases, address_of-head}
 use Rattle.graph_words.proofs.Seal.Places.{address_of-append_left, address_of-append_right}
 use Rattle.collection_words.specs.Completed.{StandsCompleted, future}
-use Rattle.collection_words.specs.LaidOut.{IsUnderway, LeadsHere, is_gray}
+use Rattle.collection_words.specs.LaidOut.{IsUnderway, LeadsHere, is_gray_field}
 use Rattle.collection_words.specs.Placed.{HaveOwnNames}
 use Rattle.collection_words.specs.Placing.{Placing, moved_by, moved_by_all, placing_of, put_at}
 use Rattle.collection_words.specs.Writes.{AreBacked, IsHereWrite}
@@ -218,10 +218,10 @@ module _ (s : State) (k : Collection) (places remaining : Places) (words : List 
 
   -- a field that was led is of a gray object
   led_gray : (write : ℕ × ℕ) → (w : IsLedWrite d.next d.currents d.moved write) → contains d.now.gray w.object ≡ true
-  led_gray write w = by (is_gray d.next.collection w.object w.field) refl
+  led_gray write w = by (is_gray_field d.next.collection w.object w.field) refl
     where
-      by : (b : Bool) → is_gray d.next.collection w.object w.field ≡ b → contains d.now.gray w.object ≡ true
-      by true gray = sym (ap (λ o. is_gray o w.object w.field) is.run) ∙ gray
+      by : (b : Bool) → is_gray_field d.next.collection w.object w.field ≡ b → contains d.now.gray w.object ≡ true
+      by true gray = sym (ap (λ o. is_gray_field o w.object w.field) is.run) ∙ gray
       by false gray =
           let here = is.laid.here w.object w.is.start w.is.fields w.field w.is.stands w.is.within gray in
           let there = subst (LeadsHere (addresses d.currents)) w.back here in

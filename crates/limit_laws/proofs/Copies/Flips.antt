@@ -38,7 +38,7 @@ use Rattle.heap_model.specs.Core.{Core, all_words, own_records, placing, undo_wi
 use Rattle.core_laws.proofs.Collecting.Entries.{all_at}
 use Rattle.core_laws.proofs.Collecting.Flip as flip
 use Rattle.core_laws.proofs.Step.Goes.{writing_of}
-use Rattle.core_laws.specs.Valid.{IsLocked, IsValid, RunsLocked}
+use Rattle.core_laws.specs.Valid.{IsLockedWrite, IsValid, RunsLocked}
 use Rattle.limit_laws.specs.Copies.{sealed_graph}
 use Rattle.limit_laws.proofs.Copies.Closed.{future_some}
 use Rattle.limit_laws.proofs.Copies.Kept.{IsKept, of_field, of_overwritten, of_root}
@@ -149,7 +149,7 @@ module _ (c : Core) (valid : IsValid c) (runs : RunsLocked c.g0 c.first c.histor
   entry_kept r t active id at there u has names = elim (either (u.object == at) (refers_at at (meaning u.was)) names) [
     | inl object ↦
         let w = writing_of a c r t active valid in
-        let lock = all_at (IsLocked c.places (locks_of (sealed_graph c) t)) (undo_of valid.behind t.number) u w.locked has in
+        let lock = all_at (IsLockedWrite c.places (locks_of (sealed_graph c) t)) (undo_of valid.behind t.number) u w.locked has in
         let same = stand_apart a c valid lock.id id at (lock.object ∙ ap Some (eqb-true u.object at object)) there in
         current_kept r t active id at there (subst (λ (x : Id). OwnOr (IsKept c) t.number x) same (locks_kept r t active lock.id Exclusive lock.lock))
     | inr was ↦

@@ -37,7 +37,7 @@ use Rattle.core_laws.proofs.Collecting.Entries.{all_at}
 use Rattle.core_laws.proofs.Sessions.Apart.{own_away, same_length}
 use Rattle.core_laws.proofs.Sessions.OtherWrites.{IsAway}
 use Rattle.core_laws.proofs.Step.Goes.{writing_of}
-use Rattle.core_laws.specs.Valid.{Agrees, IsLocked}
+use Rattle.core_laws.specs.Valid.{Agrees, IsLockedWrite}
 use Rattle.limit_laws.proofs.Copies.Disturbed.{IsSeenAt, scan_new}
 
 -- By what an account says: what remains has the fields that it had at the flip, and gray objects refer to nothing that remains but to what is kept,
@@ -80,7 +80,7 @@ module _ (K : Id → Type 0) (g : Graph) (a : Account) (e : Core) (h : Agrees a 
   backed = backed_all h.behind e.places (all_words e) h.told.backed
 
   -- a field that an active transaction wrote is one of the object that it locked
-  one_field : (r : ℕ) (t : Transaction) → a.active r ≡ Some t → (u : UndoEntry) → IsHereWrite e.places (all_words e) u.object u.field u.was → (held : IsLocked e.places (locks_of (serial e.g0 a.sealed) t) u)
+  one_field : (r : ℕ) (t : Transaction) → a.active r ≡ Some t → (u : UndoEntry) → IsHereWrite e.places (all_words e) u.object u.field u.was → (held : IsLockedWrite e.places (locks_of (serial e.g0 a.sealed) t) u)
       → (z : Id) (at i : ℕ) → address_of e.places z ≡ Some at → i < length (fields (run (serial e.g0 a.sealed) t).graph z) → field_at u.object u.field ≡ field_at at i → z ≡ held.id
   one_field r t active u here held z at i there within same =
       let sealed = serial e.g0 a.sealed in
@@ -94,7 +94,7 @@ module _ (K : Id → Type 0) (g : Graph) (a : Account) (e : Core) (h : Agrees a 
       (subst (λ (n : ℕ). i < n) long within) less (sym same)).0
 
   -- what the transaction sees there
-  seen_at : (r : ℕ) (t : Transaction) → a.active r ≡ Some t → (u : UndoEntry) → IsHereWrite e.places (all_words e) u.object u.field u.was → IsLocked e.places (locks_of (serial e.g0 a.sealed) t) u
+  seen_at : (r : ℕ) (t : Transaction) → a.active r ≡ Some t → (u : UndoEntry) → IsHereWrite e.places (all_words e) u.object u.field u.was → IsLockedWrite e.places (locks_of (serial e.g0 a.sealed) t) u
       → IsAway h.behind t.number (written u) → IsSeenAt K h.behind k e.places e.remaining (all_words e) (field_at u.object u.field)
   seen_at r t active u here held away =
       let v = view e.g0 a t in
@@ -123,7 +123,7 @@ module _ (K : Id → Type 0) (g : Graph) (a : Account) (e : Core) (h : Agrees a 
       let t = one.transaction in
       let w = writing_of a e one.session t one.active h in
       let mine : undo_of h.behind t.number ≡ us = ap (undo_of h.behind) one.number ∙ ap (λ (o : Option (List UndoEntry)). unwrap_or o []) is in
-      let L = IsLocked e.places (locks_of (serial e.g0 a.sealed) t) in
+      let L = IsLockedWrite e.places (locks_of (serial e.g0 a.sealed) t) in
       let A : UndoEntry → Type 0 = λ u. IsAway h.behind t.number (written u) in
       let H : UndoEntry → Type 0 = λ u. L u × A u in
       let held = both_hold L A H (undo_of h.behind t.number) (λ u l w. (l, w)) w.locked (own_away a e h has.ordered one.session t one.active) in

@@ -25,7 +25,7 @@ use Rattle.log_machine.proofs.MachineLaws.{after_all-append2}
 use Rattle.gated_log.specs.Log.{records_of}
 use Rattle.graph_words.specs.Places.{address_of}
 use Rattle.graph_words.proofs.Places.Addresses.{some_address}
-use Rattle.collection_words.specs.LaidOut.{is_gray}
+use Rattle.collection_words.specs.LaidOut.{is_gray_field}
 use Rattle.collection_words.specs.Placing.{moved_by_all}
 use Rattle.collection_words.proofs.Laid.Within.{placed_within}
 use Rattle.heap_model.specs.Core.{Core, all_records, barrier_records, call_barrier, event_records, ground, log_start, moved, need, own_records, placing, reserved, undo_behind, used}
@@ -50,13 +50,13 @@ scanned a e h rs kept =
 
 -- what is not gray behind the barrier is not gray behind the event
 black_behind : (a : Account) (e : Core) (h : Agrees a e) (n : State) (rs own : List Record) (more : ℕ) (b : Agrees a (behind (roomy e more) rs)) → after_all h.behind (rs ++ own) ≡ Some n → AllByRecursion IsNoFlip own
-    → (z : Id) (at i : ℕ) → address_of (moved_by_all (placing e) rs).places z ≡ Some at → is_gray b.behind.collection at i ≡ false → (k : Collection) → n.collection ≡ Some k → contains k.gray at ≡ false
+    → (z : Id) (at i : ℕ) → address_of (moved_by_all (placing e) rs).places z ≡ Some at → is_gray_field b.behind.collection at i ≡ false → (k : Collection) → n.collection ≡ Some k → contains k.gray at ≡ false
 black_behind a e h n rs own more b follows plain z at i there black k run =
     let mid = sym (after_all-append2 (log_start e) h.behind (all_records e) rs h.told.reached) ∙ ap (after_all (log_start e)) (append_assoc (records_of e.batches) e.pending rs) ∙ b.told.reached in
     let rest = sym (after_all-append2 h.behind b.behind rs own mid) ∙ follows in
     let within = placed_within b.told.heap.laid z at there in
     let high = within.below in
-    (black_after_all at b.behind n own plain rest (record { black = λ j is. sym (ap (λ o. is_gray o at i) is) ∙ black; below = omega arith })).black k run
+    (black_after_all at b.behind n own plain rest (record { black = λ j is. sym (ap (λ o. is_gray_field o at i) is) ∙ black; below = omega arith })).black k run
 
 held_in : (o : Option Id) (mode : Mode) (z : Id) → option_map (in_mode mode) o ≡ Some (z, Exclusive) → (o ≡ Some z) × (mode ≡ Exclusive)
 held_in None mode z is = absurd (cc is)

@@ -10,7 +10,7 @@ use Rattle.heap_spaces.specs.Collection.{Collection}
 use Rattle.log_records.specs.declared.Record.{Record}
 use Rattle.txn_table.specs.declared.place.Place.{Place}
 use Rattle.graph_words.specs.Places.{address_of}
-use Rattle.collection_words.specs.LaidOut.{is_gray}
+use Rattle.collection_words.specs.LaidOut.{is_gray_field}
 use Rattle.heap_model.specs.Core.{Core, barrier_records, call_barrier, ground, held_barrier, moved}
 use Rattle.heap_model.proofs.Step.Moved.{moved_is}
 use Rattle.core_laws.proofs.Collecting.Black.{black_held}
@@ -30,7 +30,7 @@ use Rattle.memory_laws.proofs.Step.Appended.{some_one}
 use Rattle.memory_laws.proofs.Step.Held.{IsHeld, held_within, is_held}
 
 -- an object that is gray is so in each field
-gray_alike : (o : Option Collection) (at i j : ℕ) → is_gray o at i ≡ is_gray o at j
+gray_alike : (o : Option Collection) (at i j : ℕ) → is_gray_field o at i ≡ is_gray_field o at j
 gray_alike None at i j = refl
 gray_alike (Some k) at i j = refl
 
@@ -87,7 +87,7 @@ module _ (m : Memory) (c : Core) (valid : IsValid c) (runs : RunsLocked c.g0 c.f
 
     -- and it is not gray
     abbrev IsNotGray : Core → Type 0
-    IsNotGray e = (b : Agrees a e) → (at : ℕ) → address_of e.places held_there.id ≡ Some at → is_gray b.behind.collection at i ≡ false
+    IsNotGray e = (b : Agrees a e) → (at : ℕ) → address_of e.places held_there.id ≡ Some at → is_gray_field b.behind.collection at i ≡ false
 
     pub black_there : IsBlack d.places valid_there.behind.collection held_there.id
     black_there at place j =

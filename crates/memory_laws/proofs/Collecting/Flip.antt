@@ -42,7 +42,7 @@ use Rattle.graph_words.specs.Places.{IsAtHand, IsVisible, Places, address_of, bi
 use Rattle.graph_words.proofs.Area.Made.{made_visible, own_apart}
 use Rattle.graph_words.proofs.Places.Addresses.{none_or_some, some_address}
 use Rattle.collection_words.specs.Placing.{Placing}
-use Rattle.flip_copy.specs.Copied.{flip_record, moved_objects, root_copies, size_of}
+use Rattle.flip_copy.specs.Copied.{flip_record, moved_objects, root_copies, copied_size}
 use Rattle.flip_copy.proofs.FlipKept.{flip_spaces, flip_undo}
 use Rattle.flip_copy.proofs.ObjectWordsLaws.{Contains-with_base}
 use Rattle.flip_laws.specs.Flip.{CanFlip, copies_of}
@@ -214,11 +214,11 @@ module _ (m : Memory) (c : Core) (valid : IsValid c) (is : IsMemory m (account c
   -- Answers.
 
   abbrev reply_in : List ℕ → Option Collection → Reply
-  reply_in found o = if is_some o then answer.Collecting else answer.Flipped (length (collecting.flip_copies m found)) (size_of (collecting.flip_copies m found))
+  reply_in found o = if is_some o then answer.Collecting else answer.Flipped (length (collecting.flip_copies m found)) (copied_size (collecting.flip_copies m found))
 
   answers_in : (found : List ℕ) → AreRoots m.table m.locks found → (o : Option Collection) → s.collection ≡ o → granted_by c Flip ≡ reply_in found o
   answers_in found are None run =
-      ap core.flip_reply (flips_in None run) ∙ ap (λ (cs : List ObjectCopy). answer.Flipped (length cs) (size_of cs)) (sym (copies_same run found are))
+      ap core.flip_reply (flips_in None run) ∙ ap (λ (cs : List ObjectCopy). answer.Flipped (length cs) (copied_size cs)) (sym (copies_same run found are))
   answers_in found are (Some k) run = ap core.flip_reply (flips_in (Some k) run)
 
   pub flip_answers : (found : List ℕ) → AreRoots m.table m.locks found → granted_by c Flip ≡ flip_reply m found
@@ -354,7 +354,7 @@ module _ (m : Memory) (c : Core) (valid : IsValid c) (is : IsMemory m (account c
 
       abbrev LeavesSo : List ObjectCopy → Type 0
       LeavesSo cs =
-          Leaves m n (logged.Flip cs ∷ []) n.table (rekeyed (key_moves (pairs_of cs)) m.locks) (with_copied (flipped m.spaces) (size_of cs)) (Some (with_copies (begun m.spaces.used) (moved_objects cs))) m.sealed
+          Leaves m n (logged.Flip cs ∷ []) n.table (rekeyed (key_moves (pairs_of cs)) m.locks) (with_copied (flipped m.spaces) (copied_size cs)) (Some (with_copies (begun m.spaces.used) (moved_objects cs))) m.sealed
 
       left : LeavesSo (copies none)
       left = subst LeavesSo same flips.left
@@ -366,7 +366,7 @@ module _ (m : Memory) (c : Core) (valid : IsValid c) (is : IsMemory m (account c
           record {
             state = last none;
             reached = behind;
-            spaces = left.spaces ∙ ap (λ (x : SpacesState). with_copied (flipped x) (size_of (copies none))) here ∙ sym (flip_spaces s (copies none));
+            spaces = left.spaces ∙ ap (λ (x : SpacesState). with_copied (flipped x) (copied_size (copies none))) here ∙ sym (flip_spaces s (copies none));
             collection = left.collection ∙ ap (λ (x : SpacesState). Some (with_copies (begun x.used) (moved_objects (copies none)))) here;
             transactions = λ r. along_kept n.table moved_so r (a.active r) refl
                 ∙ ap (λ (o : Option State). kept_of (record { places = currents none; remaining = rest none; words = all_words d; state = o }) c.g0 a (a.active r)) (sym behind);

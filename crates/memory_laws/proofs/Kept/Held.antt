@@ -27,7 +27,7 @@ use Rattle.graph_words.proofs.Area.State.{starts_of-area_of, own_words}
 use Rattle.graph_words.proofs.Area.Made.{own_apart}
 use Rattle.graph_words.specs.Places.{Places, address_of, index_of, standing, place_of, bits_of, IsAtHand, IsOwn}
 use Rattle.graph_words.proofs.Places.Addresses.{some_address}
-use Rattle.collection_words.specs.LaidOut.{is_gray}
+use Rattle.collection_words.specs.LaidOut.{is_gray_field}
 use Rattle.heap_model.specs.Core.{Core, all_words, area_in}
 use Rattle.core_laws.proofs.Sessions.Apart.{length_now, fields_now}
 use Rattle.core_laws.proofs.Step.Goes.{writing_of}
@@ -91,7 +91,7 @@ own_fields_at {places} {g} {t} {made} has words id own =
 
 -- No field of an object is gray, where it stands in the current space.
 abbrev pub IsBlack : Places → Option Collection → Id → Type 0
-IsBlack places runs id = (at : ℕ) → address_of places id ≡ Some at → (i : ℕ) → is_gray runs at i ≡ false
+IsBlack places runs id = (at : ℕ) → address_of places id ≡ Some at → (i : ℕ) → is_gray_field runs at i ≡ false
 
 -- the place that a handle holds
 pub held_place-kept : (places : Places) (g : Graph) (t : Transaction) (undo : List UndoEntry) (h : ℕ)

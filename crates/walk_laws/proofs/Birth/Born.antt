@@ -25,7 +25,7 @@ use Rattle.graph_words.proofs.Seal.Places.{address_of-append_left}
 use Rattle.graph_words.proofs.Stands.Seen.{births_name, stands_born_before, stands_own_births}
 use Rattle.graph_words.proofs.Stands.Walked.{named_places_each}
 use Rattle.collection_words.specs.Completed.{StandsCompleted, completed, future}
-use Rattle.collection_words.specs.LaidOut.{AreOldEndToEnd, IsForwarded, old_length}
+use Rattle.collection_words.specs.LaidOut.{AreOldEndToEnd, StandsOrForwards, old_length}
 use Rattle.collection_words.specs.Placed.{HaveOwnNames}
 use Rattle.collection_words.proofs.Copy.Stands.{root_current}
 use Rattle.collection_words.proofs.Laid.Filled.{filling}
@@ -35,7 +35,7 @@ use Rattle.collection_words.proofs.Laid.Completed.{completed_ends}
 use Rattle.collection_words.proofs.Laid.Sources.{IsCollecting, all_places, collecting}
 use Rattle.collection_words.proofs.Laid.Write.{unmoved_left}
 use Rattle.collection_words.proofs.Moves.Ends.{addresses-append}
-use Rattle.walk_laws.specs.Births.{AreBornBeside, AreBornBeforeOrRoot, AreBornInBoth, AreOriginals, HasOriginals, is_left}
+use Rattle.walk_laws.specs.Births.{AreBornBeside, AreBornBeforeOrRoot, AreBornInBoth, AreOriginals, HasOriginals, is_uncopied}
 use Rattle.walk_laws.specs.Heap.{AreSpaces, HoldsBorn, HoldsWhole, current_starts, from_space_in, left_starts, places_by}
 use Rattle.walk_laws.proofs.Graph.Beside.{none_left, stands_none}
 use Rattle.walk_laws.proofs.Graph.Held.{spaces_apart, walked_held}
@@ -144,7 +144,7 @@ base_or_before {s} {places = places} {words = words} next is born at has = elim 
 ]
 
 old_before : {s : State} {k : Collection} {places remaining : Places} {words : List ℕ} (next : ℕ) (is : IsCollecting s k places remaining words) → AreOriginals k words is.from.starts
-    → HaveBirths s k next places remaining words → (at : ℕ) → Contains is.from.starts at → (moved : Bool) → contains k.moved at ≡ moved → IsForwarded words (addresses places) at moved
+    → HaveBirths s k next places remaining words → (at : ℕ) → Contains is.from.starts at → (moved : Bool) → contains k.moved at ≡ moved → StandsOrForwards words (addresses places) at moved
     → (birth_at words at ≡ 0) ⊎ IsBornBefore next (birth_at words at)
 old_before {words = words} next is originals births at has true was (to, leads, current) =
     let kept = originals.kept at to has leads in
@@ -159,9 +159,9 @@ born_in_both {s} {k} {places} {remaining} {words} next is originals births walke
     let starts = addresses places in
     let lefts = addresses remaining in
     let olds = is.from.starts in
-    let left_apart : (at b : ℕ) → Contains olds at → is_left k at ≡ true → Contains starts b → birth_at words at ≢ birth_at words b =
+    let left_apart : (at b : ℕ) → Contains olds at → is_uncopied k at ≡ true → Contains starts b → birth_at words at ≢ birth_at words b =
     λ at b has left current same.
-    let back = subst (λ (xs : List ℕ). Contains xs at) (sym is.from.left) (Contains-filter (is_left k) olds at has left) in
+    let back = subst (λ (xs : List ℕ). Contains xs at) (sym is.from.left) (Contains-filter (is_uncopied k) olds at has left) in
     let equal = births.own at b (Contains-append_right starts lefts at back) (Contains-append_left starts lefts b current) same in
     spaces_apart is b current (subst (λ (x : ℕ). Contains lefts x) equal back) in
     record {
@@ -169,8 +169,8 @@ born_in_both {s} {k} {places} {remaining} {words} next is originals births walke
       born_before = subst (AreBornBefore next words s.base) here births.here;
       originals = subst (AreOriginals k words) old originals;
       old_born_before = subst (AreBornBeforeOrRoot next words) old (λ at has. old_before next is originals births at has (contains k.moved at) refl (is.from.forwarded at has));
-      left_apart = subst (λ (xs : List ℕ). (at b : ℕ) → Contains xs at → is_left k at ≡ true → Contains walked.starts b → birth_at words at ≢ birth_at words b) old
-          (subst (λ (xs : List ℕ). (at b : ℕ) → Contains olds at → is_left k at ≡ true → Contains xs b → birth_at words at ≢ birth_at words b) here left_apart);
+      left_apart = subst (λ (xs : List ℕ). (at b : ℕ) → Contains xs at → is_uncopied k at ≡ true → Contains walked.starts b → birth_at words at ≢ birth_at words b) old
+          (subst (λ (xs : List ℕ). (at b : ℕ) → Contains olds at → is_uncopied k at ≡ true → Contains xs b → birth_at words at ≢ birth_at words b) here left_apart);
     }
 
 originals_in : (s : State) (words : List ℕ) (o : Option Collection) (k : Collection) → o ≡ Some k → HasOriginals s words o → HasOriginals s words (Some k)
@@ -222,9 +222,9 @@ legal_births s next words None walked (own, before) =
     subst (λ (xs : List ℕ). AreLegal words xs s.base next) (sym (append-nil walked.starts))
     (record { own = own; before = λ at has. start_born words s.base next at first (before at has); first = first })
 legal_births s next words (Some k) walked births =
-    let lefts = filter (is_left k) walked.olds in
+    let lefts = filter (is_uncopied k) walked.olds in
     let first = (filling words s.base s.used walked.starts walked.filled).birth in
-    let old : (at : ℕ) → Contains lefts at → Contains walked.olds at × (is_left k at ≡ true) = λ at has. Contains-from_filter (is_left k) walked.olds at has in
+    let old : (at : ℕ) → Contains lefts at → Contains walked.olds at × (is_uncopied k at ≡ true) = λ at has. Contains-from_filter (is_uncopied k) walked.olds at has in
     record {
       own = own_both words walked.starts lefts births.own_births (λ a b one other. births.originals.own_births a b (old a one).0 (old b other).0)
           (λ at b left current. births.left_apart at b (old at left).0 (old at left).1 current);

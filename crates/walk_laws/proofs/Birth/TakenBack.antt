@@ -20,7 +20,7 @@ use Rattle.graph_words.proofs.Area.Field.{birth_taken_back}
 use Rattle.graph_words.proofs.Stands.Field.{IsField}
 use Rattle.graph_words.proofs.Stands.TakenBack.{renamed}
 use Rattle.collection_words.specs.Completed.{in_other_space}
-use Rattle.collection_words.specs.LaidOut.{AreOldEndToEnd, IsForwarded, IsLaidOut, old_length}
+use Rattle.collection_words.specs.LaidOut.{AreOldEndToEnd, StandsOrForwards, IsLaidOut, old_length}
 use Rattle.collection_words.specs.Writes.{AreBacked, IsHereWrite}
 use Rattle.collection_words.proofs.Laid.Old.{collection_within, old_in_other, old_length-object, old_within}
 use Rattle.collection_words.proofs.Laid.Sources.{IsCollecting, collecting, here_ends, left_object}
@@ -86,7 +86,7 @@ here_among places remaining at has = subst (λ (xs : List ℕ). Contains xs at) 
 
 -- an object there has as many fields behind a write
 write_length : {s : State} {k : Collection} {places remaining : Places} {words : List ℕ} {object field word : ℕ} (is : IsCollecting s k places remaining words) → IsHereWrite places words object field word
-    → (at : ℕ) → Contains is.from.starts at → (moved : Bool) → contains k.moved at ≡ moved → IsForwarded words (addresses places) at moved → old_length (with_word words object field word) at ≡ old_length words at
+    → (at : ℕ) → Contains is.from.starts at → (moved : Bool) → contains k.moved at ≡ moved → StandsOrForwards words (addresses places) at moved → old_length (with_word words object field word) at ≡ old_length words at
 write_length {places = places} {remaining = remaining} {words = words} {object} {field} {word} is write at has true was (to, leads, current) =
     let others = with_word words object field word in
     let there = start_within is.laid to current in
@@ -109,7 +109,7 @@ lengths_back (u ∷ us) {s} {k} {places} {remaining} {words} is backed olds ends
     λ at has. let start = subst (λ (xs : List ℕ). Contains xs at) same has in write_length is backed.0 at start (contains k.moved at) refl (is.from.forwarded at start) in
     lengths_back us (write_laid is backed.0) (backed_left is u us backed) olds (old_ends_same words others (other_base s) olds (other_base s + k.used) kept ends)
 
-pub forward_one : (words starts : List ℕ) (at to : ℕ) (moved : Bool) → header (slice_index words at) ≡ Some (Forward to) → IsForwarded words starts at moved → Contains starts to
+pub forward_one : (words starts : List ℕ) (at to : ℕ) (moved : Bool) → header (slice_index words at) ≡ Some (Forward to) → StandsOrForwards words starts at moved → Contains starts to
 forward_one words starts at to true leads (other, is, has) = let same : other ≡ to = one (sym is ∙ leads) in subst (Contains starts) same has
   where
     one : Some (Forward other) ≡ Some (Forward to) → other ≡ to

@@ -21,7 +21,7 @@ use Rattle.graph_words.proofs.Stands.Walked.{addresses-named_places, named_place
 use Rattle.collection_words.specs.Completed.{in_other_space}
 use Rattle.collection_words.proofs.Laid.Old.{current_not_other, old_in_other, other_bounds}
 use Rattle.collection_words.proofs.Laid.Underway.{underway}
-use Rattle.walk_laws.specs.Births.{is_left}
+use Rattle.walk_laws.specs.Births.{is_uncopied}
 use Rattle.walk_laws.specs.Heap.{AreSpaces, address_name_beside, current_starts, distance, from_space_in, left_starts, places_by}
 use Rattle.walk_laws.proofs.Walk.Laid.{walked_underway}
 
@@ -88,14 +88,14 @@ walked_lies s words spaces None none walked at has =
     none_there : Contains [] at → ⊥
     none_there (k, within, is) = omega arith
 walked_lies s words spaces (Some k) run walked at has =
-    let lefts = filter (is_left k) walked.olds in
+    let lefts = filter (is_uncopied k) walked.olds in
     elim (Contains-append_cases walked.starts lefts at has) [
       | inl here ↦ filled_lies s words walked.starts spaces.spaced walked.filled at here
       | inr there ↦
           let name : ℕ → Id = λ a. root in
           let is = underway (walked_underway s k words run spaces walked (places_by name walked.starts) (places_by name lefts) (addresses-named_places name walked.starts) (addresses-named_places name lefts)) in
           let back = subst (λ (xs : List ℕ). Contains xs at) (sym (addresses-named_places name lefts) ∙ is.from.left) there in
-          let old = Contains-from_filter (is_left k) is.from.starts at back in inr (old_in_other is at old.0)
+          let old = Contains-from_filter (is_uncopied k) is.from.starts at back in inr (old_in_other is at old.0)
     ]
 
 filled_room : (s : State) (words starts : List ℕ) → IsSpaced s → IsFilled words s.base s.used starts → s.base < s.base + space_words s.pages

@@ -18,7 +18,7 @@ use Rattle.graph_words.specs.Places.{Places, address_of, addresses}
 use Rattle.graph_words.specs.Stands.{ArePlaced, StandsCommitted}
 use Rattle.graph_words.proofs.Stands.Walked.{address_of-named_places, addresses-named_places, gathered_placed, walked_stands}
 use Rattle.collection_words.specs.Completed.{StandsCompleted, completed}
-use Rattle.collection_words.specs.LaidOut.{EachField, IsFromSpace, IsLaidOut, LeadsHere, is_gray}
+use Rattle.collection_words.specs.LaidOut.{EachField, IsFromSpace, IsLaidOut, LeadsHere, is_gray_field}
 use Rattle.collection_words.specs.Placed.{Ascend, HaveOwnNames}
 use Rattle.collection_words.proofs.Copy.Ascending.{ascend_chain, ascend_filter, ascend_from}
 use Rattle.collection_words.proofs.Laid.Completed.{completed_none, places_none}
@@ -27,7 +27,7 @@ use Rattle.collection_words.proofs.Laid.Followed.{place_current}
 use Rattle.collection_words.proofs.Laid.Old.{old_in_other}
 use Rattle.collection_words.proofs.Laid.Sources.{IsCollecting, here_ends}
 use Rattle.collection_words.proofs.Laid.Underway.{underway}
-use Rattle.walk_laws.specs.Births.{is_left}
+use Rattle.walk_laws.specs.Births.{is_uncopied}
 use Rattle.walk_laws.specs.Heap.{AreSpaces, HoldsWhole, current_starts, from_space_in, left_starts, places_by}
 use Rattle.walk_laws.proofs.Walk.Fields.{each_inside, inside_here, inside_plain}
 use Rattle.walk_laws.proofs.Walk.Laid.{emptied, walked_underway}
@@ -51,7 +51,7 @@ laid_none s words name none walked =
     let nothing : Places = [] in
     record {
       filled = subst (IsFilled words s.base s.used) here walked.filled;
-      here = subst (λ (xs : List ℕ). (at : ℕ) → Contains xs at → EachField words at (λ i w. is_gray s.collection at i ≡ false → LeadsHere xs (meaning w))) here
+      here = subst (λ (xs : List ℕ). (at : ℕ) → Contains xs at → EachField words at (λ i w. is_gray_field s.collection at i ≡ false → LeadsHere xs (meaning w))) here
           (λ at has n i object below black. inside_here starts _ (each_inside words starts at (walked.inside at has) n i object below));
       from = subst (λ o. MatchOption o (nothing ≡ nothing) (λ k. IsFromSpace s k (places_by name starts) nothing words)) (sym none) refl;
     }
@@ -84,7 +84,7 @@ ascend_ends words from (at ∷ rest) end (n, same, object, more) = (omega (arith
 -- objects of the one space are none of the other
 pub spaces_apart : {s : State} {k : Collection} {places remaining : Places} {words : List ℕ} (is : IsCollecting s k places remaining words) (at : ℕ) → Contains (addresses places) at → Contains (addresses remaining) at → ⊥
 spaces_apart {s} {k} is at here there =
-    let old = Contains-from_filter (is_left k) is.from.starts at (subst (λ (xs : List ℕ). Contains xs at) is.from.left there) in
+    let old = Contains-from_filter (is_uncopied k) is.from.starts at (subst (λ (xs : List ℕ). Contains xs at) is.from.left there) in
     let clash = sym (place_current is.spaced is.laid at here) ∙ old_in_other is at old.0 in cc
 
 -- names that keep the objects of both spaces apart are their own
@@ -94,17 +94,17 @@ walked_own {s} {k} {words} name starts lefts is apart =
     let here = addresses-named_places name starts in
     let there = addresses-named_places name lefts in
     let up = ascend_ends words s.base starts (s.base + s.used) (subst (λ (xs : List ℕ). AreEndToEnd words s.base xs (s.base + s.used)) here (here_ends is.laid)) in
-    let up_left = subst (Ascend (other_base s)) (sym is.from.left ∙ there) (ascend_filter (is_left k) (other_base s) is.from.starts (ascend_chain words (other_base s) is.from.starts (other_base s + k.used) is.from.chain)) in
+    let up_left = subst (Ascend (other_base s)) (sym is.from.left ∙ there) (ascend_filter (is_uncopied k) (other_base s) is.from.starts (ascend_chain words (other_base s) is.from.starts (other_base s + k.used) is.from.chain)) in
     let once = once_append starts lefts (ascend_once s.base starts up) (ascend_once (other_base s) lefts up_left) (λ at one other.
     spaces_apart is at (subst (λ (xs : List ℕ). Contains xs at) (sym here) one) (subst (λ (xs : List ℕ). Contains xs at) (sym there) other)) in
     subst HaveOwnNames (map-append (λ at. (name at, at)) starts lefts) (apart_own name (starts ++ lefts) once apart)
 
 held_some : (s : State) (k : Collection) (words : List ℕ) (name : ℕ → Id) → s.collection ≡ Some k → AreSpaces s words → (walked : IsCollectionWalked words s.base s.used (emptied s k)) → name s.base ≡ root
-    → KeepApart name (walked.starts ++ filter (is_left k) walked.olds)
-    → (g : Graph) × HoldsWhole s (places_by name walked.starts) (places_by name (filter (is_left k) walked.olds)) words g
+    → KeepApart name (walked.starts ++ filter (is_uncopied k) walked.olds)
+    → (g : Graph) × HoldsWhole s (places_by name walked.starts) (places_by name (filter (is_uncopied k) walked.olds)) words g
 held_some s k words name run spaces walked named apart =
     let starts = walked.starts in
-    let lefts = filter (is_left k) walked.olds in
+    let lefts = filter (is_uncopied k) walked.olds in
     let places = places_by name starts in
     let here = addresses-named_places name starts in
     let is = underway (walked_underway s k words run spaces walked places (places_by name lefts) here (addresses-named_places name lefts)) in

@@ -20,7 +20,7 @@ use Rattle.object_layout.proofs.WalkedLaws.{end_to_end_object}
 use Rattle.log_machine.specs.Machine.{State, field_at, owed, words_in}
 use Rattle.graph_words.specs.Places.{Places, addresses}
 use Rattle.collection_words.specs.Completed.{completed, end_of, followed, followed_by, future, moves_from, places_from, taken_at}
-use Rattle.collection_words.specs.LaidOut.{IsForwarded, LeadsHere}
+use Rattle.collection_words.specs.LaidOut.{StandsOrForwards, LeadsHere}
 use Rattle.collection_words.proofs.Flip.Laid.{move_to}
 use Rattle.collection_words.proofs.Laid.Completed.{completed_ends, move_made}
 use Rattle.collection_words.proofs.Laid.Filled.{filled_by, filling}
@@ -81,7 +81,7 @@ start_small {s} {places = places} {remaining = remaining} {words = words} is sma
 -- Words that are followed.
 
 end_here : {s : State} {k : Collection} {places remaining : Places} {words : List ℕ} (is : IsCollecting s k places remaining words) (b : ℕ) → Contains is.from.starts b
-    → (moved : Bool) → contains k.moved b ≡ moved → IsForwarded words (addresses places) b moved
+    → (moved : Bool) → contains k.moved b ≡ moved → StandsOrForwards words (addresses places) b moved
     → Contains (all_starts s places remaining words) (end_of (moves_from words (addresses remaining) (s.base + s.used)) b (header (slice_index words b)))
 end_here {s} {places = places} {remaining = remaining} {words = words} is b has true moved (to, leads, current) =
     subst (λ h. Contains (all_starts s places remaining words) (end_of (moves_from words (addresses remaining) (s.base + s.used)) b h)) (sym leads) (here_all s places remaining words to current)

@@ -10,15 +10,15 @@ use Rattle.heap_words.specs.declared.Header.{Header}
 use Rattle.heap_words.specs.declared.Header.TheVariants.{Length, Forward}
 use Rattle.heap_words.specs.Header.{header}
 use Rattle.object_layout.specs.Layout.{led, object_at}
-use Rattle.object_layout.specs.CollectionWalk.{AreChained, FromSpace, copy_length, ending, from_end, is_moved, moved_size, moved_words, old_object, old_object_at}
+use Rattle.object_layout.specs.CollectionWalk.{AreChained, FromSpace, copy_length, ending, from_end, is_moved, moved_size, words_moved, old_object, old_object_at}
 use Rattle.object_layout.proofs.ObjectLaws.{object_in_take}
 use Rattle.object_layout.proofs.OldStarts.{copy_there}
 use Rattle.object_layout.proofs.WalkLaws.{Contains-head, Contains-rest, object_take}
 use Rattle.collection_words.specs.Completed.{taken_by}
-use Rattle.collection_words.specs.LaidOut.{AreOldEndToEnd, IsForwarded, old_length}
+use Rattle.collection_words.specs.LaidOut.{AreOldEndToEnd, StandsOrForwards, old_length}
 use Rattle.collection_words.proofs.Laid.Old.{old_length-object, old_within}
 use Rattle.collection_words.proofs.Moves.Ends.{taken_object}
-use Rattle.walk_laws.specs.Births.{is_left}
+use Rattle.walk_laws.specs.Births.{is_uncopied}
 
 -- As a walk meets them.
 
@@ -26,7 +26,7 @@ ends_there : (end at n : ℕ) → at + 2 + n ≤ end → ending end at (Some n) 
 ends_there end at n within = ap (λ b. if b then Some n else None) (le-leb (at + 2 + n) end within)
 
 -- an object that is forwarded to a current one, or stands, is met
-old_met : (words starts : List ℕ) (end at n : ℕ) (moved : Bool) → IsForwarded words starts at moved → old_length words at ≡ Some n → at + 2 + n ≤ end → old_object words starts end at moved ≡ Some n
+old_met : (words starts : List ℕ) (end at n : ℕ) (moved : Bool) → StandsOrForwards words starts at moved → old_length words at ≡ Some n → at + 2 + n ≤ end → old_object words starts end at moved ≡ Some n
 old_met words starts end at n true (to, leads, has) long within =
     ap (λ h. ending end at (copy_length words starts h)) leads
     ∙ ap (ending end at) (copy_there words starts to has ∙ sym (ap (λ h. object_at words (led at h)) leads) ∙ long)
@@ -36,7 +36,7 @@ old_met words starts end at n false (m, object) long within =
 
 -- so all of them are
 pub chain_met : (words starts : List ℕ) (from : FromSpace) (at : ℕ) (olds : List ℕ) → AreOldEndToEnd words at olds (from_end from)
-    → ((a : ℕ) → Contains olds a → IsForwarded words starts a (is_moved from a)) → AreChained (old_object_at words starts from) at olds (from_end from)
+    → ((a : ℕ) → Contains olds a → StandsOrForwards words starts a (is_moved from a)) → AreChained (old_object_at words starts from) at olds (from_end from)
 chain_met words starts from at [] ends forwarded = ends
 chain_met words starts from at (a ∷ rest) (n, same, long, more) forwarded =
     let lies = old_within words at (a ∷ rest) (from_end from) a (n, same, long, more) (Contains-head a rest) in
@@ -52,7 +52,7 @@ chain_met words starts from at (a ∷ rest) (n, same, long, more) forwarded =
 
 -- An object of the from-space is forwarded to a current one or stands, with so many fields.
 pub record IsOldObject (words starts : List ℕ) (at : ℕ) (moved : Bool) (n : ℕ) : Type 0 where
-  pub forwarded : IsForwarded words starts at moved
+  pub forwarded : StandsOrForwards words starts at moved
   pub long : old_length words at ≡ Some n
 
 ending_is : (end at : ℕ) (o : Option ℕ) (n : ℕ) → ending end at o ≡ Some n → o ≡ Some n
@@ -99,10 +99,10 @@ count_one words starts at n kept false o is object =
 
 -- the copied ones and those that are left have as many words as all
 pub chain_counted : (words starts : List ℕ) (from : FromSpace) (at : ℕ) (olds : List ℕ) (end : ℕ) → AreChained (old_object_at words starts from) at olds end
-    → at + moved_words words starts from olds + taken_by words (filter (is_left from.collection) olds) ≡ end
+    → at + words_moved words starts from olds + taken_by words (filter (is_uncopied from.collection) olds) ≡ end
 chain_counted words starts from at [] end same = omega (arith, same)
 chain_counted words starts from at (a ∷ rest) end (n, same, met, more) =
     let object = met_object words starts (from_end from) a n (is_moved from a) met in
     let sum = sum_by-cons (λ x. moved_size (is_moved from x) (old_object_at words starts from x)) a rest in
-    let one = count_one words starts a n (filter (is_left from.collection) rest) (is_moved from a) (old_object_at words starts from a) met object in
+    let one = count_one words starts a n (filter (is_uncopied from.collection) rest) (is_moved from a) (old_object_at words starts from a) met object in
     let later = chain_counted words starts from (a + 2 + n) rest end more in omega (arith, sum, one, later, same)

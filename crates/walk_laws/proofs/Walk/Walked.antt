@@ -17,7 +17,7 @@ use Rattle.log_machine.specs.Collecting.{other_base}
 use Rattle.graph_words.specs.Places.{Places, addresses}
 use Rattle.graph_words.proofs.Stands.Seen.{stands_inside}
 use Rattle.collection_words.specs.Completed.{StandsCompleted, completed, followed, followed_by, future, moves_from, taken_by}
-use Rattle.collection_words.specs.LaidOut.{EachField, IsForwarded, is_gray}
+use Rattle.collection_words.specs.LaidOut.{EachField, StandsOrForwards, is_gray_field}
 use Rattle.collection_words.proofs.Laid.Completed.{move_made}
 use Rattle.collection_words.proofs.Laid.Followed.{move_placed}
 use Rattle.collection_words.proofs.Laid.Sources.{IsCollecting}
@@ -66,9 +66,9 @@ current_keeps : {s : State} {k : Collection} {places remaining : Places} {words 
 current_keeps {k = k} {places = places} {words = words} is plain at has =
     keeps_inside words _ at (λ n i object below. field_targets (addresses places) is.from.starts (contains k.gray at) _
     (λ gray. current_inside is plain at has n i object below)
-    (λ black. here_inside (addresses places) _ (is.laid.here at has n i object below (ap (λ o. is_gray o at i) is.run ∙ black)) (plain at has n i object below)))
+    (λ black. here_inside (addresses places) _ (is.laid.here at has n i object below (ap (λ o. is_gray_field o at i) is.run ∙ black)) (plain at has n i object below)))
 
-forwarded_none : (words starts : List ℕ) (at : ℕ) (moved : Bool) → moved ≡ true → IsForwarded words starts at moved → object_at words at ≡ None
+forwarded_none : (words starts : List ℕ) (at : ℕ) (moved : Bool) → moved ≡ true → StandsOrForwards words starts at moved → object_at words at ≡ None
 forwarded_none words starts at true was (to, leads, has) = ap (whole_length words at) leads
 forwarded_none words starts at false was stands = cc
 

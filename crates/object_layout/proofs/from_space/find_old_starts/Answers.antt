@@ -1,7 +1,7 @@
 -- One object more stands behind those so far, or the first that does not is told.
 use Rattle.std.proofs.Common.{◌≡◌, ℕ, List, ◌+◌, ◌<◌, ◌∙◌, Bool, Some, None, ap, sym, subst, arith}
 use Rattle.std.specs.Prelude.{if◌then◌else◌}
-use Rattle.object_layout.specs.CollectionWalk.{given, from_end, old_object, old_object_at, is_moved, moved_words, AreOldObjects, IsOldFault, old_breaks, old_sum}
+use Rattle.object_layout.specs.CollectionWalk.{given, from_end, old_object, old_object_at, is_moved, words_moved, AreOldObjects, IsOldFault, old_breaks, old_sum}
 use Rattle.object_layout.proofs.ReadLaws.{read_on}
 use Rattle.object_layout.proofs.OldStarts.{chained_push, moved_words_push}
 use Rattle.object_layout.proofs.from_space.find_old_starts.Goals as goal
@@ -61,7 +61,7 @@ loop-at-preserved g c = record {
       ∙ ap (λ ws. old_object ws starts end place moved) (sym (c.loop-at.invariant.read.same_words told))
       ∙ sym (c.in_ok-old_object_at.ensures.object told ascend)
       ∙ c.in-Some.is in
-      ap (moved_words words starts (given c.args.from)) c.in_ok-push-in-Some.ensures.items
+      ap (words_moved words starts (given c.args.from)) c.in_ok-push-in-Some.ensures.items
       ∙ moved_words_push words starts (given c.args.from) c.loop-at.olds.items place c.in-Some.n object
       ∙ ap (λ k. k + (if is_moved (given c.args.from) place then 2 + c.in-Some.n else 0)) (c.loop-at.invariant.sum told ascend)
       ∙ ap (λ (t : Bool). c.loop-at.copied + (if t then 2 + c.in-Some.n else 0)) (sym c.has_moved-moved.ensures)

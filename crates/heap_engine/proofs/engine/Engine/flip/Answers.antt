@@ -11,7 +11,7 @@ use Rattle.log_machine.specs.Machine.{words_in, put_record}
 use Rattle.log_records.specs.Record.{spelling}
 use Rattle.log_records.specs.declared.Record.{Record}
 use Rattle.log_records.specs.declared.Record.TheVariants.{Flip}
-use Rattle.flip_copy.specs.Copied.{moved_objects, size_of}
+use Rattle.flip_copy.specs.Copied.{moved_objects, copied_size}
 use Rattle.flip_copy.proofs.CopiesLaws.{planned_size}
 use Rattle.object_locks.specs.Holdings.{rekeyed}
 use Rattle.heap_model.specs.Lsns.{log_next_lsn}
@@ -53,7 +53,7 @@ pub invariant_of-self-2-clause-owed : goal.invariant_of-self-2-clause-owed
 invariant_of-self-2-clause-owed c =
     let s = c.args.self.now in
     let copies = c.in_ok-plan.plan in
-    let spaces = c.change_spaces-reply.ensures.spaces ∙ ap (λ (x : SpacesState). with_copied (flipped x) (size_of copies)) c.make_room.ensures.same.spaces in
+    let spaces = c.change_spaces-reply.ensures.spaces ∙ ap (λ (x : SpacesState). with_copied (flipped x) (copied_size copies)) c.make_room.ensures.same.spaces in
     let begins = flip_begins s.spaces copies c.moved.result.now c.begin-collection.result c.add_copies.new.self c.used-used.result c.begin-collection.ensures c.used-used.ensures.used c.moved.ensures.moved c.in_ok-add_copies.ensures.ok in
     flip_owes s.spaces c.change_spaces-reply.new.spaces copies (Some c.add_copies.new.self) spaces begins
 
@@ -61,7 +61,7 @@ pub invariant_of-self-2-clause-gray : goal.invariant_of-self-2-clause-gray
 invariant_of-self-2-clause-gray c =
     let s = c.args.self.now in
     let copies = c.in_ok-plan.plan in
-    let spaces = c.change_spaces-reply.ensures.spaces ∙ ap (λ (x : SpacesState). with_copied (flipped x) (size_of copies)) c.make_room.ensures.same.spaces in
+    let spaces = c.change_spaces-reply.ensures.spaces ∙ ap (λ (x : SpacesState). with_copied (flipped x) (copied_size copies)) c.make_room.ensures.same.spaces in
     let begins = flip_begins s.spaces copies c.moved.result.now c.begin-collection.result c.add_copies.new.self c.used-used.result c.begin-collection.ensures c.used-used.ensures.used c.moved.ensures.moved c.in_ok-add_copies.ensures.ok in
     flip_sound s.spaces c.change_spaces-reply.new.spaces copies (Some c.add_copies.new.self) c.used-used.ensures.sound c.in_ok-plan.ensures.copied spaces begins
 
@@ -94,11 +94,11 @@ returns-clause-flipped c objects words is =
     let lsns = c.carry_out.ensures.lsns ∙ ap (λ (rec : Record). (redo_all (log_next_lsn mid.log) (cached mid.cache) (rec ∷ [])).lsns) c.into_record.ensures in
     let keys = c.deref.ensures.value ∙ c.in_ok-moves.ensures ∙ ap key_moves c.pairs.ensures.pairs in
     let locks = c.in_ok-rekey.ensures.ok ∙ (λ i. rekeyed (keys i) (same.locks i)) in
-    let spaces = c.change_spaces-reply.ensures.spaces ∙ ap (λ (x : SpacesState). with_copied (flipped x) (size_of copies)) same.spaces in
+    let spaces = c.change_spaces-reply.ensures.spaces ∙ ap (λ (x : SpacesState). with_copied (flipped x) (copied_size copies)) same.spaces in
     let begins = flip_begins s.spaces copies c.moved.result.now c.begin-collection.result c.add_copies.new.self c.used-used.result c.begin-collection.ensures c.used-used.ensures.used c.moved.ensures.moved c.in_ok-add_copies.ensures.ok in (
       roots.0,
       flips_with (memory s) _ roots.0 copies roots.2 idle roots.1 gone
-          (from_same (memory s) (memory mid) _ (Flip copies ∷ []) c.translate.new.self (rekeyed (key_moves (pairs_of copies)) s.locks) (with_copied (flipped s.spaces) (size_of copies))
+          (from_same (memory s) (memory mid) _ (Flip copies ∷ []) c.translate.new.self (rekeyed (key_moves (pairs_of copies)) s.locks) (with_copied (flipped s.spaces) (copied_size copies))
           (Some (with_copies (begun s.spaces.used) (moved_objects copies))) s.sealed same (record {
             log = log;
             words = put;
