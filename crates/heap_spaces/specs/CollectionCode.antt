@@ -5,10 +5,14 @@ use Rattle.std.specs.Ordering.{nat_cmp}
 use Rattle.std.specs.FinSet.{FinSet}
 use Rattle.std.specs.FinSet as set
 use Rattle.std.proofs.Common.{refl}
+use Rattle.heap_spaces.specs.Addresses.{AddressState}
 use Rattle.heap_spaces.specs.Collection.{Collection}
 
 abbrev pub addresses_code : Coded (FinSet nat_cmp)
 addresses_code = set.code coded_ℕ
+
+abbrev pub address_state_code : Coded AddressState
+address_state_code = code_by (FinSet nat_cmp × ℕ) (coded× addresses_code coded_ℕ) (λ s. (s.set, s.room)) (λ p. record { set = p.0; room = p.1 }) (λ _. refl)
 
 abbrev pub collection_code : Coded Collection
 collection_code =

@@ -1,150 +1,185 @@
 //! Sets of word addresses.
-ghost use Rattle.std.specs.Prelude.{◌≡◌, ◌≤◌, ◌<◌, ◌^◌, ◌↔◌, ◌==◌, ◌&&◌, ℕ, not, true, false, IfOk, OnOk, OnErr, IfSome, IfNone, IsTrue, vec_len, vec_capacity, ◌+◌};
-ghost use Rattle.std.specs.List.{list_any};
+ghost use Rattle.std.specs.Prelude.{◌≡◌, ◌+◌, ◌*◌, ◌%◌, ◌≤◌, ◌<◌, ◌^◌, ◌↔◌, ℕ, true, false, OnOk, IfSome, IfNone, IsTrue, slice_index};
 ghost use Rattle.std.specs.FinSet.{empty, contains, insert, remove};
+ghost use Rattle.heap_spaces.specs.Addresses.{AddressState, without_page};
 ghost use Rattle.heap_spaces.specs.Collection.{page_of};
-ghost use Rattle.heap_spaces.specs.Addresses.{with_all, without_page};
 
+use crate::page_bits::{first_bit, first_bit_from, has_bit, with_bit, without_bit};
 use heap_words::PAGE_WORDS;
 use std::alloc::{AllocError, Global};
-use std::collections::BTreeSet;
 use std::marker::Model;
 
 /// Word addresses, each of them once.
 #[derive(Debug, Drop)]
 pub(crate) struct AddressSet {
-    alloc: Global,
-    addresses: BTreeSet<u32>,
+    /// The words of each page that are among them, as its bits.
+    pages: Vec<u64>,
+    /// Pages before this one have none.
+    first: usize,
 }
 
 impl Model for AddressSet {
-    ghost use Rattle.std.specs.Ordering.{nat_cmp};
-    ghost use Rattle.std.specs.FinSet.{FinSet, from_list};
-    ghost use Rattle.heap_spaces.specs.CollectionCode.{addresses_code};
+    ghost use Rattle.heap_spaces.specs.Addresses.{AddressState, named, HasPages};
+    ghost use Rattle.heap_spaces.specs.CollectionCode.{address_state_code};
+    ghost use Rattle.std.specs.Prelude.{vec_len};
 
-    ghost Value = { FinSet nat_cmp };
+    ghost Value = { AddressState };
 
-    ghost coded = { addresses_code };
+    ghost coded = { address_state_code };
 
-    ghost view = { λ s. from_list s.addresses.keys };
+    ghost view = { λ s. record { set = named s.pages.items; room = vec_len s.pages } };
+
+    ghost invariant = { λ s. HasPages s.pages.items s.first };
 }
 
 impl AddressSet {
     /// No address. It takes no memory.
     pub(crate) fn new(alloc: Global) -> AddressSet
-        ensures { result ≡ empty }
+        ensures { result ≡ record { set = empty; room = 0 } }
     {
         AddressSet {
-            alloc,
-            addresses: BTreeSet::new(alloc),
+            pages: Vec::new(alloc),
+            first: 0,
         }
     }
 
     /// Whether there is no address.
     pub(crate) fn is_empty(&self) -> bool
-        ensures { IsTrue result ↔ (self.now ≡ empty) }
+        ensures { IsTrue result ↔ (self.now.set ≡ empty) }
     {
-        self.addresses.is_empty()
+        match self.least() {
+            Some(_) => false,
+            None => true,
+        }
     }
 
     /// Whether the address is one of them.
     pub(crate) fn contains(&self, at: u32) -> bool
-        ensures { result ≡ contains self.now at }
+        ensures { result ≡ contains self.now.set at }
     {
-        self.addresses.contains(&at)
+        has_bit(page_bits(&self.pages, page_of(at)), place_of(at))
     }
 
-    /// Adds the addresses, and gives back those that were not there. An error changes nothing.
-    pub(crate) fn add_all(&mut self, addresses: &[u32]) -> Result<Vec<u32>, AllocError>
-        ensures ok { OnOk result (self.new ≡ with_all self.old addresses.now) }
-        ensures back { IfOk result (λ added. (q : ℕ) → contains self.old q ≡ (contains self.new q && not (list_any (λ at. at == q) added.items))) }
-        ensures err { OnErr result (self.new ≡ self.old) }
+    /// Takes the memory for an address. An error adds none.
+    pub(crate) fn make_room(&mut self, at: u32) -> Result<(), AllocError>
+        ensures room { OnOk result (page_of at < self.new.room) }
+        ensures grows { self.old.room ≤ self.new.room }
+        ensures same { self.new.set ≡ self.old.set }
     {
-        let mut added = Vec::with_capacity(self.alloc, addresses.len())?;
-        for at in addresses {
-            if let Err(error) = self.add_noting(*at, &mut added) {
-                self.remove_all(&added);
-                return Err(error);
-            }
-        }
-        Ok(added)
-    }
-
-    // Adds the address, and notes it if it was not there. An error changes nothing.
-    fn add_noting(&mut self, at: u32, added: &mut Vec<u32>) -> Result<(), AllocError>
-        requires { vec_len added.old < vec_capacity added.old }
-        ensures ok { OnOk result (self.new ≡ insert self.old at) }
-        ensures back { OnOk result ((q : ℕ) → (contains self.old q && not (list_any (λ x. x == q) added.old.items)) ≡ (contains self.new q && not (list_any (λ x. x == q) added.new.items))) }
-        ensures err { OnErr result (self.new ≡ self.old) }
-        ensures none { OnErr result (added.new.items ≡ added.old.items) }
-        ensures count { vec_len added.new ≤ vec_len added.old + 1 }
-        ensures capacity { vec_capacity added.old ≤ vec_capacity added.new }
-    {
-        if self.add(at)? {
-            added.push(at)?;
+        let end = page_of(at) + 1;
+        for page in self.pages.len()..end {
+            self.pages.push(0)?;
         }
         Ok(())
     }
 
-    // Adds the address, and tells whether it was not there. An error changes nothing.
-    fn add(&mut self, at: u32) -> Result<bool, AllocError>
-        ensures ok { OnOk result (self.new ≡ insert self.old at) }
-        ensures added { IfOk result (λ added. added ≡ not (contains self.old at)) }
-        ensures err { OnErr result (self.new ≡ self.old) }
+    /// Adds the address, for which there is room.
+    pub(crate) fn add(&mut self, at: u32)
+        requires { page_of at < self.old.room }
+        ensures { self.new ≡ record self.old { set = insert self.old.set at } }
     {
-        Ok(self.addresses.insert(at)?)
-    }
-
-    /// Takes the addresses away. It takes no memory.
-    pub(crate) fn remove_all(&mut self, addresses: &[u32])
-        ensures { (q : ℕ) → contains self.new q ≡ (contains self.old q && not (list_any (λ at. at == q) addresses.now)) }
-    {
-        for at in addresses {
-            self.remove(*at);
-        }
+        let page = page_of(at);
+        self.pages[page] = with_bit(self.pages[page], place_of(at));
+        self.first = self.first.min(page);
     }
 
     /// Takes the address away. It takes no memory.
     pub(crate) fn remove(&mut self, at: u32)
-        ensures { self.new ≡ remove self.old at }
+        ensures { self.new ≡ record self.old { set = remove self.old.set at } }
     {
-        self.addresses.remove(&at);
+        let page = page_of(at);
+        if page >= self.pages.len() {
+            return;
+        }
+        self.pages[page] = without_bit(self.pages[page], place_of(at));
     }
 
     /// Takes the addresses of a page away. It takes no memory, and looks at no other address.
     pub(crate) fn remove_page(&mut self, page: u32)
-        requires { page < 2 ^ 26 }
-        ensures { self.new ≡ without_page self.old page }
+        ensures { self.new ≡ record self.old { set = without_page self.old.set page } }
     {
-        while let Some(at) = self.first_in(page) {
-            self.remove(at);
+        let page = page as usize;
+        if page >= self.pages.len() {
+            return;
+        }
+        self.pages[page] = 0;
+        self.skip_empty_pages();
+    }
+
+    // Passes the pages that have no address, up to the first that has one.
+    fn skip_empty_pages(&mut self)
+        ensures { self.new ≡ self.old }
+    {
+        while self.first < self.pages.len() && self.pages[self.first] == 0 {
+            self.first += 1;
         }
     }
 
     /// The least address in a page.
     pub(crate) fn first_in(&self, page: u32) -> Option<u32>
         requires { page < 2 ^ 26 }
-        ensures some { IfSome result (λ at. (contains self.now at ≡ true) × (page_of at ≡ page)) }
-        ensures none { IfNone result ((q : ℕ) → page_of q ≡ page → contains self.now q ≡ false) }
+        ensures some { IfSome result (λ at. (contains self.now.set at ≡ true) × (page_of at ≡ page)) }
+        ensures none { IfNone result ((q : ℕ) → page_of q ≡ page → contains self.now.set q ≡ false) }
     {
-        let first = PAGE_WORDS * page;
-        let last = first + (PAGE_WORDS - 1);
-        Some(*self.addresses.range(first..=last).next()?)
+        let place = first_bit(page_bits(&self.pages, page as usize))?;
+        Some(PAGE_WORDS * page + place)
     }
 
     /// The least address from this one on.
     pub(crate) fn first_from(&self, from: u32) -> Option<u32>
-        ensures some { IfSome result (λ at. (contains self.now at ≡ true) × (from ≤ at) × ((q : ℕ) → contains self.now q ≡ true → from ≤ q → at ≤ q)) }
-        ensures none { IfNone result ((q : ℕ) → from ≤ q → contains self.now q ≡ false) }
+        ensures some { IfSome result (λ at. (contains self.now.set at ≡ true) × (from ≤ at) × ((q : ℕ) → contains self.now.set q ≡ true → from ≤ q → at ≤ q)) }
+        ensures none { IfNone result ((q : ℕ) → from ≤ q → contains self.now.set q ≡ false) }
     {
-        Some(*self.addresses.range(from..).next()?)
+        let page = page_of(from);
+        if let Some(place) = first_bit_from(page_bits(&self.pages, page), place_of(from)) {
+            return Some(PAGE_WORDS * page as u32 + place);
+        }
+        let at = self.first_behind(page + 1)?;
+        Some(at)
     }
 
     /// The least address.
     pub(crate) fn least(&self) -> Option<u32>
-        ensures some { IfSome result (λ at. (contains self.now at ≡ true) × ((q : ℕ) → contains self.now q ≡ true → at ≤ q)) }
-        ensures none { IfNone result (self.now ≡ empty) }
+        ensures some { IfSome result (λ at. (contains self.now.set at ≡ true) × ((q : ℕ) → contains self.now.set q ≡ true → at ≤ q)) }
+        ensures none { IfNone result (self.now.set ≡ empty) }
     {
-        Some(*self.addresses.first()?)
+        let at = self.first_behind(self.first)?;
+        Some(at)
     }
+
+    // The least address in the pages from this one on.
+    fn first_behind(&self, page: usize) -> Option<u32>
+        ensures some { IfSome result (λ at. (contains self.now.set at ≡ true) × (64 * page ≤ at) × ((q : ℕ) → contains self.now.set q ≡ true → 64 * page ≤ q → at ≤ q)) }
+        ensures none { IfNone result ((q : ℕ) → 64 * page ≤ q → contains self.now.set q ≡ false) }
+    {
+        for p in page..self.pages.len() {
+            if let Some(place) = first_bit(self.pages[p]) {
+                return Some(PAGE_WORDS * p as u32 + place);
+            }
+        }
+        None
+    }
+}
+
+/// The page in which an address lies.
+fn page_of(at: u32) -> usize
+    ensures page { result ≡ page_of at }
+    ensures few { result < 2 ^ 26 }
+{
+    (at / PAGE_WORDS) as usize
+}
+
+/// Where the address lies in its page.
+fn place_of(at: u32) -> u32
+    ensures place { result ≡ at % 64 }
+    ensures low { result < 64 }
+{
+    at % PAGE_WORDS
+}
+
+/// The bits of a page, which are 0 where it has none.
+fn page_bits(pages: &[u64], page: usize) -> u64
+    ensures { result ≡ slice_index pages.now page }
+{
+    pages.get(page).copied().unwrap_or(0)
 }

@@ -27,7 +27,6 @@ pub struct CopiedObject {
 /// What a collection has copied, and which of the copies may still lead to the from-space.
 #[derive(Debug, Drop)]
 pub struct Collection {
-    alloc: Global,
     used: u32,
     copied: u32,
     moved: AddressSet,
@@ -43,7 +42,7 @@ impl Model for Collection {
 
     ghost coded = { collection_code };
 
-    ghost view = { λ s. record { used = s.used; copied = s.copied; moved = s.moved; gray = s.gray } };
+    ghost view = { λ s. record { used = s.used; copied = s.copied; moved = s.moved.set; gray = s.gray.set } };
 
     ghost invariant = { λ s. s.copied ≤ s.used };
 }
@@ -54,7 +53,6 @@ impl Collection {
         ensures { result ≡ begun used }
     {
         Collection {
-            alloc,
             used,
             copied: 0,
             moved: AddressSet::new(alloc),
@@ -136,20 +134,15 @@ impl Collection {
         ensures ok { OnOk result (self.new ≡ with_copies self.old copies.now) }
         ensures err { OnErr result (self.new ≡ self.old) }
     {
-        let mut moved = Vec::with_capacity(self.alloc, copies.len())?;
-        let mut gray = Vec::with_capacity(self.alloc, copies.len())?;
-        let mut copied = self.copied;
-        for copy in copies {
-            moved.push(copy.from)?;
-            gray.push(copy.to)?;
-            copied += copy.words;
+        'room: for copy in copies {
+            self.moved.make_room(copy.from)?;
+            self.gray.make_room(copy.to)?;
         }
-        let added = self.moved.add_all(&moved)?;
-        if let Err(error) = self.gray.add_all(&gray) {
-            self.moved.remove_all(&added);
-            return Err(error);
+        'copies: for copy in copies {
+            self.moved.add(copy.from);
+            self.gray.add(copy.to);
+            self.copied += copy.words;
         }
-        self.copied = copied;
         Ok(())
     }
 

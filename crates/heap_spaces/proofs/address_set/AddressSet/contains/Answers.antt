@@ -1,8 +1,17 @@
-use Rattle.std.proofs.Common.{◌∙◌, sym, ap}
-use Rattle.std.specs.Ordering.{nat_cmp}
-use Rattle.std.specs.FinSet.{FinSet, contains}
-use Rattle.heap_spaces.proofs.AddressLaws.{seen}
+use Rattle.std.proofs.Common.{◌≡◌, get_or, ap, ◌∙◌, sym, refl}
+use Rattle.std.specs.FinSet.{contains}
+use Rattle.heap_spaces.specs.Addresses.{AddressState, is_set}
+use Rattle.heap_spaces.specs.Collection.{page_of}
+use Rattle.heap_spaces.proofs.PageLaws.{seen, named_here}
 use Rattle.heap_spaces.proofs.address_set.AddressSet.contains.Goals as goal
 
 pub returns : goal.returns
-returns c = c.contains.ensures ∙ sym (seen c.self.inside.addresses c.args.at) ∙ ap (λ (s : FinSet nat_cmp). contains s c.args.at) c.self.view_is
+returns c =
+    let pages = c.self.inside.pages.items in
+    let at = c.args.at in
+    let bits : c.page_bits.result ≡ get_or pages (page_of at) 0 = c.page_bits.ensures ∙ (λ i. get_or (c.deref.ensures.value i) (c.page_of.ensures.page i) 0) in
+    c.has_bit.ensures
+    ∙ (λ i. is_set (bits i) (c.place_of.ensures.place i))
+    ∙ named_here pages (page_of at) at refl
+    ∙ sym (seen pages at)
+    ∙ ap (λ (s : AddressState). contains s.set at) c.self.view_is

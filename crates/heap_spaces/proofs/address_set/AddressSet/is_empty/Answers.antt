@@ -1,9 +1,10 @@
-use Rattle.std.proofs.Common.{◌∙◌, sym}
-use Rattle.heap_spaces.proofs.AddressLaws.{no_keys, none_seen}
+use Rattle.std.proofs.Common.{ap, ◌∙◌, sym}
+use Rattle.std.proofs.lemmas.Bool.{false≢true}
+use Rattle.std.specs.Ordering.{nat_cmp}
+use Rattle.std.specs.FinSet.{FinSet, contains, contains-empty}
 use Rattle.heap_spaces.proofs.address_set.AddressSet.is_empty.Goals as goal
 
-pub returns : goal.returns
-returns c = (
-  λ yes. sym c.self.view_is ∙ no_keys c.self.inside.addresses.keys (c.is_empty.ensures.0 yes),
-  λ none. c.is_empty.ensures.1 (none_seen c.self.inside.addresses.keys (c.self.view_is ∙ none)),
-)
+pub returns-in-Some : goal.returns-in-Some
+returns-in-Some c =
+    let at = c.in-Some.field-0 in
+    (λ yes. absurd (false≢true yes), λ none. absurd (false≢true (sym (contains-empty nat_cmp at) ∙ sym (ap (λ (s : FinSet nat_cmp). contains s at) none) ∙ c.in-Some.ensures.some.0)))

@@ -1,13 +1,28 @@
-use Rattle.std.proofs.Common.{◌≡◌, ◌+◌, take, map, sum_by}
+use Rattle.std.proofs.Common.{◌≡◌, ℕ, ◌+◌, ◌<◌, get_or, length, take, map, sum_by}
 use Rattle.std.specs.List.{flat_map}
 use Rattle.heap_spaces.specs.declared.collection.CopiedObject.{CopiedObject}
-use Rattle.heap_spaces.specs.Collection.{gray_from}
+use Rattle.heap_spaces.specs.Addresses.{with_all}
+use Rattle.heap_spaces.specs.Collection.{gray_from, page_of}
 use Rattle.heap_spaces.proofs.collection.Collection.add_copies.Given as goal
 
--- the copies so far
-abbrev pub invariant-loop-copy : goal.invariant-loop-copy
-invariant-loop-copy l = record {
-  moved : l.moved.items ≡ map (λ (c : CopiedObject). c.from) (take l.copy-index l.copies);
-  gray : l.gray.items ≡ flat_map (λ (c : CopiedObject). gray_from c.to c.header) (take l.copy-index l.copies);
-  copied : l.copied ≡ l.self-inside.copied + sum_by (λ (c : CopiedObject). c.words) (take l.copy-index l.copies);
+-- there is room for the copies so far
+abbrev pub invariant-room : goal.invariant-room
+invariant-room l = record {
+  used : l.self-inside.used ≡ l.fn.self.used;
+  copied : l.self-inside.copied ≡ l.fn.self.copied;
+  moved : l.self-inside.moved.set ≡ l.fn.self.moved;
+  gray : l.self-inside.gray.set ≡ l.fn.self.gray;
+  from : (k : ℕ) → k < l.copy-index → page_of (get_or l.copies k (record { from = 0; to = 0; header = 0; words = 0 })).from < l.self-inside.moved.room;
+  to : (k : ℕ) → k < l.copy-index → page_of (get_or l.copies k (record { from = 0; to = 0; header = 0; words = 0 })).to < l.self-inside.gray.room;
+}
+
+-- the copies so far are added, and there is room for all
+abbrev pub invariant-copies : goal.invariant-copies
+invariant-copies l = record {
+  used : l.self-inside.used ≡ l.fn.self.used;
+  copied : l.self-inside.copied ≡ l.fn.self.copied + sum_by (λ (c : CopiedObject). c.words) (take l.copy-index l.copies);
+  moved : l.self-inside.moved.set ≡ with_all l.fn.self.moved (map (λ (c : CopiedObject). c.from) (take l.copy-index l.copies));
+  gray : l.self-inside.gray.set ≡ with_all l.fn.self.gray (flat_map (λ (c : CopiedObject). gray_from c.to c.header) (take l.copy-index l.copies));
+  from : (k : ℕ) → k < length l.copies → page_of (get_or l.copies k (record { from = 0; to = 0; header = 0; words = 0 })).from < l.self-inside.moved.room;
+  to : (k : ℕ) → k < length l.copies → page_of (get_or l.copies k (record { from = 0; to = 0; header = 0; words = 0 })).to < l.self-inside.gray.room;
 }

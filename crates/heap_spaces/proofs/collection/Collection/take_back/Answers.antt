@@ -1,9 +1,9 @@
-use Rattle.std.proofs.Common.{◌≡◌, ℕ, ◌+◌, ◌==◌, ◌&&◌, Bool, List, [], ◌∷◌, ◌++◌, not, get_or, take, ap, ◌∙◌, sym, arith, sum_by}
+use Rattle.std.proofs.Common.{◌≡◌, ◌+◌, ◌==◌, ◌&&◌, Bool, [], ◌∷◌, ◌++◌, not, get_or, take, ap, ◌∙◌, sym, arith}
 use Rattle.std.specs.List.{list_any}
-use Rattle.std.specs.Ordering.{nat_cmp}
-use Rattle.std.specs.FinSet.{FinSet, contains}
+use Rattle.std.specs.FinSet.{contains}
 use Rattle.std.proofs.lemmas.List.{take_more}
 use Rattle.std.proofs.lemmas.List.Sums.{sum_by_more, sum_by_more_le}
+use Rattle.heap_spaces.specs.Addresses.{AddressState}
 use Rattle.heap_spaces.specs.declared.collection.CopiedObject.{CopiedObject}
 use Rattle.heap_spaces.proofs.AddressLaws.{any_push, removed_more}
 use Rattle.heap_spaces.proofs.collection.Collection.take_back.Goals as goal
@@ -23,11 +23,11 @@ loop-copy-preserved c =
       used = so_far.used;
       copied = omega (arith, so_far.copied, sum, least, few);
       moved = λ q.
-          ap (λ (s : FinSet nat_cmp). contains s q) c.remove.ensures
-          ∙ removed_more c.loop-copy.self-inside.moved (contains c.args.self.now.moved q) (list_any (λ (k : CopiedObject). k.from == q) (take i xs)) (get_or xs i d).from q (so_far.moved q)
+          ap (λ (s : AddressState). contains s.set q) c.remove.ensures
+          ∙ removed_more c.loop-copy.self-inside.moved.set (contains c.args.self.now.moved q) (list_any (λ (k : CopiedObject). k.from == q) (take i xs)) (get_or xs i d).from q (so_far.moved q)
           ∙ ap (λ b. contains c.args.self.now.moved q && not b) (sym (more (λ k. k.from == q) ∙ any_push (λ (k : CopiedObject). k.from == q) (take i xs) (get_or xs i d)));
       gray = λ q.
-          ap (λ (s : FinSet nat_cmp). contains s q) c.remove-in-loop-copy.ensures
-          ∙ removed_more c.loop-copy.self-inside.gray (contains c.args.self.now.gray q) (list_any (λ (k : CopiedObject). k.to == q) (take i xs)) (get_or xs i d).to q (so_far.gray q)
+          ap (λ (s : AddressState). contains s.set q) c.remove-in-loop-copy.ensures
+          ∙ removed_more c.loop-copy.self-inside.gray.set (contains c.args.self.now.gray q) (list_any (λ (k : CopiedObject). k.to == q) (take i xs)) (get_or xs i d).to q (so_far.gray q)
           ∙ ap (λ b. contains c.args.self.now.gray q && not b) (sym (more (λ k. k.to == q) ∙ any_push (λ (k : CopiedObject). k.to == q) (take i xs) (get_or xs i d)));
     }

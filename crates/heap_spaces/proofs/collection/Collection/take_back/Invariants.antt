@@ -9,6 +9,6 @@ abbrev pub invariant-loop-copy : goal.invariant-loop-copy
 invariant-loop-copy l = record {
   used : l.self-inside.used ≡ l.fn.self.used;
   copied : l.self-inside.copied + sum_by (λ (c : CopiedObject). c.words) (take l.copy-index l.copies) ≡ l.fn.self.copied;
-  moved : (q : ℕ) → contains l.self-inside.moved q ≡ (contains l.fn.self.moved q && not (list_any (λ (c : CopiedObject). c.from == q) (take l.copy-index l.copies)));
-  gray : (q : ℕ) → contains l.self-inside.gray q ≡ (contains l.fn.self.gray q && not (list_any (λ (c : CopiedObject). c.to == q) (take l.copy-index l.copies)));
+  moved : (q : ℕ) → contains l.self-inside.moved.set q ≡ (contains l.fn.self.moved q && not (list_any (λ (c : CopiedObject). c.from == q) (take l.copy-index l.copies)));
+  gray : (q : ℕ) → contains l.self-inside.gray.set q ≡ (contains l.fn.self.gray q && not (list_any (λ (c : CopiedObject). c.to == q) (take l.copy-index l.copies)));
 }
