@@ -14,7 +14,8 @@ use crate::log::Log;
 use disk_model::{Disk, DiskError};
 use gate_slot::OPEN;
 use log_records::{
-    BASE_HEAD_BYTES, BATCH_BYTES, FIRST_LSN, FLIP, Record, SCAN, SCAN_HEAD_BYTES, WORD_BYTES, WRITE_BYTES,
+    BASE_HEAD_BYTES, BATCH_BYTES, FIRST_LSN, FLIP, Record, SCAN, SCAN_HEAD_BYTES, WORD_BYTES,
+    WRITE_BYTES,
 };
 use std::alloc::{AllocError, AllocFailed, Global};
 

@@ -21,7 +21,7 @@ use crate::cached::CachedPages;
 use disk_model::{Disk, DiskError};
 use image_plan::Plan;
 use log_records::Record;
-use page_store::{ReadPagesError, PageStore};
+use page_store::{PageStore, ReadPagesError};
 use std::alloc::{AllocError, Global};
 
 /// The pages of a heap in memory, those of both spaces, each with its LSN. Some of them are not stored yet as they are.
@@ -40,7 +40,11 @@ impl PageCache {
     ghost use Rattle.log_machine.specs.Origin.{Origin, records_below};
 
     /// Reads the pages that are stored behind the log of an image.
-    pub fn open<D: Disk>(alloc: Global, disk: &mut D, plan: Plan) -> Result<PageCache, ReadPagesError>
+    pub fn open<D: Disk>(
+        alloc: Global,
+        disk: &mut D,
+        plan: Plan,
+    ) -> Result<PageCache, ReadPagesError>
         requires few { plan.pages ≤ 16384 }
         requires inside { image_size plan.pages plan.log_bytes ≤ D.extent disk.old }
 

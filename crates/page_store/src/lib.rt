@@ -6,4 +6,4 @@ mod refill;
 mod store;
 
 pub use frame::{Frame, PAGE_WORDS, StoredPage};
-pub use store::{ReadPagesError, PageStore};
+pub use store::{PageStore, ReadPagesError};

@@ -107,7 +107,11 @@ fn new_disk(alloc: Global) -> Result<MemoryDisk, AllocError> {
 
 // What follows wraps calls with long contracts, since each of their callers would otherwise prove them anew.
 
-fn open(rt: &impl Abort, alloc: Global, disk: &mut MemoryDisk) -> Result<PageCache, ReadPagesError> {
+fn open(
+    rt: &impl Abort,
+    alloc: Global,
+    disk: &mut MemoryDisk,
+) -> Result<PageCache, ReadPagesError> {
     assert!(rt; disk.size() >= PLAN.size());
     PageCache::open(alloc, disk, PLAN)
 }

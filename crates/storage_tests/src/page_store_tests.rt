@@ -2,7 +2,7 @@
 use crate::compare::same;
 use disk_model::{Disk, DiskError, FuseDisk, MemoryDisk, Pick};
 use image_plan::Plan;
-use page_store::{ReadPagesError, PAGE_WORDS, PageStore, StoredPage};
+use page_store::{PAGE_WORDS, PageStore, ReadPagesError, StoredPage};
 use std::alloc::{AllocError, Global};
 use std::process::Abort;
 use std::test::Fail;
