@@ -16,7 +16,7 @@ use crate::batch::{NO_LENGTH, bytes_of, close_batch};
 use crate::reading::{LogError, LogReader};
 use disk_model::{Disk, DiskError};
 use gate_slot::fill_and_open;
-use log_records::{BATCH_BYTES, Record};
+use log_records::{BATCH_BYTES, FIRST_LSN, Record};
 use std::alloc::{AllocError, Global};
 
 /// A log that lies in a part of a disk. What was forced is there after a crash; a pending record is in memory alone.

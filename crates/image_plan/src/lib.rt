@@ -4,5 +4,5 @@
 mod plan;
 mod superblock;
 
-pub use plan::{LEAST_LOG, MOST_LOG, MOST_PAGES, Plan, SUPER_BYTES};
+pub use plan::{FRAME_BYTES, LEAST_LOG, MOST_LOG, MOST_PAGES, Plan, SUPER_BYTES};
 pub use superblock::{Super, read_super, write_super};

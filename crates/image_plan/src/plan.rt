@@ -18,7 +18,7 @@ pub const MOST_PAGES: u32 = 16_384;
 pub const FRAME_BYTES: u64 = 528;
 
 /// The frames of a page, which is stored into one or the other.
-pub const FRAMES: u64 = 2;
+const FRAMES: u64 = 2;
 
 /// The spaces of a heap, each with as many pages.
 const SPACES: u64 = 2;
