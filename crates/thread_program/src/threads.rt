@@ -2,7 +2,6 @@
 ghost use Rattle.std.specs.Prelude.{◌≡◌, ◌≢◌, ◌⊎◌, ℕ, ◌<◌, ◌≤◌, List, [], None, Some, Ok, Err, IfSome, IsTrue};
 ghost use Rattle.counts.specs.Count.{Rose};
 ghost use Rattle.disk_model.specs.Disk.{Only};
-ghost use Rattle.disk_model.specs.Keeps.{KeepsDisk};
 ghost use Rattle.disk_model.specs.Moments.{LeavesOnly};
 ghost use Rattle.image_plan.specs.declared.superblock.Super.{Super};
 ghost use Rattle.image_plan.specs.Plan.{image_size};
@@ -20,6 +19,7 @@ ghost use Rattle.heap_recovery.specs.Faults.{IsLeftOf};
 ghost use Rattle.script_text.specs.declared.line.Line.{Line};
 ghost use Rattle.script_text.specs.declared.script.ScriptError.TheVariants.{Fault};
 ghost use Rattle.script_text.specs.Script.{script};
+ghost use Rattle.shared_heap.specs.Follows.{StaysDisk};
 ghost use Rattle.thread_program.specs.Together.{RunsByWorkers, StepsTogether, IsPlayedTogether, EndsUnwritten, PrintsTogether, PrintsSomeTogether, RunsTogether};
 
 use crate::ending::make_ending;
@@ -142,7 +142,7 @@ fn play_opened<D: Disk + Send, K: Sink, G: Gate + Sync, R: Threads + Wait + Sync
     requires tries { 0 < tries }
 
     ensures end { IsEndOfPlay result.0 }
-    ensures disk { KeepsDisk {T = Unit {0}} D.Disk (heap_disk heap) (heap_disk result.1) (Ok tt) }
+    ensures disk { StaysDisk D.Disk (heap_disk heap) (heap_disk result.1) }
     ensures sink { StreamCause (K.faults sink.old) (K.faults sink.new) (result.0 ≡ Status.WriteFault) }
     ensures failed { result.0 ≡ Status.DiskFault → failed_at result.1 ≢ None }
     ensures caused { (c : Core) → IsCore c heap → IsRunning c → failed_at result.1 ≢ None

@@ -76,7 +76,7 @@ returns-in-Ok-clause-prints g c =
     let some = opened_core d.tells (d.bytes c.args.disk) c.in-Ok.heap c.in-Ok.ensures.opens c.in-Ok.ensures.sound in
     let told = c.play_opened-status.ensures.core some.0 some.2 some.1.running some.1.nothing in
     let opening = c.in-Ok.ensures.disk.cause in
-    let played = c.play_opened-status.ensures.disk.cause in
+    let played = c.play_opened-status.ensures.disk in
     inr (record {
       first = some.0;
       opened = some.1.opened;
@@ -98,9 +98,9 @@ returns-in-Ok-clause-disk g c =
     rw c.close.ensures (record {
       extent = plays.extent ∙ opens.extent;
       origin = plays.origin ∙ opens.origin;
-      kept = omega (arith, opens.cause.faults_kept, opens.cause.stops_kept, plays.cause.faults_kept, plays.cause.stops_kept);
+      kept = omega (arith, opens.cause.faults_kept, opens.cause.stops_kept, plays.faults_kept, plays.stops_kept);
       cause = λ is. elim (c.play_opened-status.ensures.caused some.0 some.2 some.1.running (c.play_opened-status.ensures.failed is)) [
-        | inl rose ↦ disk_rose_since _ _ _ _ _ _ opens.cause.faults_kept opens.cause.stops_kept plays.cause.faults_kept plays.cause.stops_kept rose
+        | inl rose ↦ disk_rose_since _ _ _ _ _ _ opens.cause.faults_kept opens.cause.stops_kept plays.faults_kept plays.stops_kept rose
         | inr memory ↦ absurd (let same = sym memory.0 ∙ is in cc)
       ];
     })
