@@ -58,10 +58,6 @@ module _ {D : Type 0} (g : Ghosts D) where
     restarts = λ told. kept.restarts told ∙ before.restarts told;
   }
 
-  -- what a call kept that told no error is kept where none is told
-  pub keeps_ok : {S T : Type 0} (old new : D) (result : Result S DiskError) (y : S) (x : T) → result ≡ Ok y → KeepsDisk g old new result → KeepsDisk {T = T} g old new (Ok x)
-  keeps_ok old new result y x done kept = keeps_on old new new result y (Ok x) done kept (keeps_none new x)
-
   -- nothing was read
   pub same_none : (disk : D) → ((c : List ℕ) → g.left_since disk (g.moment disk) c → g.may_leave disk c) → SameContents g disk disk
   same_none disk only_now = record { bytes = refl; crash = λ c left. left; moments = begins g.moment g.left_since disk (g.may_leave disk) only_now; passed = refl }
@@ -78,9 +74,6 @@ module _ {D : Type 0} (g : Ghosts D) where
   -- nothing was read, and no error of the disk is told
   pub reads_none : {T : Type 0} (disk : D) (x : T) → (IsTrue g.tells → (c : List ℕ) → g.left_since disk (g.moment disk) c → g.may_leave disk c) → OnlyReads {T = T} g disk disk (Ok x)
   reads_none disk x only_now = record { disk = keeps_none disk x; contents = λ told. same_none disk (only_now told); no_first_stop = λ none. none }
-
-  pub reads_ok : {S T : Type 0} (old new : D) (result : Result S DiskError) (y : S) (x : T) → result ≡ Ok y → OnlyReads g old new result → OnlyReads {T = T} g old new (Ok x)
-  reads_ok old new result y x done reads = record { disk = keeps_ok old new result y x done reads.disk; contents = reads.contents; no_first_stop = reads.no_first_stop }
 
   -- one more that only reads, whose answer is told, and which followed no error
   pub reads_on : {S T : Type 0} (old mid new : D) (first : Result S DiskError) (y : S) (result : Result T DiskError) → first ≡ Ok y → OnlyReads g old mid first → OnlyReads g mid new result → OnlyReads g old new result

@@ -8,6 +8,7 @@ mod RefinementOpen
 mod StepCore
 mod Undamaged
 mod Zeros
+pub mod CausesLaws
 pub mod Collects
 pub mod CrashLaws
 pub mod RefinementLeft

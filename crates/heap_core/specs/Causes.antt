@@ -1,6 +1,8 @@
 -- What the disk answered in a call of a heap, and what an error tells of it.
-use Rattle.std.specs.Prelude.{◌≡◌, ℕ, Result, Ok, Err, ⊤}
+use Rattle.std.specs.Prelude.{◌≡◌, ℕ, ◌≤◌, Result, Ok, Err, ⊤}
 use Rattle.std.specs.declared.alloc.AllocError.{AllocError}
+use Rattle.counts.specs.Count.{Rose}
+use Rattle.disk_model.specs.declared.disk.Disk.{Ghosts}
 use Rattle.disk_model.specs.declared.disk.DiskError.{DiskError}
 use Rattle.disk_model.specs.declared.disk.DiskError.TheVariants as device
 use Rattle.gate_slot.specs.Passing.{Passes}
@@ -19,6 +21,13 @@ use Rattle.heap_core.specs.declared.errors.OpenError.TheVariants as opening
 abbrev pub step_device : Result Reply AllocError → Result (Unit {0}) DiskError
 step_device (Ok reply) = reply_device reply
 step_device (Err e) = Ok tt
+
+-- Over calls of a heap that may have gone on after an error: no count of the disk fell, and a reply told an error only where that error's count rose.
+pub record IsCausedBy {D : Type 0} (g : Ghosts D) (old new : D) (reply : Reply) : Type 0 where
+  pub faults_kept : g.faults old ≤ g.faults new
+  pub stops_kept : g.stops old ≤ g.stops new
+  pub failed : reply_device reply ≡ Err device.Failed → Rose (g.faults old) (g.faults new)
+  pub stopped : reply_device reply ≡ Err device.Stopped → Rose (g.stops old) (g.stops new)
 
 -- what an opening's error is of a recovery
 abbrev pub open_error : RecoverError → OpenError

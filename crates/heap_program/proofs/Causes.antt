@@ -1,10 +1,13 @@
 -- How the causes of errors go on over several calls.
 use Rattle.std.proofs.Common.{◌≡◌, inl, inr, ℕ, ◌+◌, ◌≤◌, arith, Result, Err}
 use Rattle.counts.specs.Count.{Rose}
+use Rattle.disk_model.specs.declared.disk.Disk.{Ghosts}
 use Rattle.disk_model.specs.declared.disk.DiskError.{DiskError}
 use Rattle.disk_model.specs.declared.disk.DiskError.TheVariants.{Failed, Stopped}
 use Rattle.disk_model.specs.Disk.{HasCause}
 use Rattle.disk_model.proofs.KeepsLaws.{rose_since}
+use Rattle.graph_model.specs.declared.reply.Reply.{Reply}
+use Rattle.heap_core.specs.Causes.{IsCausedBy, reply_device}
 use Rattle.heap_program.specs.Causes.{DiskRose}
 
 -- counts of two kinds together
@@ -25,11 +28,7 @@ disk_rose f s f' s' result Stopped cause is = rose_sum_stops f s f' s' cause.fau
 pub disk_rose_since : (f s m n f' s' : ℕ) → f ≤ m → s ≤ n → m ≤ f' → n ≤ s' → DiskRose m n f' s' → DiskRose f s f' s'
 disk_rose_since f s m n f' s' fm sn mf ns up = rose_since (f + s) (m + n) (f' + s') (omega arith) (omega arith) up
 
--- an error's count rose since the first call, if it rose in the last one
-pub cause_on : {A B : Type 0} (faults mid faults' stops mids stops' : ℕ) (result : Result A DiskError) (last : Result B DiskError) → faults ≤ mid → stops ≤ mids → HasCause mid faults' mids stops' last → ((e : DiskError) → result ≡ Err e → last ≡ Err e) → HasCause faults faults' stops stops' result
-cause_on faults mid faults' stops mids stops' result last f s cause same_error = record {
-  faults_kept = omega (arith, cause.faults_kept);
-  stops_kept = omega (arith, cause.stops_kept);
-  failed = λ is. rose_since faults mid faults' f cause.faults_kept (cause.failed (same_error Failed is));
-  stopped = λ is. rose_since stops mids stops' s cause.stops_kept (cause.stopped (same_error Stopped is));
-}
+-- a reply that tells the disk's error means it too
+pub reply_rose : {D : Type 0} (g : Ghosts D) (old new : D) (reply : Reply) (e : DiskError) → IsCausedBy g old new reply → reply_device reply ≡ Err e → DiskRose (g.faults old) (g.stops old) (g.faults new) (g.stops new)
+reply_rose g old new reply Failed cause is = rose_sum (g.faults old) (g.stops old) (g.faults new) (g.stops new) cause.faults_kept cause.stops_kept (cause.failed is)
+reply_rose g old new reply Stopped cause is = rose_sum_stops (g.faults old) (g.stops old) (g.faults new) (g.stops new) cause.faults_kept cause.stops_kept (cause.stopped is)

@@ -43,7 +43,7 @@ use Rattle.heap_program.specs.Output.{WroteText, Recovers, WroteRecovered, Wrote
 use Rattle.heap_program.specs.Play.{IsRunning, MadeAll, IsCutBy, MakesAll, MakesShort, Makes, Ends, Plays, Wrote, lines_text, WroteFront, WroteLines}
 use Rattle.heap_program.proofs.Ready.{AreReady}
 use Rattle.heap_program.specs.StatusOf.{halt_status}
-use Rattle.heap_program.proofs.Causes.{disk_rose}
+use Rattle.heap_program.proofs.Causes.{reply_rose}
 use Rattle.heap_program.proofs.Counts.{counted-sum, counted_mono}
 use Rattle.heap_program.proofs.Limits.{limits_law}
 use Rattle.heap_program.specs.Limits.{KeepsLimits}
@@ -320,8 +320,8 @@ module _ {D : Type 0} {g : Ghosts D} (s : Super) (c : Core) (running : IsRunning
   module _ (unharmed : DiskRose (g.faults old.disk) (g.stops old.disk) (g.faults new.disk) (g.stops new.disk) → ⊥) where
     short_harm : (reply : Reply) → MakesShort c made core old new reply → DiskRose (g.faults old.disk) (g.stops old.disk) (g.faults new.disk) (g.stops new.disk)
     short_harm reply short = ⊎_elim
-        (λ (is : reply ≡ Refused DiskFault). disk_rose _ _ _ _ (reply_device reply) device.Failed short.cause (ap reply_device is))
-        (λ (is : reply ≡ Refused Stopped). disk_rose _ _ _ _ (reply_device reply) device.Stopped short.cause (ap reply_device is))
+        (λ (is : reply ≡ Refused DiskFault). reply_rose g old.disk new.disk reply device.Failed short.cause (ap reply_device is))
+        (λ (is : reply ≡ Refused Stopped). reply_rose g old.disk new.disk reply device.Stopped short.cause (ap reply_device is))
         short.cut.told
 
     pub exact_none : MadeAll c made core

@@ -31,6 +31,7 @@ use Rattle.heap_program.proofs.Ready.{AreReady}
 use Rattle.heap_program.specs.Play.{MakesAll, MakesShort, Makes, Ends, Plays, ended_by, WroteFront}
 use Rattle.heap_program.specs.StatusOf.{write_halt}
 use Rattle.heap_program.specs.declared.output.WriteError.TheVariants as writing
+use Rattle.heap_core.proofs.CausesLaws.{caused_once}
 use Rattle.heap_core.proofs.StepsLaws.{one_steps}
 use Rattle.heap_program.proofs.Lines.{nothing_since, one_since, part_since}
 
@@ -96,7 +97,7 @@ module _ {D : Type 0} {g : Ghosts D} (s : Super) (c d : Core) (event : Event) (r
     parts = refl;
     cut = cut;
     reached = reached;
-    cause = keeps.cause;
+    cause = caused_once g old.disk new.disk reply keeps.cause;
     passes = λ stopped.
         let short = passes.stopped (ap reply_device stopped) cut.some in
         let same : short.0 ≡ 0 + short.0 = omega arith in (short.0, short.1, short.2 ∙ ap (λ (i : ℕ). counted i (g.passed old.disk)) same);

@@ -4,6 +4,7 @@ use Rattle.std.specs.Prelude.{IsTrue, OnOk}
 use Rattle.counts.specs.Count.{Rose, counted}
 use Rattle.disk_model.specs.declared.disk.Disk.{Ghosts}
 use Rattle.disk_model.specs.declared.disk.DiskError.{DiskError}
+use Rattle.disk_model.specs.declared.disk.DiskError.TheVariants.{Failed}
 use Rattle.disk_model.specs.Disk.{HasCause}
 use Rattle.disk_model.specs.declared.fuse.FuseDisk.{FuseDisk}
 use Rattle.disk_model.specs.Fuse.{FuseOrigin, fuse_inner, fuse_origin, fuse_passed}
@@ -12,7 +13,9 @@ use Rattle.disk_model.proofs.KeepsLaws.{rose_until}
 use Rattle.disk_model.specs.Moments.{LeavesOnly}
 use Rattle.gate_slot.specs.Passing.{Passes}
 use Rattle.graph_model.specs.declared.event.Event.{Event}
+use Rattle.graph_model.specs.declared.reply.Refusal.TheVariants.{DiskFault, Stopped}
 use Rattle.graph_model.specs.declared.reply.Reply.{Reply}
+use Rattle.graph_model.specs.declared.reply.Reply.TheVariants.{Refused}
 use Rattle.heap_core.specs.Causes.{reply_device}
 use Rattle.heap_core.specs.Refinement.{IsLeftByStep}
 use Rattle.heap_model.specs.Core.{Core, calls}
@@ -33,6 +36,13 @@ same_limit {D} {O} a b same = ap (λ (o : FuseOrigin D O). o.limit) same
 pub rose_some : (a b : ℕ) → a ≤ b → Rose a b → b ≢ 0
 rose_some a b kept (inl up) none = omega arith
 rose_some a b kept (inr full) none = omega arith
+
+-- a reply that tells a failure of the disk is `diskfault`
+told_fault : (reply : Reply) → reply_device reply ≡ Err Failed → reply ≡ Refused DiskFault
+told_fault (Refused DiskFault) told = refl
+told_fault (Refused Stopped) told = cc
+told_fault (Refused why) told = cc
+told_fault reply told = cc
 
 -- A heap's steps on its own disk are steps of a run on it.
 pub own_steps : {D : Type 0} (g : Ghosts D) (start : D) → IsTrue g.tells → (c d : Core) (old new : D) (events : List Event) → AreSteps (HeapStep g) c old events d new → AreSteps (Step g None start) c old events d new
@@ -113,6 +123,7 @@ module _ {D : Type 0} {g : Ghosts D} where
       cause_inside a b reply same limit cause = record {
         kept = omega (arith, cause.faults_kept, is.faults a, is.faults b);
         failed = λ fault. subst (λ (i : ℕ). Rose i (g.faults (fuse_inner b) + g.stops (fuse_inner b))) (is.faults a) (subst (λ (i : ℕ). Rose (h.faults a) i) (is.faults b) (cause.failed (ap reply_device fault)));
+        still = λ other. sym (is.faults b) ∙ cause.faults_still (λ told. other (told_fault reply told)) ∙ is.faults a;
         stopped = λ stop still.
             let blown : b.stops ≢ 0 = subst (λ (i : ℕ). i ≢ 0) (is.stops b) (rose_some (h.stops a) (h.stops b) cause.stops_kept (cause.stopped (ap reply_device stop))) in
             let at : fuse_passed b ≡ n = b.blown blown ∙ limit in

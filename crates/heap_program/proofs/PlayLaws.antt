@@ -12,7 +12,6 @@ use Rattle.image_plan.specs.declared.superblock.Super.{Super}
 use Rattle.heap_core.specs.declared.heap.Heap.{Heap}
 use Rattle.heap_program.specs.declared.play.Halt.{Halt}
 use Rattle.heap_program.specs.declared.play.Halt.TheVariants as halt
-use Rattle.heap_core.specs.Causes.{reply_device}
 use Rattle.heap_model.specs.Core.{Core, with_entry, IsCutShort, calls}
 use Rattle.heap_model.specs.CoreRuns.{after_events, total_calls}
 use Rattle.heap_model.proofs.Step.Calls.{after_events-append, total_calls-append}
@@ -22,8 +21,8 @@ use Rattle.heap_core.specs.Refinement.{IsHeap}
 use Rattle.heap_program.proofs.Ready.{AreReady}
 use Rattle.heap_program.specs.Play.{MakesAll, MakesShort, Makes, Ends, Plays}
 use Rattle.heap_core.specs.Steps.{HeapStep, AreSteps}
+use Rattle.heap_core.proofs.CausesLaws.{caused_since}
 use Rattle.heap_core.proofs.StepsLaws.{steps_append}
-use Rattle.heap_program.proofs.Causes.{cause_on}
 
 -- the passes of two runs, one after the other
 counted_then : (m n both before mid now : ℕ) → n + m ≡ both → mid ≡ counted n before → now ≡ counted m mid → now ≡ counted both before
@@ -80,7 +79,7 @@ module _ {D : Type 0} {g : Ghosts D} where
         parts = ap (λ (l : List Event). events ++ l) second.parts ∙ sym (append_assoc events second.before (second.event ∷ []));
         cut = subst (λ (x : Core). IsCutShort x second.event reply) (sym (same_core second.before)) second.cut;
         reached = second.reached ∙ ap (λ (x : Core). with_entry x second.event reply) (sym (same_core second.before));
-        cause = cause_on (g.faults old.disk) (g.faults mid.disk) (g.faults new.disk) (g.stops old.disk) (g.stops mid.disk) (g.stops new.disk) (reply_device reply) (reply_device reply) faults_kept stops_kept second.cause (λ e is. is);
+        cause = caused_since g old.disk mid.disk new.disk reply faults_kept stops_kept second.cause;
         passes = λ is. let short = second.passes is in let sum = same_calls second.before in (
           short.0,
           subst (λ (x : Core). short.0 < calls x second.event) (sym (same_core second.before)) short.1,

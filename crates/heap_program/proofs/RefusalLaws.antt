@@ -16,7 +16,7 @@ use Rattle.log_records.specs.declared.Record.{Record}
 use Rattle.log_machine.specs.Machine.{State}
 use Rattle.heap_recovery.specs.Faults.{IsNoHeap, IsReadable, IsFaultAt, IsLogLeft, IsLeftOf}
 use Rattle.heap_recovery.proofs.FaultLaws.{left_again, left_of_fault}
-use Rattle.heap_core.specs.Causes.{IsFromOutside}
+use Rattle.heap_core.specs.Causes.{IsFromOutside, ErrorPasses}
 use Rattle.heap_core.specs.Refusals as opening_refusals
 use Rattle.heap_core.specs.declared.errors.OpenError.{OpenError}
 use Rattle.heap_core.specs.declared.errors.OpenError.TheVariants as opening
@@ -24,8 +24,11 @@ use Rattle.heap_program.specs.declared.status.Status.{Status}
 use Rattle.heap_program.specs.declared.status.Status.TheVariants as status
 use Rattle.heap_program.specs.Causes.{IsInputError}
 use Rattle.heap_program.specs.Headline.{IsEndOfPlay}
-use Rattle.heap_program.specs.Refusals.{IsFault, IsWordFault, IsToldOf, IsToldOfEach, EndsRefused, IsLeftAlone, LeavesAlone}
-use Rattle.heap_program.specs.StatusOf.{open_status}
+use Rattle.heap_program.specs.Refusals.{IsFault, IsWordFault, OpensOnce, fault_calls, IsToldOf, IsToldOfEach, EndsRefused, IsLeftAlone, LeavesAlone}
+use Rattle.command_words.specs.declared.commands.CommandError.{CommandError}
+use Rattle.command_words.specs.declared.commands.CommandError.TheVariants as asking
+use Rattle.heap_model.specs.Opening.{opening_calls}
+use Rattle.heap_program.specs.StatusOf.{command_status, open_status}
 
 -- what the error of an opening tells, its status tells
 pub told_status : (e : OpenError) (image : List ℕ) → opening_refusals.IsToldOf e image → IsToldOf (open_status e) image
@@ -186,3 +189,29 @@ input_told (status.TooSmall size need) image input = tt
 -- nor of those that a crash may leave
 pub input_told_each : (s : Status) (may_leave : List ℕ → Type 0) → IsInputError s → IsToldOfEach s may_leave
 input_told_each s may_leave input image may = input_told s image input
+
+-- A run that ends before it opens a heap makes no call.
+pub input_once : (n k : ℕ) (s : Status) → IsInputError s → OpensOnce n k k s
+input_once n k status.Done input = refl
+input_once n k status.NoMemory input = refl
+input_once n k status.Usage input = refl
+input_once n k (status.Script line) input = refl
+input_once n k status.ReadFault input = refl
+input_once n k status.WriteFault input = refl
+input_once n k status.DiskFault input = absurd input
+input_once n k status.NotHeap input = refl
+input_once n k (status.Damaged at) input = absurd input
+input_once n k (status.TooSmall size need) input = refl
+
+pub command_once : (n k : ℕ) (e : CommandError) → OpensOnce n k k (command_status e)
+command_once n k asking.NoMemory = refl
+command_once n k asking.Usage = refl
+
+-- What an opening of an image that is damaged at an address passed, by the status of its error.
+pub opens_once : (image : List ℕ) (before now : ℕ) (e : OpenError) (fault : IsWordFault image) → opening_refusals.IsToldOf e image
+    → ((s : Super) (batches : List (List Record)) (state : State) → IsReadable s batches state image → ErrorPasses (opening_calls s batches) before now e) → OpensOnce (fault_calls fault) before now (open_status e)
+opens_once image before now opening.NoMemory fault told passes = passes fault.1.0 fault.1.1 fault.1.2 fault.1.3
+opens_once image before now opening.NotHeap fault told passes = absurd (told fault.1.0 fault.1.3.roomy.replayed.log.super)
+opens_once image before now (opening.Damaged at) fault told passes = (passes fault.1.0 fault.1.1 fault.1.2 fault.1.3).ok
+opens_once image before now opening.DiskFault fault told passes = (passes fault.1.0 fault.1.1 fault.1.2 fault.1.3).some
+opens_once image before now opening.Stopped fault told passes = (passes fault.1.0 fault.1.1 fault.1.2 fault.1.3).some

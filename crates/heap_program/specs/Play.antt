@@ -3,7 +3,6 @@ use Rattle.std.specs.Prelude.{◌≡◌, ◌⊎◌, ℕ, ◌+◌, ◌<◌, ◌�
 use Rattle.std.specs.List.{flat_map}
 use Rattle.counts.specs.Count.{counted}
 use Rattle.disk_model.specs.declared.disk.Disk.{Ghosts}
-use Rattle.disk_model.specs.Disk.{HasCause}
 use Rattle.graph_model.specs.declared.event.Event.{Event}
 use Rattle.graph_model.specs.declared.reply.Entry.{Entry}
 use Rattle.graph_model.specs.declared.reply.Refusal.TheVariants.{DiskFault, Stopped}
@@ -15,7 +14,7 @@ use Rattle.image_plan.specs.declared.superblock.Super.{Super}
 use Rattle.heap_core.specs.declared.heap.Heap.{Heap}
 use Rattle.heap_program.specs.declared.play.Halt.{Halt}
 use Rattle.heap_program.specs.declared.play.Halt.TheVariants as halt
-use Rattle.heap_core.specs.Causes.{reply_device}
+use Rattle.heap_core.specs.Causes.{IsCausedBy}
 use Rattle.heap_model.specs.Core.{Core, with_entry, IsCutShort, IsRun, calls}
 use Rattle.heap_model.specs.CoreRuns.{after_events, total_calls}
 use Rattle.core_laws.specs.Valid.{IsReached}
@@ -96,7 +95,7 @@ module _ {D : Type 0} {g : Ghosts D} where
     pub parts : made ≡ before ++ event ∷ []
     pub cut : IsCutShort (after_events c before) event reply
     pub reached : d ≡ with_entry (after_events c before) event reply
-    pub cause : HasCause (g.faults old.disk) (g.faults new.disk) (g.stops old.disk) (g.stops new.disk) (reply_device reply)
+    pub cause : IsCausedBy g old.disk new.disk reply
     -- where it stopped, fewer calls of that event passed than it makes
     pub passes : reply ≡ Refused Stopped → (k : ℕ) × (k < calls (after_events c before) event) × (g.passed new.disk ≡ counted (total_calls c before + k) (g.passed old.disk))
     -- and else no more

@@ -1,7 +1,9 @@
 -- What a run says against an image that can't be opened.
-use Rattle.std.specs.Prelude.{◌≡◌, List, ℕ}
+use Rattle.std.specs.Prelude.{◌≡◌, ◌≤◌, List, ℕ}
+use Rattle.counts.specs.Count.{counted}
 use Rattle.disk_model.specs.declared.disk.Disk.{Ghosts}
 use Rattle.disk_model.specs.Keeps.{SameContents}
+use Rattle.heap_model.specs.Opening.{opening_calls}
 use Rattle.heap_recovery.specs.Faults.{IsNoHeap, IsFaultAt}
 use Rattle.heap_recovery.specs.declared.at.At.TheVariants.{Address}
 use Rattle.heap_program.specs.declared.status.Status.{Status}
@@ -16,6 +18,17 @@ IsFault s image = ⊥
 -- The image is damaged at an address: its log can be read, and its words are no objects there.
 abbrev pub IsWordFault : List ℕ → Type 0
 IsWordFault image = (address : ℕ) × IsFaultAt (Address address) image
+
+-- the writes and syncs of an opening of such an image
+abbrev pub fault_calls : {image : List ℕ} → IsWordFault image → ℕ
+fault_calls fault = opening_calls fault.1.0 fault.1.1
+
+-- A run opened an image once, which takes n writes and syncs: it made all of them where it tells what is damaged there, no more of them where the
+-- disk failed, and else none.
+abbrev pub OpensOnce : ℕ → ℕ → ℕ → Status → Type 0
+OpensOnce n before now (status.Damaged at) = now ≡ counted n before
+OpensOnce n before now status.DiskFault = (k : ℕ) × (k ≤ n) × (now ≡ counted k before)
+OpensOnce n before now result = now ≡ before
 
 -- A status that speaks of the image tells what is so.
 abbrev pub IsToldOf : Status → List ℕ → Type 0

@@ -1,5 +1,5 @@
 -- The steps of a run on a disk, which may stop by itself.
-use Rattle.std.specs.Prelude.{◌≡◌, ℕ, ◌+◌, ◌≤◌, List, Option, None, Some}
+use Rattle.std.specs.Prelude.{◌≡◌, ◌≢◌, ℕ, ◌+◌, ◌≤◌, List, Option, None, Some}
 use Rattle.counts.specs.Count.{Rose, counted}
 use Rattle.disk_model.specs.declared.disk.Disk.{Ghosts}
 use Rattle.disk_model.specs.Disk.{HasCause}
@@ -15,15 +15,17 @@ use Rattle.heap_model.specs.Core.{Core, IsStep, calls}
 use Rattle.heap_model.specs.CoreCrash.{IsCommitPrefix}
 use Rattle.heap_program.specs.Causes.{DiskRose, Unharmed}
 
--- Why a step was cut short on a disk that is to stop: it is answered `diskfault` only where the disk's faults and stops together rose in
--- that step, and `stopped`, if the disk doesn't stop by itself, only where it had let n writes and syncs through since the start.
+-- Why a step was cut short on a disk that is to stop: it is answered `diskfault` where the disk's faults and stops together rose in that step,
+-- and nowhere else; so what is answered `stopped` never reached the disk. That is, if the disk doesn't stop by itself, only where it had let n
+-- writes and syncs through since the start.
 pub record StopCause {D : Type 0} (g : Ghosts D) (n : ℕ) (start before after : D) (reply : Reply) : Type 0 where
   pub kept : g.faults before + g.stops before ≤ g.faults after + g.stops after
   pub failed : reply ≡ Refused DiskFault → DiskRose (g.faults before) (g.stops before) (g.faults after) (g.stops after)
+  pub still : reply ≢ Refused DiskFault → g.faults after + g.stops after ≡ g.faults before + g.stops before
   pub stopped : reply ≡ Refused Stopped → ¬ Rose (g.stops start) (g.stops after) → g.passed after ≡ counted n (g.passed start)
 
--- Why a step was cut short. Where no stop was asked, it is answered `diskfault` only where the disk's faults rose in that step, and
--- `stopped` only where its stops did.
+-- Why a step was cut short. Where no stop was asked, it is answered `diskfault` where the disk's faults rose in that step, `stopped` where its
+-- stops did, and each nowhere else.
 abbrev pub StepCause : {D : Type 0} (g : Ghosts D) → Option ℕ → D → D → D → Reply → Type 0
 StepCause g None start before after reply = HasCause (g.faults before) (g.faults after) (g.stops before) (g.stops after) (reply_device reply)
 StepCause g (Some n) start before after reply = StopCause g n start before after reply

@@ -42,7 +42,7 @@ use Rattle.heap_program.specs.Play.{IsRunning, MadeAll, IsCutBy, MakesAll, Makes
 use Rattle.heap_program.specs.StatusOf.{open_status, halt_status}
 use Rattle.heap_program.specs.Stored.{IsStored, stored_core, stored_calls}
 use Rattle.heap_core.specs.Steps.{HeapStep, AreSteps}
-use Rattle.heap_program.proofs.Causes.{disk_rose}
+use Rattle.heap_program.proofs.Causes.{reply_rose}
 use Rattle.heap_program.proofs.CoreSteps.{makes_run, running_after}
 use Rattle.heap_program.proofs.Counts.{counted_mono}
 use Rattle.heap_core.proofs.StepsLaws.{heap_leaves}
@@ -176,8 +176,8 @@ module _ {D : Type 0} {g : Ghosts D} {bytes : List ℕ} (stored : IsStored bytes
   module _ (unharmed : DiskRose (g.faults old.disk) (g.stops old.disk) (g.faults new.disk) (g.stops new.disk) → ⊥) where
     short_harm : (reply : Reply) → MakesShort c made at_end old new reply → DiskRose (g.faults old.disk) (g.stops old.disk) (g.faults new.disk) (g.stops new.disk)
     short_harm reply short = ⊎_elim
-        (λ (is : reply ≡ Refused DiskFault). disk_rose _ _ _ _ (reply_device reply) device.Failed short.cause (ap reply_device is))
-        (λ (is : reply ≡ Refused Stopped). disk_rose _ _ _ _ (reply_device reply) device.Stopped short.cause (ap reply_device is))
+        (λ (is : reply ≡ Refused DiskFault). reply_rose g old.disk new.disk reply device.Failed short.cause (ap reply_device is))
+        (λ (is : reply ≡ Refused Stopped). reply_rose g old.disk new.disk reply device.Stopped short.cause (ap reply_device is))
         short.cut.told
 
     -- Where the disk does what it is asked, all events were made, with all their calls.

@@ -6,10 +6,8 @@ use Rattle.std.specs.List.{AllByRecursion}
 use Rattle.std.specs.declared.alloc.AllocError.{AllocError}
 use Rattle.disk_model.specs.declared.disk.Disk.{Ghosts}
 use Rattle.disk_model.specs.declared.disk.DiskError.{DiskError}
-use Rattle.disk_model.specs.Disk.{HasCause}
 use Rattle.disk_model.specs.Keeps.{KeepsDisk}
 use Rattle.disk_model.specs.Moments.{LeavesOnly}
-use Rattle.disk_model.proofs.KeepsLaws.{rose_until, keeps_none, keeps_ok, keeps_on, cause_last}
 use Rattle.gate_slot.specs.Passing.{Passes}
 use Rattle.graph_model.specs.declared.event.Event.{Event}
 use Rattle.graph_model.specs.declared.reply.Entry.{Entry}
@@ -17,10 +15,11 @@ use Rattle.graph_model.specs.declared.reply.Reply.{Reply}
 use Rattle.graph_model.specs.History.{IsOfSession}
 use Rattle.image_plan.specs.declared.superblock.Super.{Super}
 use Rattle.heap_core.specs.declared.heap.Heap.{Heap}
-use Rattle.heap_core.specs.Causes.{reply_device, step_device}
+use Rattle.heap_core.specs.Causes.{IsCausedBy, reply_device, step_device}
 use Rattle.heap_core.specs.HeapState.{heap_disk, history_of}
 use Rattle.heap_core.specs.Refinement.{DiskHolds, IsCore, IsHeap, IsLeftByStep}
 use Rattle.heap_core.specs.Steps.{HeapStep, AreSteps}
+use Rattle.heap_core.proofs.CausesLaws.{caused_once, caused_since, caused_until}
 use Rattle.heap_core.proofs.StepsLaws.{one_steps, steps_append, heap_leaves}
 use Rattle.heap_model.specs.Core.{Core, IsStep, IsRun, calls}
 use Rattle.heap_model.specs.CoreCrash.{IsCommitPrefix}
@@ -28,7 +27,7 @@ use Rattle.heap_model.proofs.Step.Calls.{run_step}
 use Rattle.core_laws.proofs.Run.Events.{run_reached}
 use Rattle.core_laws.specs.Valid.{IsReached}
 use Rattle.shared_heap.proofs.Lists.{all_last, all_weaker}
-use Rattle.shared_heap.specs.Follows.{events_of, Reaches, ReachesOn, IsCaused, Follows}
+use Rattle.shared_heap.specs.Follows.{events_of, StaysDisk, Reaches, ReachesOn, IsCaused, Follows}
 use Rattle.shared_heap.specs.Shared.{Told}
 
 module _ {D : Type 0} (g : Ghosts D) where
@@ -38,13 +37,18 @@ module _ {D : Type 0} (g : Ghosts D) where
   steps_run c d old new (event ∷ events) steps = (steps.2.reply, steps.0, steps.2.step, steps_run steps.0 d steps.1 new events steps.3)
 
 module _ {D : Type 0} {g : Ghosts D} where
-  -- the counts of a disk that goes on
-  later : (first old new : Heap D g) → KeepsDisk {T = Unit {0}} g (heap_disk old) (heap_disk new) (Ok tt) → (entry : Entry) → IsCaused first old entry → IsCaused first new entry
-  later first old new kept entry cause = record {
-    faults_kept = omega (arith, cause.faults_kept, kept.cause.faults_kept);
-    stops_kept = omega (arith, cause.stops_kept, kept.cause.stops_kept);
-    failed = λ is. rose_until _ _ _ kept.cause.faults_kept (cause.failed is);
-    stopped = λ is. rose_until _ _ _ kept.cause.stops_kept (cause.stopped is);
+  -- no call was made
+  pub stays_none : (disk : D) → StaysDisk g disk disk
+  stays_none disk = record { extent = refl; origin = refl; faults_kept = omega arith; stops_kept = omega arith; restarts = λ told. refl }
+
+  -- one call more, whatever it was answered
+  pub stays_on : {T : Type 0} (old mid new : D) (result : Result T DiskError) → StaysDisk g old mid → KeepsDisk g mid new result → StaysDisk g old new
+  stays_on old mid new result stays kept = record {
+    extent = kept.extent ∙ stays.extent;
+    origin = kept.origin ∙ stays.origin;
+    faults_kept = omega (arith, stays.faults_kept, kept.cause.faults_kept);
+    stops_kept = omega (arith, stays.stops_kept, kept.cause.stops_kept);
+    restarts = λ told. kept.restarts told ∙ stays.restarts told;
   }
 
   -- Nothing has happened.
@@ -53,7 +57,7 @@ module _ {D : Type 0} {g : Ghosts D} where
     since = [];
     history = sym (append-nil (history_of heap));
     sessions = tt;
-    disk = keeps_none g (heap_disk heap) tt;
+    disk = stays_none (heap_disk heap);
     causes = tt;
     core = λ c is reached. record { core = c; run = refl; is = is };
     holds = λ tells s c is reached. record { core = c; steps = (refl, refl); is = is };
@@ -97,15 +101,14 @@ module _ {D : Type 0} {g : Ghosts D} where
     -- One event more.
     pub follows_step : Follows first new
     follows_step =
-        let same = keeps_ok g (heap_disk old) (heap_disk new) (reply_device reply) tt kept in
-        let device : Result (Unit {0}) DiskError = Ok tt in
         record {
           since = all;
           history = more ∙ ap (λ (l : List Entry). l ++ entry ∷ []) f.history ∙ append_assoc (history_of first) f.since (entry ∷ []);
           sessions = subst (AllByRecursion IsOfSession) (sym all_events) (all_last IsOfSession (events_of f.since) event f.sessions session);
-          disk = keeps_on g (heap_disk first) (heap_disk old) (heap_disk new) device device f.disk same;
-          causes = all_last (IsCaused first new) f.since entry (all_weaker (IsCaused first old) (IsCaused first new) (later first old new same) f.since f.causes)
-              (cause_last _ _ _ _ _ _ device (reply_device reply) f.disk.cause kept.cause);
+          disk = stays_on (heap_disk first) (heap_disk old) (heap_disk new) (reply_device reply) f.disk kept;
+          causes = all_last (IsCaused first new) f.since entry (all_weaker (IsCaused first old) (IsCaused first new)
+              (λ earlier cause. caused_until g (heap_disk first) (heap_disk old) (heap_disk new) earlier.reply kept.cause.faults_kept kept.cause.stops_kept cause) f.since f.causes)
+              (caused_since g (heap_disk first) (heap_disk old) (heap_disk new) reply f.disk.faults_kept f.disk.stops_kept (caused_once g (heap_disk old) (heap_disk new) reply kept.cause));
           core = reaches;
           holds = reaches_on;
         }
@@ -116,9 +119,9 @@ module _ {D : Type 0} {g : Ghosts D} where
     since = f.since;
     history = same ∙ f.history;
     sessions = f.sessions;
-    disk = subst (λ (disk : D). KeepsDisk {T = Unit {0}} g (heap_disk first) disk (Ok tt)) (sym still) f.disk;
+    disk = subst (λ (disk : D). StaysDisk g (heap_disk first) disk) (sym still) f.disk;
     causes = all_weaker (IsCaused first old) (IsCaused first new)
-        (λ entry cause. subst (λ (disk : D). HasCause (g.faults (heap_disk first)) (g.faults disk) (g.stops (heap_disk first)) (g.stops disk) (reply_device entry.reply)) (sym still) cause) f.since f.causes;
+        (λ entry cause. subst (λ (disk : D). IsCausedBy g (heap_disk first) disk entry.reply) (sym still) cause) f.since f.causes;
     core = λ c is reached. let r = f.core c is reached in record { core = r.core; run = r.run; is = kept r.core r.is };
     holds = λ tells s c is reached.
         let r = f.holds tells s c is reached in

@@ -1,9 +1,7 @@
 -- What a heap may become by events, one after another.
-use Rattle.std.specs.Prelude.{◌≡◌, IsTrue, ℕ, List, ◌++◌, map, Ok}
+use Rattle.std.specs.Prelude.{◌≡◌, ◌≤◌, IsTrue, ℕ, List, ◌++◌, map}
 use Rattle.std.specs.List.{AllByRecursion}
 use Rattle.disk_model.specs.declared.disk.Disk.{Ghosts}
-use Rattle.disk_model.specs.Disk.{HasCause}
-use Rattle.disk_model.specs.Keeps.{KeepsDisk}
 use Rattle.graph_model.specs.declared.event.Event.{Event}
 use Rattle.graph_model.specs.declared.reply.Entry.{Entry}
 use Rattle.graph_model.specs.declared.reply.Reply.{Reply}
@@ -11,7 +9,7 @@ use Rattle.graph_model.specs.declared.reply.Reply.TheVariants.{Durable}
 use Rattle.graph_model.specs.History.{IsOfSession}
 use Rattle.image_plan.specs.declared.superblock.Super.{Super}
 use Rattle.heap_core.specs.declared.heap.Heap.{Heap}
-use Rattle.heap_core.specs.Causes.{reply_device}
+use Rattle.heap_core.specs.Causes.{IsCausedBy}
 use Rattle.heap_core.specs.HeapState.{heap_disk, history_of}
 use Rattle.heap_core.specs.Refinement.{IsCore, IsHeap}
 use Rattle.heap_core.specs.Steps.{HeapStep, AreSteps}
@@ -33,6 +31,15 @@ pub record Reaches (c : Core) (since : List Entry) (is_now : Core → Type 0) : 
   pub run : IsRun c (events_of since) core
   pub is : is_now core
 
+-- Calls of a heap, which may have gone on after an error, keep the disk's size and what it was made of. No count of it fell, and one that tells
+-- was not restarted.
+pub record StaysDisk {D : Type 0} (g : Ghosts D) (old new : D) : Type 0 where
+  pub extent : g.extent new ≡ g.extent old
+  pub origin : g.origin new ≡ g.origin old
+  pub faults_kept : g.faults old ≤ g.faults new
+  pub stops_kept : g.stops old ≤ g.stops new
+  pub restarts : IsTrue g.tells → g.restarts new ≡ g.restarts old
+
 module _ {D : Type 0} {g : Ghosts D} where
   -- On a disk that tells: likewise, and each step says what it left on the disk, and what a crash left at each moment of it.
   pub record ReachesOn (s : Super) (c : Core) (since : List Entry) (first now : Heap D g) : Type 0 where
@@ -42,14 +49,14 @@ module _ {D : Type 0} {g : Ghosts D} where
 
   -- an entry is `diskfault` or `stopped` only where the disk's count of that rose between these two heaps
   abbrev pub IsCaused : Heap D g → Heap D g → Entry → Type 0
-  IsCaused first now entry = HasCause (g.faults (heap_disk first)) (g.faults (heap_disk now)) (g.stops (heap_disk first)) (g.stops (heap_disk now)) (reply_device entry.reply)
+  IsCaused first now entry = IsCausedBy g (heap_disk first) (heap_disk now) entry.reply
 
   -- What a heap has become by events, one after another.
   pub record Follows (first now : Heap D g) : Type 0 where
     pub since : List Entry
     pub history : history_of now ≡ history_of first ++ since
     pub sessions : AllByRecursion IsOfSession (events_of since)
-    pub disk : KeepsDisk {T = Unit {0}} g (heap_disk first) (heap_disk now) (Ok tt)
+    pub disk : StaysDisk g (heap_disk first) (heap_disk now)
     pub causes : AllByRecursion (IsCaused first now) since
     pub core : (c : Core) → IsCore c first → IsReached c → Reaches c since (λ d. IsCore d now)
     pub holds : IsTrue g.tells → (s : Super) (c : Core) → IsHeap s c first → IsReached c → ReachesOn s c since first now

@@ -15,7 +15,7 @@ use Rattle.heap_core.specs.declared.heap.Heap.{Heap}
 use Rattle.heap_core.specs.Causes.{reply_device}
 use Rattle.heap_core.specs.HeapState.{heap_disk}
 use Rattle.heap_program.specs.Causes.{DiskRose}
-use Rattle.heap_program.proofs.Causes.{disk_rose}
+use Rattle.heap_program.proofs.Causes.{reply_rose}
 use Rattle.shared_heap.specs.Follows.{IsCaused}
 
 -- What rose behind some calls has risen since before them, if it has not fallen.
@@ -28,8 +28,8 @@ module _ {D : Type 0} {g : Ghosts D} (first now : Heap D g) where
 
   -- an entry that tells a failure has its cause, and no other is a failure
   one_caused : (a : Account) (event : Event) (reply : Reply) → IsCaused first now (record { event = event; reply = reply }) → a.failed ≡ None → ((account_after a (record { event = event; reply = reply })).failed ≡ None) ⊎ rose
-  one_caused a event (Refused DiskFault) caused unfailed = inr (disk_rose _ _ _ _ (reply_device (Refused DiskFault)) device.Failed caused refl)
-  one_caused a event (Refused Stopped) caused unfailed = inr (disk_rose _ _ _ _ (reply_device (Refused Stopped)) device.Stopped caused refl)
+  one_caused a event (Refused DiskFault) caused unfailed = inr (reply_rose g (heap_disk first) (heap_disk now) (Refused DiskFault) device.Failed caused refl)
+  one_caused a event (Refused Stopped) caused unfailed = inr (reply_rose g (heap_disk first) (heap_disk now) (Refused Stopped) device.Stopped caused refl)
   one_caused a event (Refused why) caused unfailed = inl unfailed
   one_caused a event (Begun n) caused unfailed = inl unfailed
   one_caused a event (Sealed n) caused unfailed = inl unfailed

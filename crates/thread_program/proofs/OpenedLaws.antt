@@ -25,9 +25,8 @@ use Rattle.core_laws.specs.Valid.{IsReached}
 use Rattle.core_laws.proofs.Run.Calls.{of_session_front}
 use Rattle.core_laws.proofs.Run.Ending.{ending_of_session}
 use Rattle.core_laws.proofs.Run.Events.{run_reached}
-use Rattle.disk_model.specs.Keeps.{KeepsDisk}
 use Rattle.disk_model.proofs.KeepsLaws.{rose_until}
-use Rattle.shared_heap.specs.Follows.{events_of, Reaches, ReachesOn, Follows}
+use Rattle.shared_heap.specs.Follows.{events_of, StaysDisk, Reaches, ReachesOn, Follows}
 use Rattle.heap_program.specs.Causes.{DiskRose}
 use Rattle.heap_program.proofs.Causes.{disk_rose_since}
 use Rattle.heap_program.specs.Headline.{IsEndOfPlay}
@@ -192,12 +191,12 @@ module _ {D : Type 0} {g : Ghosts D} (c : Core) (running : IsRunning c) (old mid
           )
 
     -- why the heap has failed in the end
-    pub ends_caused : (r : Result (Unit {0}) AllocError) → is_err r ≡ false → KeepsDisk {T = Unit {0}} g (heap_disk mid) (heap_disk new) (Ok tt)
+    pub ends_caused : (r : Result (Unit {0}) AllocError) → is_err r ≡ false → StaysDisk g (heap_disk mid) (heap_disk new)
         → EndsCore r (DiskRose (g.faults (heap_disk mid)) (g.stops (heap_disk mid)) (g.faults (heap_disk new)) (g.stops (heap_disk new))) → failed_at new ≢ None
         → DiskRose (g.faults (heap_disk old)) (g.stops (heap_disk old)) (g.faults (heap_disk new)) (g.stops (heap_disk new))
     ends_caused r all keeps ended failed =
-        let first = f.disk.cause in
-        let second = keeps.cause in
+        let first = f.disk in
+        let second = keeps in
         let core_failed : (account ended.core.history).failed ≢ None = λ none. failed (ended.reached.1.memory.failure ∙ none) in
         elim (is_none (account reach.core.history).failed) [
           | inl unfailed ↦ disk_rose_since _ _ _ _ _ _ first.faults_kept first.stops_kept second.faults_kept second.stops_kept (ended.cause (ok_is r all).0 unfailed core_failed)

@@ -1,6 +1,5 @@
 //! The events that end a run of workers.
-ghost use Rattle.std.specs.Prelude.{◌≡◌, IsTrue, Ok};
-ghost use Rattle.disk_model.specs.Keeps.{KeepsDisk};
+ghost use Rattle.std.specs.Prelude.{◌≡◌, IsTrue};
 ghost use Rattle.core_laws.specs.Valid.{IsReached};
 ghost use Rattle.graph_model.specs.declared.event.Event.{Event};
 ghost use Rattle.heap_core.specs.HeapState.{heap_disk};
@@ -9,6 +8,7 @@ ghost use Rattle.heap_core.specs.Steps.{HeapStep, AreSteps};
 ghost use Rattle.heap_model.specs.Core.{Core, IsRun};
 ghost use Rattle.heap_program.specs.Causes.{DiskRose};
 ghost use Rattle.image_plan.specs.declared.superblock.Super.{Super};
+ghost use Rattle.shared_heap.specs.Follows.{StaysDisk};
 ghost use Rattle.thread_program.specs.Ended.{EndsBy, is_played_out};
 
 use disk_model::Disk;
@@ -19,7 +19,7 @@ use std::alloc::{AllocError, Global};
 
 /// Makes the events that end a run, unless the disk has failed or stopped. Where it does so in one of them, the history tells.
 pub fn make_ending<D: Disk>(alloc: Global, heap: &mut Heap<D>) -> Result<(), AllocError>
-    ensures disk { KeepsDisk {T = Unit {0}} D.Disk (heap_disk heap.old) (heap_disk heap.new) (Ok tt) }
+    ensures disk { StaysDisk D.Disk (heap_disk heap.old) (heap_disk heap.new) }
     ensures core { (c : Core) → IsCore c heap.old → IsReached c
         → EndsBy c result (DiskRose (D.faults (heap_disk heap.old)) (D.stops (heap_disk heap.old)) (D.faults (heap_disk heap.new)) (D.stops (heap_disk heap.new)))
         (λ made core. IsRun c made core × IsCore core heap.new) }

@@ -1,7 +1,7 @@
-use Rattle.std.proofs.Common.{◌≡◌, ℕ, ◌+◌, ◌≤◌, List, arith, length, get_or, IsTrue, Ok, Err, rules, ◌∙◌, ap}
+use Rattle.std.proofs.Common.{◌≡◌, ℕ, ◌+◌, ◌≤◌, List, arith, length, get_or, IsTrue, Ok, Err, rules, ◌∙◌, ap, refl}
 use Rattle.std.proofs.lemmas.List.{length-replicate}
 use Rattle.disk_model.specs.Disk.{overwrite}
-use Rattle.disk_model.proofs.KeepsLaws.{keeps_ok, keeps_on}
+use Rattle.disk_model.proofs.KeepsLaws.{keeps_on}
 use Rattle.disk_model.proofs.MomentLaws.{goes_on}
 use Rattle.heap_core.proofs.Zeros.{crash_on, zero_on, outside_on, zero_at, write_more, some_writes}
 use Rattle.heap_core.proofs.Calls.{one_more, ended}
@@ -43,5 +43,5 @@ loop-at-preserved g c =
       crash = crash;
       moments = λ tells. goes_on d.moment d.left_since c.args.disk.now c.loop-at.disk c.write.new.self _ (d.may_leave c.write.new.self) (i.moments tells) (c.write.ensures.time tells) (crash tells);
       calls = λ tells. one_more _ _ _ _ _ _ (write_more c.loop-at.at c.if-left.piece c.args.end (omega arith) (omega arith)) (i.calls tells) (c.in_ok-write.ensures.passed tells);
-      disk = keeps_ok d c.args.disk.now c.write.new.self c.write.result tt (keeps_on d c.args.disk.now c.loop-at.disk c.write.new.self (Ok tt) c.write.result i.disk (record { extent = c.write.ensures.extent; origin = c.write.ensures.origin; cause = c.write.ensures.cause; restarts = c.write.ensures.restarts }));
+      disk = keeps_on d c.args.disk.now c.loop-at.disk c.write.new.self (Ok tt) tt (Ok tt) refl i.disk (record { extent = c.write.ensures.extent; origin = c.write.ensures.origin; cause = c.in_ok-write.ensures.cause; restarts = c.write.ensures.restarts });
     }

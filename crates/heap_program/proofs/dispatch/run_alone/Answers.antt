@@ -10,7 +10,8 @@ use Rattle.heap_model.proofs.Opening.Opened.{address_found}
 use Rattle.heap_program.specs.Commands.{makes, restarts_of, CanRun}
 use Rattle.heap_program.specs.Headline.{made_super}
 use Rattle.heap_program.proofs.CommandLaws.{same_play, same_load, command_not_done, graph_unread, load_unread, play_ends, unread_ends, format_told_each, format_sound, no_stop, not_made, load_made}
-use Rattle.heap_program.proofs.RefusalLaws.{alone_untouched}
+use Rattle.heap_program.specs.Refusals.{fault_calls}
+use Rattle.heap_program.proofs.RefusalLaws.{alone_untouched, command_once}
 use Rattle.heap_program.proofs.RunLaws.{runs_safely, end_done}
 use Rattle.heap_program.proofs.WordFaults.{untouched_log}
 use Rattle.heap_program.proofs.dispatch.run_alone.Goals as goal
@@ -160,3 +161,19 @@ returns-in-Load-clause-complete g c tells only which is can script no_source no_
     let same : which ≡ asked.Load c.in-Load.seed c.in-Load.count c.in-Load.fresh = cc (is, c.in-Ok.ensures.read, c.in-Load.is) in
     let able = subst (λ (x : Command). CanRun x (g.D.Disk.extent c.args.disk) (g.D.Disk.bytes c.args.disk)) same can in
     end_done _ _ c.run_load.result.0 (c.run_load.ensures.complete tells only able) c.run_load.ensures.disk_fault.cause c.run_load.ensures.write_fault.cause no_disk no_sink
+
+-- ---- an image that is damaged at an address is opened once
+
+pub returns-in-Err-clause-opens_once : goal.returns-in-Err-clause-opens_once
+returns-in-Err-clause-opens_once g c tells which is none unstopped fault = rw c.from.ensures (command_once (fault_calls fault) (g.D.Disk.passed c.args.disk) c.in-Err.e)
+
+pub returns-in-Play-clause-opens_once : goal.returns-in-Play-clause-opens_once
+returns-in-Play-clause-opens_once g c tells which is none unstopped fault =
+    let same : which ≡ asked.Play c.in-Play.fresh c.in-Play.stop = cc (is, c.in-Ok.ensures.read, c.in-Play.is) in
+    c.run_play.ensures.opens_once tells (not_made c.in-Play.fresh c.in-Play.stop (subst (λ (x : Command). makes x ≡ None) same none))
+    (no_stop c.in-Play.stop (subst (λ (x : Command). restarts_of x ≡ 0) same unstopped)) fault
+
+pub returns-in-Load-clause-opens_once : goal.returns-in-Load-clause-opens_once
+returns-in-Load-clause-opens_once g c tells which is none unstopped fault =
+    let same : which ≡ asked.Load c.in-Load.seed c.in-Load.count c.in-Load.fresh = cc (is, c.in-Ok.ensures.read, c.in-Load.is) in
+    c.run_load.ensures.opens_once tells (load_made c.in-Load.seed c.in-Load.count c.in-Load.fresh (subst (λ (x : Command). makes x ≡ None) same none)) fault

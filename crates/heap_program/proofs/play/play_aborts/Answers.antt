@@ -1,4 +1,4 @@
-use Rattle.std.proofs.Common.{◌≡◌, ℕ, ◌+◌, ◌-◌, ◌≤◌, ◌∙◌, List, Ok, Err, rules, subst, ap, arith}
+use Rattle.std.proofs.Common.{◌≡◌, ℕ, ◌+◌, ◌-◌, ◌≤◌, ◌∙◌, List, Ok, Err, rules, refl, subst, ap, arith}
 use Rattle.disk_model.proofs.KeepsLaws.{keeps_none, keeps_on}
 use Rattle.graph_model.specs.declared.event.Event.{Event}
 use Rattle.core_laws.proofs.Run.Aborting.{aborting_until, until_last}
@@ -50,7 +50,7 @@ loop-s-preserved g c =
     let s = c.loop-s.s in
     let same : s ≡ (s + 1) - 1 = omega arith in
     record {
-      disk = keeps_on g.D.Disk _ _ _ (Ok tt) (Ok tt) i.disk c.in_ok-play_abort.ensures.disk;
+      disk = keeps_on g.D.Disk _ _ _ (Ok tt) tt (Ok tt) refl i.disk c.in_ok-play_abort.ensures.disk;
       sink = omega (arith, i.sink, c.in_ok-play_abort.ensures.sink.kept);
       core = λ core is running.
           let P : ℕ → Type 0 = λ n. PlaysCore core (aborting_until n core) c.play_abort.new.heap k.tells (k.written c.args.sink.now) (k.written c.play_abort.new.sink) (Ok tt) in

@@ -1,4 +1,4 @@
-use Rattle.std.proofs.Common.{◌≡◌, List, Ok, Err, rules, subst, take, arith}
+use Rattle.std.proofs.Common.{◌≡◌, List, Ok, Err, rules, refl, subst, take, arith}
 use Rattle.std.proofs.lemmas.List.{take_all}
 use Rattle.disk_model.proofs.KeepsLaws.{keeps_none, keeps_on}
 use Rattle.heap_core.specs.HeapState.{heap_disk}
@@ -35,7 +35,7 @@ loop-line-preserved g c =
     let k = g.K.Sink in
     let i = c.loop-line.invariant in
     record {
-      disk = keeps_on g.D.Disk _ _ _ (Ok tt) (Ok tt) i.disk c.in_ok-play_line.ensures.disk;
+      disk = keeps_on g.D.Disk _ _ _ (Ok tt) tt (Ok tt) refl i.disk c.in_ok-play_line.ensures.disk;
       sink = omega (arith, i.sink, c.in_ok-play_line.ensures.sink.kept);
       core = λ core is running. core_more core c.args.lines.now c.loop-line.line-index _ c.loop-line-test.true (record { running = running; sessions = c.requires }) c.loop-line.heap c.play_line.new.heap k.tells (k.written c.args.sink.now) (k.written c.loop-line.sink) (k.written c.play_line.new.sink) (Ok tt)
           (i.core core is running) (λ d is_core is_ready. c.in_ok-play_line.ensures.core d is_core is_ready.running);

@@ -18,7 +18,7 @@ use Rattle.heap_program.proofs.Behind.{HasImages, opening_behind}
 use Rattle.heap_program.proofs.PrintRecovered.{fails_most, fails_none}
 use Rattle.heap_recovery.specs.declared.at.At.TheVariants.{Address}
 use Rattle.heap_recovery.proofs.FaultLaws.{shaped_readable}
-use Rattle.heap_program.proofs.RefusalLaws.{told_status, told_each, end_told, end_told_each, refused_by, not_opened, only_read, alone_read, fault_moments, left_moments}
+use Rattle.heap_program.proofs.RefusalLaws.{told_status, told_each, end_told, end_told_each, refused_by, not_opened, only_read, alone_read, fault_moments, left_moments, opens_once}
 use Rattle.heap_program.proofs.Statuses.{written_end, halt_end, halt_not_done, open_not_done, open_harm}
 use Rattle.heap_program.proofs.PlayPrints.{reached, prints_early, prints_whole}
 use Rattle.heap_program.proofs.Reopened.{reads_only, refused_memory}
@@ -213,3 +213,15 @@ returns-in-Ok-play_all-clause-keeps_log g c tells only fault = absurd (c.in-Ok.e
 
 pub returns-in-Err-play_all-clause-keeps_log : goal.returns-in-Err-play_all-clause-keeps_log
 returns-in-Err-play_all-clause-keeps_log g c tells only fault = absurd (c.in-Ok.ensures.damaged tells (Address fault.0) fault.1)
+
+-- it was opened once
+pub returns-in-Err-clause-opens_once : goal.returns-in-Err-clause-opens_once
+returns-in-Err-clause-opens_once g c tells fault =
+    let d = g.D.Disk in
+    rw c.from.ensures (opens_once (d.bytes c.args.disk) (d.passed c.args.disk) (d.passed c.in-Err.disk) c.in-Err.e fault (c.in-Err.ensures.refused tells) (c.in-Err.ensures.passes_readable tells))
+
+pub returns-in-Ok-play_all-clause-opens_once : goal.returns-in-Ok-play_all-clause-opens_once
+returns-in-Ok-play_all-clause-opens_once g c tells fault = absurd (c.in-Ok.ensures.damaged tells (Address fault.0) fault.1)
+
+pub returns-in-Err-play_all-clause-opens_once : goal.returns-in-Err-play_all-clause-opens_once
+returns-in-Err-play_all-clause-opens_once g c tells fault = absurd (c.in-Ok.ensures.damaged tells (Address fault.0) fault.1)

@@ -5,10 +5,11 @@ use Rattle.heap_model.specs.Ending.{all_events}
 use Rattle.script_text.specs.Line.{events}
 use Rattle.heap_program.specs.Headline.{made_super, stop_after, IsPlayed, made_core}
 use Rattle.heap_program.specs.Playable.{IsScript, IsReadFrom}
+use Rattle.heap_program.specs.Refusals.{fault_calls}
 use Rattle.heap_program.proofs.PlayOpen.{new_stored, no_calls}
 use Rattle.heap_program.proofs.PlayPrints.{prints_script}
 use Rattle.heap_program.proofs.RunLaws.{large_made, not_read, end_sound}
-use Rattle.heap_program.proofs.RefusalLaws.{input_told_each, alone_untouched}
+use Rattle.heap_program.proofs.RefusalLaws.{input_told_each, input_once, alone_untouched}
 use Rattle.heap_program.proofs.WordFaults.{untouched_log}
 use Rattle.heap_program.proofs.playing.run_play.Goals as goal
 
@@ -104,3 +105,7 @@ returns-in-Ok-format-clause-prints g c tells =
 pub returns-in-Err-clause-keeps_log : goal.returns-in-Err-clause-keeps_log
 returns-in-Err-clause-keeps_log g c tells only none fault =
     untouched_log g.D.Disk c.args.disk only (λ image since. g.met.D.Disk.only_now tells c.args.disk image since) fault
+
+-- a script that was bad or could not be read made no call
+pub returns-in-Err-clause-opens_once : goal.returns-in-Err-clause-opens_once
+returns-in-Err-clause-opens_once g c tells none unstopped fault = input_once (fault_calls fault) (g.D.Disk.passed c.args.disk) _ c.in-Err.ensures.status

@@ -10,7 +10,7 @@ use Rattle.heap_program.proofs.PlayOpen.{opened_core}
 use Rattle.heap_program.proofs.PrintRecovered.{fails_most}
 use Rattle.heap_recovery.specs.declared.at.At.TheVariants.{Address}
 use Rattle.heap_recovery.proofs.FaultLaws.{shaped_readable}
-use Rattle.heap_program.proofs.RefusalLaws.{told_status, told_each, end_told, end_told_each, refused_by, not_opened, only_read, alone_read, fault_moments, left_moments, left_outside}
+use Rattle.heap_program.proofs.RefusalLaws.{told_status, told_each, end_told, end_told_each, refused_by, not_opened, only_read, alone_read, fault_moments, left_moments, opens_once, left_outside}
 use Rattle.heap_program.proofs.Statuses.{open_end, open_not_done, written_end, wrote_all}
 use Rattle.heap_program.proofs.Written.{none_written, wrote_some}
 use Rattle.heap_program.proofs.Reopened.{reads_only, refused_memory, outside_memory}
@@ -123,3 +123,12 @@ returns-in-Err-clause-keeps_log g c tells only fault = left_moments g.D.Disk (g.
 
 pub returns-in-Ok-clause-keeps_log : goal.returns-in-Ok-clause-keeps_log
 returns-in-Ok-clause-keeps_log g c tells only fault = absurd (c.in-Ok.ensures.damaged tells (Address fault.0) fault.1)
+
+-- it was opened once
+pub returns-in-Err-clause-opens_once : goal.returns-in-Err-clause-opens_once
+returns-in-Err-clause-opens_once g c tells fault =
+    let d = g.D.Disk in
+    rw c.from.ensures (opens_once (d.bytes c.args.disk) (d.passed c.args.disk) (d.passed c.in-Err.disk) c.in-Err.e fault (c.in-Err.ensures.refused tells) (c.in-Err.ensures.passes_readable tells))
+
+pub returns-in-Ok-clause-opens_once : goal.returns-in-Ok-clause-opens_once
+returns-in-Ok-clause-opens_once g c tells fault = absurd (c.in-Ok.ensures.damaged tells (Address fault.0) fault.1)

@@ -52,7 +52,7 @@ rounds-preserved g c =
     let after = k.written c.play_lines.new.sink in (
       so_far.0 ++ round,
       parts,
-      keeps_on g.D.Disk _ _ _ (Ok tt) (Ok tt) so_far.2 c.in_ok-play_lines.ensures.disk,
+      keeps_on g.D.Disk _ _ _ (Ok tt) tt (Ok tt) refl so_far.2 c.in_ok-play_lines.ensures.disk,
       omega (arith, so_far.3, c.in_ok-play_lines.ensures.sink.kept),
       (λ core is running. core_round so_far.0 round rest all parts core (record { running = running; sessions = c.requires }) mid new k.tells before between after (Ok tt) (so_far.4 core is running)
           (λ d is_core is_ready. subst (λ (ls : List Line). PlaysCore d (events ls) new k.tells between after (Ok tt)) c.deref.ensures.value (c.in_ok-play_lines.ensures.core d is_core is_ready.running))),

@@ -1,9 +1,8 @@
 use Rattle.std.proofs.Common.{◌≡◌, List, [], ◌∷◌, ◌++◌, Ok, Err, length, length-append, refl, ap, ◌∙◌, subst, arith, rules}
 use Rattle.std.specs.Prelude.{IsTrue}
 use Rattle.disk_model.specs.Disk.{part}
-use Rattle.disk_model.proofs.KeepsLaws.{reads_none, reads_on, reads_ok}
+use Rattle.disk_model.proofs.KeepsLaws.{reads_none, reads_on}
 use Rattle.image_plan.specs.Plan.{log_offset}
-use Rattle.gated_log.specs.LogCause.{log_device_result}
 use Rattle.gated_log.specs.Reader.{reader_place, reader_room, reader_lsn}
 use Rattle.log_records.specs.declared.Record.{Record}
 use Rattle.heap_recovery.specs.declared.error.RecoverError.{RecoverError}
@@ -45,7 +44,7 @@ loop-reader-preserved g c =
         replayed = λ stored none. c.in_ok-take.ensures.on c.args.of stored so_far.on.given (omega (arith, c.lsn.ensures, lsn, so_far.on.count)) (so_far.on.replayed stored none);
       };
       store = c.take.ensures.store ∙ so_far.store;
-      disk = reads_ok g.D.Disk _ _ _ tt tt (ap log_device_result c.in_ok-record.was) (reads_on g.D.Disk _ _ _ _ tt _ refl so_far.disk on.disk);
+      disk = reads_on g.D.Disk _ _ _ _ tt _ refl so_far.disk on.disk;
     }
 
 -- A record that owns words is let go of, whichever kind it is of.
@@ -70,7 +69,7 @@ loop-reader-preserved-in_ok-take g c =
         replayed = λ stored none. c.in_ok-take.ensures.on c.args.of stored so_far.on.given (omega (arith, c.lsn.ensures, lsn, so_far.on.count)) (so_far.on.replayed stored none);
       };
       store = c.take.ensures.store ∙ so_far.store;
-      disk = reads_ok g.D.Disk _ _ _ tt tt (ap log_device_result c.in_ok-record.was) (reads_on g.D.Disk _ _ _ _ tt _ refl so_far.disk on.disk);
+      disk = reads_on g.D.Disk _ _ _ _ tt _ refl so_far.disk on.disk;
     }
 
 pub loop-reader-preserved-in_ok-take-2 : goal.loop-reader-preserved-in_ok-take-2
@@ -93,7 +92,7 @@ loop-reader-preserved-in_ok-take-2 g c =
         replayed = λ stored none. c.in_ok-take.ensures.on c.args.of stored so_far.on.given (omega (arith, c.lsn.ensures, lsn, so_far.on.count)) (so_far.on.replayed stored none);
       };
       store = c.take.ensures.store ∙ so_far.store;
-      disk = reads_ok g.D.Disk _ _ _ tt tt (ap log_device_result c.in_ok-record.was) (reads_on g.D.Disk _ _ _ _ tt _ refl so_far.disk on.disk);
+      disk = reads_on g.D.Disk _ _ _ _ tt _ refl so_far.disk on.disk;
     }
 
 pub loop-reader-preserved-in_ok-take-3 : goal.loop-reader-preserved-in_ok-take-3
@@ -116,7 +115,7 @@ loop-reader-preserved-in_ok-take-3 g c =
         replayed = λ stored none. c.in_ok-take.ensures.on c.args.of stored so_far.on.given (omega (arith, c.lsn.ensures, lsn, so_far.on.count)) (so_far.on.replayed stored none);
       };
       store = c.take.ensures.store ∙ so_far.store;
-      disk = reads_ok g.D.Disk _ _ _ tt tt (ap log_device_result c.in_ok-record.was) (reads_on g.D.Disk _ _ _ _ tt _ refl so_far.disk on.disk);
+      disk = reads_on g.D.Disk _ _ _ _ tt _ refl so_far.disk on.disk;
     }
 
 pub loop-reader-preserved-in_ok-take-4 : goal.loop-reader-preserved-in_ok-take-4
@@ -139,7 +138,7 @@ loop-reader-preserved-in_ok-take-4 g c =
         replayed = λ stored none. c.in_ok-take.ensures.on c.args.of stored so_far.on.given (omega (arith, c.lsn.ensures, lsn, so_far.on.count)) (so_far.on.replayed stored none);
       };
       store = c.take.ensures.store ∙ so_far.store;
-      disk = reads_ok g.D.Disk _ _ _ tt tt (ap log_device_result c.in_ok-record.was) (reads_on g.D.Disk _ _ _ _ tt _ refl so_far.disk on.disk);
+      disk = reads_on g.D.Disk _ _ _ _ tt _ refl so_far.disk on.disk;
     }
 
 pub take-requires : goal.take-requires
@@ -203,4 +202,4 @@ pub returns-in_err-take-clause-disk : goal.returns-in_err-take-clause-disk
 returns-in_err-take-clause-disk g c =
     let err : c.from_residual-in_err-take.result ≡ Err c.in_err-take.field-0.0 = search rules in
     let told : c.from_residual-in_err-take.result ≡ Err NoMemory = err ∙ ap (λ (e : RecoverError). Err e) c.in_err-take.ensures.error in
-    rw told (reads_ok g.D.Disk _ _ _ tt tt (ap log_device_result c.in_ok-record.was) (reads_on g.D.Disk _ _ _ _ tt _ refl c.loop-reader.invariant.disk c.in_ok-record.ensures.disk))
+    rw told (reads_on g.D.Disk _ _ _ _ tt _ refl c.loop-reader.invariant.disk c.in_ok-record.ensures.disk)

@@ -156,7 +156,7 @@ loop-turn-preserved g c =
           let heap = b.answer.new.heap in
           let after = k.written b.answer.new.sink in
           rw (b.heap-is, b.sink-is) (record {
-            disk = keeps_on g.D.Disk _ _ _ (Ok tt) (Ok tt) l.invariant.disk b.in_ok-answer-in-Line-2.ensures.disk;
+            disk = keeps_on g.D.Disk _ _ _ (Ok tt) tt (Ok tt) refl l.invariant.disk b.in_ok-answer-in-Line-2.ensures.disk;
             source = omega (arith, l.invariant.source, c.next.ensures.kept);
             sink = omega (arith, l.invariant.sink, b.in_ok-answer-in-Line-2.ensures.sink.kept);
             few = omega (arith, l.invariant.few);

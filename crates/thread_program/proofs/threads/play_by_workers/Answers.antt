@@ -9,7 +9,7 @@ use Rattle.heap_program.proofs.Causes.{disk_rose_since}
 use Rattle.heap_program.proofs.Counts.{counted_mono}
 use Rattle.heap_program.proofs.PlayOpen.{stored_running, stored_keeps, stored_moments, stored_super, opened_core}
 use Rattle.heap_program.proofs.PrintRecovered.{fails_most, fails_none, no_rollback}
-use Rattle.heap_program.proofs.RefusalLaws.{told_status, told_each, end_told, end_told_each, refused_by, not_opened, only_read, alone_read, fault_moments, left_moments}
+use Rattle.heap_program.proofs.RefusalLaws.{told_status, told_each, end_told, end_told_each, refused_by, not_opened, only_read, alone_read, fault_moments, left_moments, opens_once}
 use Rattle.heap_program.proofs.Reopened.{reads_only, refused_memory}
 use Rattle.heap_program.proofs.RunLaws.{end_sound}
 use Rattle.heap_program.proofs.Statuses.{open_not_done, open_harm}
@@ -76,7 +76,7 @@ returns-in-Ok-clause-prints g c =
     let some = opened_core d.tells (d.bytes c.args.disk) c.in-Ok.heap c.in-Ok.ensures.opens c.in-Ok.ensures.sound in
     let told = c.play_opened-status.ensures.core some.0 some.2 some.1.running some.1.nothing in
     let opening = c.in-Ok.ensures.disk.cause in
-    let played = c.play_opened-status.ensures.disk.cause in
+    let played = c.play_opened-status.ensures.disk in
     inr (record {
       first = some.0;
       opened = some.1.opened;
@@ -98,9 +98,9 @@ returns-in-Ok-clause-disk g c =
     rw c.close.ensures (record {
       extent = plays.extent ∙ opens.extent;
       origin = plays.origin ∙ opens.origin;
-      kept = omega (arith, opens.cause.faults_kept, opens.cause.stops_kept, plays.cause.faults_kept, plays.cause.stops_kept);
+      kept = omega (arith, opens.cause.faults_kept, opens.cause.stops_kept, plays.faults_kept, plays.stops_kept);
       cause = λ is. elim (c.play_opened-status.ensures.caused some.0 some.2 some.1.running (c.play_opened-status.ensures.failed is)) [
-        | inl rose ↦ disk_rose_since _ _ _ _ _ _ opens.cause.faults_kept opens.cause.stops_kept plays.cause.faults_kept plays.cause.stops_kept rose
+        | inl rose ↦ disk_rose_since _ _ _ _ _ _ opens.cause.faults_kept opens.cause.stops_kept plays.faults_kept plays.stops_kept rose
         | inr memory ↦ absurd (let same = sym memory.0 ∙ is in cc)
       ];
     })
@@ -154,3 +154,12 @@ returns-in-Err-clause-keeps_log g c tells only fault = left_moments g.D.Disk (g.
 
 pub returns-in-Ok-clause-keeps_log : goal.returns-in-Ok-clause-keeps_log
 returns-in-Ok-clause-keeps_log g c tells only fault = absurd (c.in-Ok.ensures.damaged tells (Address fault.0) fault.1)
+
+-- it was opened once
+pub returns-in-Err-clause-opens_once : goal.returns-in-Err-clause-opens_once
+returns-in-Err-clause-opens_once g c tells fault =
+    let d = g.D.Disk in
+    rw c.from.ensures (opens_once (d.bytes c.args.disk) (d.passed c.args.disk) (d.passed c.in-Err.disk) c.in-Err.e fault (c.in-Err.ensures.refused tells) (c.in-Err.ensures.passes_readable tells))
+
+pub returns-in-Ok-clause-opens_once : goal.returns-in-Ok-clause-opens_once
+returns-in-Ok-clause-opens_once g c tells fault = absurd (c.in-Ok.ensures.damaged tells (Address fault.0) fault.1)

@@ -2,10 +2,11 @@ use Rattle.std.proofs.Common.{◌≡◌, inl, inr, ℕ, List, Some, None, Ok, sy
 use Rattle.script_text.specs.declared.line.Line.{Line}
 use Rattle.heap_program.specs.Headline.{made_super, made_core}
 use Rattle.heap_program.specs.Playable.{IsScript, IsReadFrom}
+use Rattle.heap_program.specs.Refusals.{fault_calls}
 use Rattle.heap_program.proofs.CoreSteps.{script_is}
 use Rattle.heap_program.proofs.PlayOpen.{new_stored, no_calls}
 use Rattle.heap_program.proofs.RunLaws.{large_made, end_sound}
-use Rattle.heap_program.proofs.RefusalLaws.{input_told_each, alone_untouched}
+use Rattle.heap_program.proofs.RefusalLaws.{input_told_each, input_once, alone_untouched}
 use Rattle.heap_program.proofs.WordFaults.{untouched_log}
 use Rattle.thread_program.specs.Together.{IsPlayedTogether}
 use Rattle.thread_program.proofs.SafeLaws.{not_read}
@@ -114,3 +115,7 @@ returns-clause-headline g c tells only =
     let e = c.in-Err-format.ensures in
     rw c.in-Some.is (inl (not_formatted g.D.Disk c.in-Some.pages c.args.disk c.in-Err-format.disk c.in-Err-format.e c.from.result g.K.Sink.tells (g.K.Sink.written c.args.sink.now) c.from.ensures tells e.disk
     (λ less. parts _ _ (e.small less)) e.large (e.passes tells) (e.moments tells only) (e.moments_outside tells only)))
+
+-- a script that was bad or could not be read made no call
+pub returns-in-Err-clause-opens_once : goal.returns-in-Err-clause-opens_once
+returns-in-Err-clause-opens_once g c tells none fault = input_once (fault_calls fault) (g.D.Disk.passed c.args.disk) _ c.in-Err.ensures.status

@@ -1,13 +1,12 @@
 use Rattle.std.proofs.Common.{◌≡◌, ◌^◌, ◌<◌, List, [], Ok, Err, length, drop, refl, ap, sym, ◌∙◌, subst, arith, rules, length-take}
 use Rattle.std.specs.Prelude.{IsTrue}
 use Rattle.disk_model.specs.Disk.{part}
-use Rattle.disk_model.proofs.KeepsLaws.{reads_none, reads_on, reads_ok}
+use Rattle.disk_model.proofs.KeepsLaws.{reads_none, reads_on}
 use Rattle.std.specs.List.{AllByRecursion}
 use Rattle.log_records.specs.declared.Record.{Record}
 use Rattle.log_records.specs.Record.{IsRecord}
 use Rattle.gated_log.specs.declared.reading.LogError.TheVariants.{BadBatch}
 use Rattle.gated_log.specs.Log.{records_of}
-use Rattle.gated_log.specs.LogCause.{log_device_result}
 use Rattle.gated_log.proofs.LogLaws.{holds_once, holds_or_breaks}
 use Rattle.gated_log.specs.LogState.{Keeps}
 use Rattle.gated_log.specs.Reader.{HasGiven}
@@ -31,7 +30,7 @@ loop-records-preserved g c =
       good = rw c.in_ok-push.ensures.items (good_push _ _ so_far.good good);
       few = omega (arith, c.in_ok-push.ensures.len, so_far.few, lsn);
       given = subst (λ (l : List Record). HasGiven g.D.Disk.tells log c.next.new.self l) (sym c.in_ok-push.ensures.items) given;
-      disk = reads_ok g.D.Disk _ _ _ tt tt (ap log_device_result c.in_ok-record.was) (reads_on g.D.Disk _ _ _ _ tt _ refl so_far.disk on.disk);
+      disk = reads_on g.D.Disk _ _ _ _ tt _ refl so_far.disk on.disk;
     }
 
 pub loop-records-init : goal.loop-records-init

@@ -1,11 +1,10 @@
 use Rattle.std.proofs.Common.{◌≡◌, List, ◌++◌, Err, refl, ap, sym, ◌∙◌, subst, arith, rules}
 use Rattle.std.specs.Prelude.{IsTrue}
 use Rattle.disk_model.specs.Disk.{part}
-use Rattle.disk_model.proofs.KeepsLaws.{reads_on, reads_ok}
+use Rattle.disk_model.proofs.KeepsLaws.{reads_on}
 use Rattle.log_records.specs.declared.Record.{Record}
 use Rattle.gated_log.specs.declared.reading.LogError.TheVariants.{BadBatch}
 use Rattle.gated_log.specs.Log.{records_of}
-use Rattle.gated_log.specs.LogCause.{log_device_result}
 use Rattle.gated_log.specs.Reader.{HasRead}
 use Rattle.gated_log.proofs.Reader.{log_still, HasPassed, begun_on, given_of, given_on, all_given}
 use Rattle.gated_log.proofs.reading.LogReader.next.Goals as goal
@@ -27,7 +26,7 @@ loop-self-preserved g c =
           let here : IsTrue g.D.Disk.tells → log ≡ part (g.D.Disk.bytes c.loop-self.disk) self.at self.room = λ told. log_still log (g.D.Disk.bytes c.args.disk.now) (g.D.Disk.bytes c.loop-self.disk) c.args.self.now.at c.args.self.now.room self.at self.room (is told) (so_far.disk.contents told).bytes so_far.place so_far.same_room in
           let read' = subst (λ (l : List Record). HasRead g.D.Disk.tells log self passed.passed l) gate.none passed.read in
           subst (λ (l : List Record). HasPassed g.D.Disk.tells log new batches l) (sym gate.none) (begun_on g.D.Disk.tells log new batches passed.passed passed.same (on.begun log passed.passed here read' (rw c.if-not-branch.false refl)));
-      disk = reads_ok g.D.Disk _ _ _ tt tt (ap log_device_result c.in_ok-begin_batch.was) (reads_on g.D.Disk _ _ _ _ tt _ refl so_far.disk on.disk);
+      disk = reads_on g.D.Disk _ _ _ _ tt _ refl so_far.disk on.disk;
     }
 
 pub returns-in_err-begin_batch-clause-bad : goal.returns-in_err-begin_batch-clause-bad
