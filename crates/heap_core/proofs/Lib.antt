@@ -10,5 +10,6 @@ mod Undamaged
 mod Zeros
 pub mod Collects
 pub mod CrashLaws
+pub mod Ends
 pub mod RefinementLeft
 pub mod StepsLaws
