@@ -79,7 +79,7 @@ fn graph_size(graph: &str) -> Copied {
 }
 
 /// A drawn script, whose transactions are left active, in each second one with a reference taken away, and behind it one whole collection.
-fn collected_script(alloc: Global, seed: u64) -> Result<String, AllocError> {
+pub fn collected_script(alloc: Global, seed: u64) -> Result<String, AllocError> {
     let mut script = draw_script(alloc, seed, 160)?;
     if seed % 2 == 0 {
         script.push_str(CLEARED)?;

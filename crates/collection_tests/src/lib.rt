@@ -3,6 +3,8 @@
 #![tactic(auto)]
 
 #[cfg(test)]
+mod copied_tests;
+#[cfg(test)]
 mod drawn_tests;
 #[cfg(test)]
 mod exact_tests;

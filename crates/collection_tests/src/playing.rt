@@ -85,10 +85,20 @@ pub fn play_on(
     Ok((Played { status, output }, disk))
 }
 
+/// Plays a script by a command on a new disk, and gives the disk too.
+pub fn play_new(
+    alloc: Global,
+    line: &str,
+    script: &str,
+    pick: Pick,
+) -> Result<(Played, MemoryDisk), AllocError> {
+    let zeros = vec![in alloc; 0u8; HEAP_BYTES]?;
+    play_on(alloc, line, script, disk_of(alloc, zeros, pick)?)
+}
+
 /// Plays a script by a command on a new disk.
 pub fn play(alloc: Global, line: &str, script: &str, pick: Pick) -> Result<Played, AllocError> {
-    let zeros = vec![in alloc; 0u8; HEAP_BYTES]?;
-    Ok(play_on(alloc, line, script, disk_of(alloc, zeros, pick)?)?.0)
+    Ok(play_new(alloc, line, script, pick)?.0)
 }
 
 /// Compares what was found. The tests call it, since the proof of an assertion of their own would take each of them longer.

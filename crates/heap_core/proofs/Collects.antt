@@ -1,4 +1,4 @@
--- What a step answers a scan is true of the collection that is under way.
+-- What a step answers an event is true of the collection that is under way.
 use Rattle.std.proofs.Common.{◌≡◌, ◌≤◌, ℕ, List, [], ◌∷◌, ◌++◌, length, drop, Option, None, Some, ⊎_elim, inl, inr, refl, sym, ap, ◌∙◌, subst, arith, append_assoc}
 use Rattle.std.specs.List.{AllByRecursion}
 use Rattle.std.proofs.Math.Seq.{drop-append_seam}
@@ -26,24 +26,24 @@ use Rattle.limit_laws.proofs.Copies.Exact.{exact_law}
 use Rattle.limit_laws.proofs.Copies.Garbage.{no_garbage_law}
 use Rattle.limit_laws.proofs.Events.Appended.{all_done}
 use Rattle.limit_laws.proofs.Runs.{run_entries, run_history, since_run}
-use Rattle.heap_core.specs.Collects.{CollectsAsTold}
+use Rattle.heap_core.specs.Collects.{CollectsAsTold, ScansAsTold}
 
--- What a scan appends.
+-- What an event appends.
 
-abbrev appended_by : (d : Core) → Option Refusal → List Record
-appended_by d o = drop (length (all_records d)) (all_records (after_refusal o d Scan))
+abbrev added : (d : Core) → Event → Option Refusal → List Record
+added d event o = drop (length (all_records d)) (all_records (after_refusal o d event))
 
 -- one that is granted appends its records
-appended_granted : (d : Core) → appended_by d None ≡ event_records d Scan
-appended_granted d = ap (drop (length (all_records d))) (all_done d Scan) ∙ drop-append_seam (all_records d) (event_records d Scan)
+added_granted : (d : Core) (event : Event) → added d event None ≡ event_records d event
+added_granted d event = ap (drop (length (all_records d))) (all_done d event) ∙ drop-append_seam (all_records d) (event_records d event)
 
--- and one that is refused none
-appended_refused : (d : Core) (why : Refusal) → appended_by d (Some why) ≡ []
-appended_refused d why = drop_all (length (all_records d)) (all_records d) (omega arith)
+-- and one that is refused or cut short none
+pub none_added : (d : Core) → drop (length (all_records d)) (all_records d) ≡ []
+none_added d = drop_all (length (all_records d)) (all_records d) (omega arith)
 
-few_of : (d : Core) (o : Option Refusal) → length (copied_in (event_records d Scan)) ≤ 576 → length (copied_in (appended_by d o)) ≤ 576
-few_of d None most = subst (λ (l : List Record). length (copied_in l) ≤ 576) (sym (appended_granted d)) most
-few_of d (Some why) most = subst (λ (l : List Record). length (copied_in l) ≤ 576) (sym (appended_refused d why)) (omega arith)
+few_of : (d : Core) (event : Event) (o : Option Refusal) → length (copied_in (event_records d event)) ≤ 576 → length (copied_in (added d event o)) ≤ 576
+few_of d event None most = subst (λ (l : List Record). length (copied_in l) ≤ 576) (sym (added_granted d event)) most
+few_of d event (Some why) most = subst (λ (l : List Record). length (copied_in l) ≤ 576) (sym (none_added d)) (omega arith)
 
 -- What it is answered.
 
@@ -60,9 +60,9 @@ told_by None records page objects words is = absurd (cc is)
 told_by (Some s) records page objects words is = told_in s records s.collection (next_page s.collection) page objects words is
 
 -- an answer that tells what was copied is that of a scan that was granted
-told_of : (d : Core) (o : Option Refusal) (page objects words : ℕ) → reply_of o (granted_by d Scan) ≡ reply.Scanned page objects words → AreTold objects words (appended_by d o)
+told_of : (d : Core) (o : Option Refusal) (page objects words : ℕ) → reply_of o (granted_by d Scan) ≡ reply.Scanned page objects words → AreTold objects words (added d Scan o)
 told_of d None page objects words is =
-    subst (AreTold objects words) (sym (appended_granted d)) (told_by (ground d).state (own_records d Scan) page objects words is)
+    subst (AreTold objects words) (sym (added_granted d Scan)) (told_by (ground d).state (own_records d Scan) page objects words is)
 told_of d (Some why) page objects words is = absurd (cc is)
 
 begins_in : (s : State) (records : List Record) (o : Option Collection) (next : Option ℕ) → BeginsNone (scan_reply_in s records o next)
@@ -106,9 +106,8 @@ answered_end : (d next : Core) (answered : Reply) (used : ℕ) → IsStep d Scan
 answered_end d next answered used (inl step) is = sym step.0 ∙ is
 answered_end d next answered used (inr (cut, rest)) is = ⊎_elim (λ told. absurd (cc (told, is))) (λ told. absurd (cc (told, is))) cut.told
 
-told_of_scan : (d next : Core) (answered : Reply) → IsReached d → IsStep d Scan answered next → CollectsAsTold d answered
+told_of_scan : (d next : Core) (answered : Reply) → IsReached d → IsStep d Scan answered next → ScansAsTold d answered
 told_of_scan d next answered reached step = record {
-  few = few_of d (core_refusal d Scan) (pause_law d Scan reached (λ same. absurd (cc same)));
   told = λ page objects words is. told_of d (core_refusal d Scan) page objects words (answered_scan d next answered page objects words step is);
   within = λ c idle way. (
     no_garbage_law idle.first c d idle.events way.events way.objects way.words idle.reached idle.idle idle.sessions idle.run way.flipped way.sessions way.run way.alone,
@@ -118,6 +117,9 @@ told_of_scan d next answered reached step = record {
   exact = λ c used idle way is. exact_law idle.first c d idle.events way.events way.objects way.words used idle.reached idle.idle idle.sessions idle.run way.flipped way.sessions way.run way.alone (answered_end d next answered used step is);
 }
 
--- the same of a step whose event is a scan
-pub collects_as_told : (d next : Core) (event : Event) (answered : Reply) → IsReached d → event ≡ Scan → IsStep d event answered next → CollectsAsTold d answered
-collects_as_told d next event answered reached scan step = told_of_scan d next answered reached (subst (λ (e : Event). IsStep d e answered next) scan step)
+-- what a step answers tells of the collection
+pub collects_as_told : (d next : Core) (event : Event) (answered : Reply) → IsReached d → IsStep d event answered next → CollectsAsTold d event answered
+collects_as_told d next event answered reached step = record {
+  few = λ other. few_of d event (core_refusal d event) (pause_law d event reached other);
+  scan = λ scan. told_of_scan d next answered reached (subst (λ (e : Event). IsStep d e answered next) scan step);
+}

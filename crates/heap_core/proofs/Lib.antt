@@ -11,5 +11,6 @@ mod Zeros
 pub mod CausesLaws
 pub mod Collects
 pub mod CrashLaws
+pub mod Ends
 pub mod RefinementLeft
 pub mod StepsLaws

@@ -1,5 +1,5 @@
--- What the answer to a scan says of the collection that is under way.
-use Rattle.std.specs.Prelude.{◌≡◌, ℕ, ◌≤◌, List, length, true, is_some}
+-- What the answer to an event says of the collection that is under way.
+use Rattle.std.specs.Prelude.{◌≡◌, ◌≢◌, ℕ, ◌≤◌, List, length, true, is_some}
 use Rattle.std.specs.List.{AllByRecursion}
 use Rattle.graph_model.specs.declared.event.Event.{Event}
 use Rattle.graph_model.specs.declared.event.Event.TheVariants.{Flip, Scan}
@@ -36,19 +36,23 @@ pub record BeganIdle (c : Core) : Type 0 where
   pub sessions : AllByRecursion IsOfSession events
   pub run : IsRun first events c
 
--- the records that a scan appends
-abbrev pub scanned : Core → List Record
-scanned d = appended d (after d Scan)
+-- the records that an event appends
+abbrev pub appended_by : Core → Event → List Record
+appended_by d event = appended d (after d event)
 
 -- All that a collection that began in c has copied up to d was reached at its flip.
 abbrev pub CopiesNoGarbage : Core → Core → Type 0
 CopiesNoGarbage c d = (id : Id) → is_some (address_of (copied_since c d) id) ≡ true → Reached (sealed_graph c) id
 
--- A scan of d is answered so. It copied at most 576 objects, and the answer tells how many, and of how many words. What a collection that began since the
--- opening has copied, before this scan and with it, was reached at its flip from the root, in the graph that the sealed transactions had left then,
--- whichever were active; and where the scan ends it, just that has been copied, and all that is in use is the copies and what became stable since.
-pub record CollectsAsTold (d : Core) (answered : Reply) : Type 0 where
-  pub few : length (copied_in (scanned d)) ≤ 576
-  pub told : (page objects words : ℕ) → answered ≡ reply.Scanned page objects words → (objects ≡ length (copied_in (scanned d))) × (words ≡ words_copied (scanned d))
+-- A scan of d is answered so. The answer tells how many objects it copied, and of how many words. What a collection that began since the opening has
+-- copied, before this scan and with it, was reached at its flip from the root, in the graph that the sealed transactions had left then, whichever were
+-- active; and where the scan ends it, just that has been copied, and all that is in use is the copies and what became stable since.
+pub record ScansAsTold (d : Core) (answered : Reply) : Type 0 where
+  pub told : (page objects words : ℕ) → answered ≡ reply.Scanned page objects words → (objects ≡ length (copied_in (appended_by d Scan))) × (words ≡ words_copied (appended_by d Scan))
   pub within : (c : Core) → BeganIdle c → IsUnderWay c d → CopiesNoGarbage c d × CopiesNoGarbage c (after d Scan)
   pub exact : (c : Core) (used : ℕ) → BeganIdle c → IsUnderWay c d → answered ≡ reply.Collected used → CopiesJust c d used
+
+-- An event of d is answered so. Each but a flip copied at most 576 objects, with the scan that comes before a field is read or written.
+pub record CollectsAsTold (d : Core) (event : Event) (answered : Reply) : Type 0 where
+  pub few : event ≢ Flip → length (copied_in (appended_by d event)) ≤ 576
+  pub scan : event ≡ Scan → ScansAsTold d answered

@@ -1,13 +1,16 @@
--- The events that take no memory: when none is left, transactions can still be ended, and what was sealed can be forced.
-use Rattle.std.specs.Prelude.{◌≡◌, ℕ, ◌+◌, ◌*◌, ◌<◌, nat_lt, List, [], ◌∷◌, length, Some, IsSome, if◌then◌else◌}
+-- The ends of transactions: when no memory is left, transactions can still be ended, and what was sealed can be forced; and they never lack room.
+use Rattle.std.specs.Prelude.{◌≡◌, ◌⊎◌, ℕ, ◌+◌, ◌*◌, ◌<◌, nat_lt, List, [], ◌∷◌, length, Some, IsSome, if◌then◌else◌}
 use Rattle.graph_model.specs.declared.event.Event.{Event}
 use Rattle.graph_model.specs.declared.event.Event.TheVariants.{Seal, Abort, Force}
 use Rattle.graph_model.specs.declared.reply.Entry.{Entry}
+use Rattle.graph_model.specs.declared.reply.Reply.{Reply}
 use Rattle.graph_model.specs.History.{account, acknowledged, sealed}
+use Rattle.graph_model.specs.Plain.{refusal_of, reply_of}
 use Rattle.graph_model.specs.Transaction.{Transaction}
 use Rattle.log_records.specs.declared.Record.TheVariants.{Commit}
 use Rattle.heap_memory.specs.Memory.{Memory, own}
-use Rattle.heap_model.specs.Core.{Core, event_records}
+use Rattle.heap_model.specs.Core.{Core, IsCutShort, event_records, granted_by}
+use Rattle.limit_laws.specs.Room.{nothing_to_end}
 use Rattle.heap_engine.specs.Ending.{SealsAlone}
 use Rattle.heap_engine.specs.Reserve.{active_count}
 
@@ -34,3 +37,8 @@ kept_entries active acked sealed = 2 * active + (if nat_lt acked sealed then 1 e
 -- those of an engine behind a history
 abbrev pub entries_kept : Memory → List Entry → ℕ
 entries_kept m history = kept_entries (active_count m.table) (acknowledged history) m.sealed
+
+-- An end is answered as one that is done, unless the disk failed before, or the session has no transaction: never for want of room. A force may be
+-- cut short by the disk.
+abbrev pub EndsAsTold : Core → Event → Reply → Type 0
+EndsAsTold c event answered = (answered ≡ reply_of (refusal_of (account c.history).failed (nothing_to_end c event)) (granted_by c event)) ⊎ IsCutShort c event answered

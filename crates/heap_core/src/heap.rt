@@ -20,7 +20,8 @@ ghost use Rattle.graph_model.specs.declared.id.Id.{Id};
 ghost use Rattle.graph_words.specs.Places.{Places};
 ghost use Rattle.object_layout.specs.Layout.{IsSeenAs};
 ghost use Rattle.heap_model.specs.Opening.{opened, rolled_back, rollback_of, opening_calls, IsFound, IsLeftByOpening};
-ghost use Rattle.heap_core.specs.Ending.{TakesNoMemory, IsReady, entries_kept};
+ghost use Rattle.heap_core.specs.Ending.{EndsAsTold, TakesNoMemory, IsReady, entries_kept};
+ghost use Rattle.limit_laws.specs.Room.{IsEnd};
 ghost use Rattle.heap_core.specs.Causes.{step_device, reply_device, opened_device, IsFromOutside, OpenedPasses};
 ghost use Rattle.heap_model.specs.Core.{Core, IsStep, calls, is_dirty};
 ghost use Rattle.page_store.specs.Gates.{open_gates};
@@ -28,7 +29,6 @@ ghost use Rattle.core_laws.specs.Valid.{IsReached};
 ghost use Rattle.heap_engine.specs.EngineState.{memory, LiesWithin, HasNotFailed};
 ghost use Rattle.heap_engine.specs.Refinement.{IsLeftByStep};
 ghost use Rattle.commit_order.specs.Heard.{replies_of_commits};
-ghost use Rattle.graph_model.specs.declared.event.Event.TheVariants.{Scan};
 ghost use Rattle.heap_core.specs.Collects.{CollectsAsTold};
 ghost use Rattle.committed_words.specs.Committed.{words_of};
 ghost use Rattle.commit_order.specs.SerialOrder.{IsCommitOrdered};
@@ -235,8 +235,10 @@ impl<D: Disk> Heap<D> {
         ensures passes { IsTrue D.tells → (c : Core) → IsCore c self.old → IsReached c → IfOk result (λ reply. Passes (calls c event) (D.passed self.old.disk) (D.passed self.new.disk) (reply_device reply)) }
         // An event that makes no write or sync leaves the disk alone, and does not read it either.
         ensures still { (c : Core) → IsCore c self.old → IsReached c → calls c event ≡ 0 → self.new.disk ≡ self.old.disk }
-        // A scan copies at most 576 objects, and a collection that began since the opening just what was reached at its flip, whichever transactions were active then.
-        ensures collects { (c : Core) → IsCore c self.old → IsReached c → event ≡ Scan → IfOk result (λ reply. CollectsAsTold c reply) }
+        // Each event but a flip copies at most 576 objects, and a collection that began since the opening just what was reached at its flip, whichever transactions were active then.
+        ensures collects { (c : Core) → IsCore c self.old → IsReached c → IfOk result (λ reply. CollectsAsTold c event reply) }
+        // An abort, a force, and a seal that makes no object stable are never answered that the log or a space has no room for them.
+        ensures ends { (c : Core) → IsCore c self.old → IsReached c → IsEnd c event → IfOk result (λ reply. EndsAsTold c event reply) }
         // When memory runs out, transactions can still be ended and commits forced.
         ensures memory { (c : Core) → IsCore c self.old → IsReached c → (account c.history).failed ≡ None → TakesNoMemory c event → IsOk result }
     {

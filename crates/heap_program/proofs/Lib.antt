@@ -1,5 +1,6 @@
 pub mod Behind
 pub mod Causes
+mod Collections
 pub mod CommandLaws
 pub mod CoreSteps
 pub mod Counts

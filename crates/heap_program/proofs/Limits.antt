@@ -1,35 +1,31 @@
 -- Each run of an opened heap keeps to its limits.
-use Rattle.std.proofs.Common.{◌≡◌, ◌≢◌, ◌≤◌, inl, inr, ⊎_elim, ℕ, List, [], ◌∷◌, ◌++◌, length, drop, Option, None, Some, refl, sym, ap, ◌∙◌, subst, arith}
+use Rattle.std.proofs.Common.{◌≡◌, ◌≢◌, ◌≤◌, ⊎_elim, ℕ, List, [], ◌∷◌, ◌++◌, length, drop, refl, sym, ap, subst, arith}
 use Rattle.std.specs.List.{AllByRecursion}
-use Rattle.std.proofs.Math.Seq.{drop-append_seam}
-use Rattle.std.proofs.lemmas.List.{drop_all}
 use Rattle.graph_model.specs.declared.event.Event.{Event}
 use Rattle.graph_model.specs.declared.event.Event.TheVariants.{Flip, Scan}
 use Rattle.graph_model.specs.declared.reply.Entry.{Entry}
-use Rattle.graph_model.specs.declared.reply.Refusal.{Refusal}
 use Rattle.graph_model.specs.declared.reply.Reply.{Reply}
 use Rattle.graph_model.specs.declared.reply.Reply.TheVariants as reply
 use Rattle.graph_model.specs.History.{account, IsOfSession}
-use Rattle.graph_model.specs.Plain.{reply_of}
 use Rattle.log_records.specs.declared.Record.{Record}
 use Rattle.heap_model.specs.Collecting.{copied_in, words_copied}
-use Rattle.heap_model.specs.Core.{Core, IsRun, after_refusal, all_records, core_refusal, event_records, granted_by}
+use Rattle.heap_model.specs.Core.{Core, IsRun, all_records}
 use Rattle.heap_model.proofs.ListLaws.{AllByRecursion-behind}
-use Rattle.core_laws.proofs.Collecting.Few.{pause_law}
 use Rattle.core_laws.proofs.Run.Calls.{of_session_front}
 use Rattle.core_laws.proofs.Run.Events.{run_reached}
 use Rattle.core_laws.specs.Valid.{IsReached}
 use Rattle.limit_laws.proofs.Copies.Garbage.{no_garbage_law}
-use Rattle.limit_laws.proofs.Events.Appended.{all_done}
-use Rattle.limit_laws.proofs.LogRoom.Ends.{ends_law}
 use Rattle.limit_laws.proofs.Progress.Pages.{pages_law}
 use Rattle.limit_laws.proofs.Runs.{run_entries, run_history}
 use Rattle.limit_laws.specs.Bytes.{appended}
 use Rattle.limit_laws.specs.Copies.{IsIdle}
 use Rattle.limit_laws.specs.Room.{IsEnd}
 use Rattle.heap_core.specs.Collects.{BeganIdle, CollectsAsTold, CopiesNoGarbage, IsUnderWay}
-use Rattle.heap_core.proofs.Collects.{collects_as_told}
-use Rattle.heap_program.specs.Limits.{IsStepIn, EndsAsTold, IsUnderWayIn, KeepsLimits}
+use Rattle.heap_core.specs.Ending.{EndsAsTold}
+use Rattle.heap_core.proofs.Collects.{collects_as_told, none_added}
+use Rattle.heap_core.proofs.Ends.{ends_as_told}
+use Rattle.heap_program.specs.Limits.{IsStepIn, IsUnderWayIn, KeepsLimits, TakesFewBytes}
+use Rattle.heap_program.proofs.Collections.{few_bytes, last_scan}
 
 -- Each event of a run is a step of it, and its entry stands there in the history.
 pub each_is_a_step : (first last : Core) (before : List Event) (event : Event) (behind : List Event) → IsRun first (before ++ event ∷ behind) last
@@ -57,19 +53,9 @@ each_is_a_step first last (e ∷ before) event behind run =
       more.3,
     )
 
--- What an event appends.
-
-abbrev appended_by : (c : Core) → Event → Option Refusal → List Record
-appended_by c event o = drop (length (all_records c)) (all_records (after_refusal o c event))
-
+-- what a step that was cut short appends
 few_none : (c : Core) → length (copied_in (drop (length (all_records c)) (all_records c))) ≤ 576
-few_none c = subst (λ (l : List Record). length (copied_in l) ≤ 576) (sym (drop_all (length (all_records c)) (all_records c) (omega arith))) (omega arith)
-
-few_of : (c : Core) (event : Event) (o : Option Refusal) → length (copied_in (event_records c event)) ≤ 576 → length (copied_in (appended_by c event o)) ≤ 576
-few_of c event None most =
-    let is : appended_by c event None ≡ event_records c event = ap (drop (length (all_records c))) (all_done c event) ∙ drop-append_seam (all_records c) (event_records c event) in
-    subst (λ (l : List Record). length (copied_in l) ≤ 576) (sym is) most
-few_of c event (Some why) most = few_none c
+few_none c = subst (λ (l : List Record). length (copied_in l) ≤ 576) (sym (none_added c)) (omega arith)
 
 module _ (first : Core) (reached : IsReached first) (nothing : first.history ≡ []) (made : List Event) (sessions : AllByRecursion IsOfSession made) (last : Core) where
   idle : IsIdle first
@@ -83,27 +69,24 @@ module _ (first : Core) (reached : IsReached first) (nothing : first.history ≡
     here = run_reached first c one.before reached before one.led
 
     ends : IsEnd c event → EndsAsTold c event answered
-    ends is = ⊎_elim
-        (λ whole. inl (whole.0 ∙ ap (λ (o : Option Refusal). reply_of o (granted_by c event)) (ends_law first c one.before event reached before one.led is)))
-        (λ cut. inr cut.0)
-        one.step
+    ends is = ends_as_told c one.next event answered here is one.step
+
+    collects : CollectsAsTold c event answered
+    collects = collects_as_told c one.next event answered here one.step
 
     few : event ≢ Flip → length (copied_in (appended c one.next)) ≤ 576
     few other =
         let P : Core → Type 0 = λ x. length (copied_in (appended c x)) ≤ 576 in
         ⊎_elim
-        (λ whole. subst P (sym whole.1) (few_of c event (core_refusal c event) (pause_law c event here other)))
+        (λ whole. subst P (sym whole.1) (collects.few other))
         (λ cut. subst P (sym cut.1) (few_none c))
         one.step
-
-    collects : event ≡ Scan → CollectsAsTold c answered
-    collects scan = collects_as_told c one.next event answered here scan one.step
 
   told : (c : Core) (page objects words : ℕ) (one : IsStepIn first made last c Scan (reply.Scanned page objects words)) → (objects ≡ length (copied_in (appended c one.next))) × (words ≡ words_copied (appended c one.next))
   told c page objects words one =
       let P : Core → Type 0 = λ x. (objects ≡ length (copied_in (appended c x))) × (words ≡ words_copied (appended c x)) in
       ⊎_elim
-      (λ whole. subst P (sym whole.1) ((collects c Scan (reply.Scanned page objects words) one refl).told page objects words refl))
+      (λ whole. subst P (sym whole.1) (((collects c Scan (reply.Scanned page objects words) one).scan refl).told page objects words refl))
       (λ cut. ⊎_elim (λ is. absurd (cc is)) (λ is. absurd (cc is)) cut.0.told)
       one.step
 
@@ -135,6 +118,9 @@ module _ (first : Core) (reached : IsReached first) (nothing : first.history ≡
     within : CopiesNoGarbage c d
     within = no_garbage_law first c d way.before way.since way.objects way.words reached idle front way.led way.flipped back way.leads way.alone
 
+    bytes : TakesFewBytes c d
+    bytes = few_bytes c d way.since way.objects way.words (run_reached first c way.before reached front way.led) way.flipped back way.leads way.alone
+
   -- What is opened keeps to its limits, whichever events are made.
   pub limits_law : KeepsLimits first made last
   limits_law = record {
@@ -144,8 +130,12 @@ module _ (first : Core) (reached : IsReached first) (nothing : first.history ≡
     within = λ c d events behind parts way. within c d events (of_session_front events behind (subst (AllByRecursion IsOfSession) parts sessions)) way;
     exact = λ c d used one way.
         let own = before d Scan (reply.Collected used) one in
-        (collects d Scan (reply.Collected used) one refl).exact c used (began c d one.before own way) (under_way c d one.before own way) refl;
+        ((collects d Scan (reply.Collected used) one).scan refl).exact c used (began c d one.before own way) (under_way c d one.before own way) refl;
     pages = λ c d before between behind parts led leads none.
         let both = of_session_front (before ++ between) behind (subst (AllByRecursion IsOfSession) parts sessions) in
         pages_law c d between (run_reached first c before reached (of_session_front before between both) led) (AllByRecursion-behind IsOfSession before between both) leads none;
+    ended = λ c d earlier between answered one parts led leads none collecting all.
+        let both = subst (AllByRecursion IsOfSession) parts (before d Scan answered one) in
+        last_scan c d one.next between answered (run_reached first c earlier reached (of_session_front earlier between both) led) (AllByRecursion-behind IsOfSession earlier between both) leads none collecting all one.step;
+    bytes = λ c d events behind parts way. bytes c d events (of_session_front events behind (subst (AllByRecursion IsOfSession) parts sessions)) way;
   }

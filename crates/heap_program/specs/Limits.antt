@@ -1,6 +1,6 @@
 -- What each run of a heap that was just opened keeps to, whatever its disk: its ends never lack room, and a collection copies just what it has to, a
--- little at a time.
-use Rattle.std.specs.Prelude.{◌≡◌, ◌≢◌, ◌⊎◌, ℕ, ◌≤◌, List, ◌∷◌, ◌++◌, length}
+-- little at a time, takes few bytes of the log, and ends.
+use Rattle.std.specs.Prelude.{◌≡◌, ◌≢◌, ℕ, ◌+◌, ◌*◌, ◌≤◌, List, ◌∷◌, ◌++◌, length, sum_by}
 use Rattle.graph_model.specs.declared.event.Event.{Event}
 use Rattle.graph_model.specs.declared.event.Event.TheVariants.{Flip, Scan}
 use Rattle.graph_model.specs.declared.reply.Reply.{Reply}
@@ -8,12 +8,14 @@ use Rattle.graph_model.specs.declared.reply.Reply.TheVariants as reply
 use Rattle.graph_model.specs.History.{account}
 use Rattle.graph_model.specs.Plain.{refusal_of, reply_of}
 use Rattle.heap_model.specs.Collecting.{copied_in, words_copied}
-use Rattle.heap_model.specs.Core.{Core, IsCutShort, IsStep, IsRun, after, answer, granted_by}
-use Rattle.limit_laws.specs.Bytes.{appended}
+use Rattle.heap_model.specs.Core.{Core, IsStep, IsRun, after, answer, log_refusal}
+use Rattle.core_laws.specs.Unseen.{since}
+use Rattle.limit_laws.specs.Bytes.{appended, bytes_of, led_by, moved_by_record}
 use Rattle.limit_laws.specs.Copies.{CopiesJust}
-use Rattle.limit_laws.specs.Progress.{BeganNone, GoesThrough}
-use Rattle.limit_laws.specs.Room.{IsEnd, nothing_to_end}
+use Rattle.limit_laws.specs.Progress.{BeganNone, GoesThrough, IsCollecting, scanned_pages}
+use Rattle.limit_laws.specs.Room.{IsEnd}
 use Rattle.heap_core.specs.Collects.{CopiesNoGarbage}
+use Rattle.heap_core.specs.Ending.{EndsAsTold}
 
 -- A step of a run: the events before it led to c, there the next one was answered so, and those behind it led on to the last core.
 pub record IsStepIn (first : Core) (made : List Event) (last c : Core) (event : Event) (answered : Reply) : Type 0 where
@@ -24,11 +26,6 @@ pub record IsStepIn (first : Core) (made : List Event) (last c : Core) (event : 
   pub next : Core
   pub step : IsStep c event answered next
   pub leads : IsRun next behind last
-
--- An end is answered as one that is done, unless the disk failed before, or the session has no transaction: never for want of room. A force may be
--- cut short by the disk.
-abbrev pub EndsAsTold : Core → Event → Reply → Type 0
-EndsAsTold c event answered = (answered ≡ reply_of (refusal_of (account c.history).failed (nothing_to_end c event)) (granted_by c event)) ⊎ IsCutShort c event answered
 
 -- In a run of these events a collection began in c, and those behind its flip led to d, with no other begun.
 pub record IsUnderWayIn (first : Core) (events : List Event) (c d : Core) : Type 0 where
@@ -41,6 +38,15 @@ pub record IsUnderWayIn (first : Core) (events : List Event) (c d : Core) : Type
   pub flipped : answer c Flip ≡ reply.Flipped objects words
   pub leads : IsRun (after c Flip) since d
   pub alone : BeganNone (after c Flip) d
+
+-- What is appended from c to d takes at most 16 bytes for each word that a collection copies, 12 for each reference that a scan leads to the current
+-- space, and 6 to begin and to end. The records of transactions, and the gates and lengths of batches, are not counted.
+abbrev pub TakesFewBytes : Core → Core → Type 0
+TakesFewBytes c d = sum_by bytes_of (appended c d) ≤ 16 * sum_by moved_by_record (appended c d) + 12 * sum_by led_by (appended c d) + 6
+
+-- A scan of d is answered as one that ends a collection, unless the disk failed before, or the log has no room for the end.
+abbrev pub EndsCollection : Core → Reply → Type 0
+EndsCollection d answered = (used : ℕ) × (answered ≡ reply_of (refusal_of (account d.history).failed (log_refusal d Scan)) (reply.Collected used))
 
 -- Events led from a core that was just opened to the last one, and each step of that run kept to this.
 pub record KeepsLimits (first : Core) (made : List Event) (last : Core) : Type 0 where
@@ -55,3 +61,8 @@ pub record KeepsLimits (first : Core) (made : List Event) (last : Core) : Type 0
   pub exact : (c d : Core) (used : ℕ) → (here : IsStepIn first made last d Scan (reply.Collected used)) → IsUnderWayIn first here.before c d → CopiesJust c d used
   -- while no collection begins, scans go once through the pages
   pub pages : (c d : Core) (before between behind : List Event) → made ≡ before ++ between ++ behind → IsRun first before c → IsRun c between d → BeganNone c d → GoesThrough c d
+  -- and where one runs when as many scans went over a page as a space has pages, the next scan ends it
+  pub ended : (c d : Core) (before between : List Event) (answered : Reply) → (here : IsStepIn first made last d Scan answered) → here.before ≡ before ++ between → IsRun first before c → IsRun c between d
+      → BeganNone c d → IsCollecting d → c.pages ≤ length (scanned_pages (since c d)) → EndsCollection d answered
+  -- from its flip until another begins, a collection takes few bytes of the log
+  pub bytes : (c d : Core) (events behind : List Event) → made ≡ events ++ behind → IsUnderWayIn first events c d → TakesFewBytes c d

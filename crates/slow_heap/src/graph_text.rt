@@ -23,8 +23,8 @@ pub fn canon_text(alloc: Global, objects: &Objects) -> Result<String, AllocError
     Ok(text)
 }
 
-// The names of what is reached from the root, in the order of their numbers.
-fn numbered(alloc: Global, objects: &Objects) -> Result<Vec<Id>, AllocError>
+/// The names of what is reached from the root, in the order of their numbers. It fails only where memory is lacking.
+pub fn numbered(alloc: Global, objects: &Objects) -> Result<Vec<Id>, AllocError>
     ensures { IfOk result (λ ids. ids.items ≡ numbered (graph_of objects.now)) }
 {
     let mut ids = Vec::new(alloc);

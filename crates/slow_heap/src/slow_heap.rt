@@ -5,16 +5,16 @@ ghost use Rattle.graph_model.specs.Transaction.{IsCall, serial};
 ghost use Rattle.graph_model.specs.History.{account, account_after, sealed, IsOfSession};
 ghost use Rattle.graph_model.specs.Locking.{holder_in_the_way, busy_holder, lesser};
 ghost use Rattle.graph_model.specs.Plain.{plain_reply};
-ghost use Rattle.graph_model.specs.Canon.{canon};
+ghost use Rattle.graph_model.specs.Canon.{canon, numbered};
 ghost use Rattle.graph_model.specs.Text.{canon_text};
 ghost use Rattle.slow_heap.specs.Objects.{graph_of};
 
 use crate::active_transaction::ActiveTransaction;
-use crate::graph_text::canon_text;
+use crate::graph_text::{canon_text, numbered};
 use crate::object_lock::ObjectLock;
 use crate::objects::Objects;
 use crate::transaction_view::{TransactionView, stands_in_the_way};
-use graph_model::{Entry, Event, FIRST_SESSION, LAST_SESSION, Refusal, Reply};
+use graph_model::{Entry, Event, FIRST_SESSION, Id, LAST_SESSION, Refusal, Reply};
 use std::alloc::{AllocError, Global};
 use std::collections::BTreeMap;
 use std::marker::Model;
@@ -83,6 +83,15 @@ impl SlowHeap {
     {
         let text = canon_text(self.alloc, &self.states[k])?;
         Ok(text.into_bytes())
+    }
+
+    /// The names of the objects that are reached from the root after the first `k` sealed transactions, in the order of their numbers. It fails
+    /// only where memory is lacking.
+    pub fn reached(&self, k: usize) -> Result<Vec<Id>, AllocError>
+        requires { k ≤ length (sealed self.now) }
+        ensures { IfOk result (λ ids. ids.items ≡ numbered (serial new_graph (take k (sealed self.now)))) }
+    {
+        numbered(self.alloc, &self.states[k])
     }
 
     /// Answers an event of a session from 1 to 32, or of none, and adds it to the history. It fails only where memory is lacking, or

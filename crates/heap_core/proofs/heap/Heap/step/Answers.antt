@@ -14,6 +14,7 @@ use Rattle.heap_model.proofs.Run.Calls.{same_step}
 use Rattle.memory_laws.proofs.Kept.Log.{some_waits}
 use Rattle.heap_core.proofs.Collects.{collects_as_told}
 use Rattle.heap_core.proofs.CrashLaws.{heap_left}
+use Rattle.heap_core.proofs.Ends.{ends_as_told}
 use Rattle.heap_core.specs.HeapState.{entry_of}
 use Rattle.heap_core.proofs.StepCore.{remembers, whole_steps, cut_steps, failed_steps, with_history, whole_on, cut_on, failed_on, failed_passes}
 use Rattle.heap_engine.specs.declared.step_error.StepError.{StepError}
@@ -46,9 +47,14 @@ returns-in-Some-clause-core g c core heap reached =
     )
 
 pub returns-in-Some-clause-collects : goal.returns-in-Some-clause-collects
-returns-in-Some-clause-collects g c core heap reached scan =
+returns-in-Some-clause-collects g c core heap reached =
     let made = returns-in-Some-clause-core g c core heap reached in
-    collects_as_told core made.0 c.args.event _ reached scan made.1
+    collects_as_told core made.0 c.args.event _ reached made.1
+
+pub returns-in-Some-clause-ends : goal.returns-in-Some-clause-ends
+returns-in-Some-clause-ends g c core heap reached end =
+    let made = returns-in-Some-clause-core g c core heap reached in
+    ends_as_told core made.0 c.args.event _ reached end made.1
 
 pub returns-in-Some-clause-holds : goal.returns-in-Some-clause-holds
 returns-in-Some-clause-holds g c tells s core heap reached =
@@ -96,9 +102,14 @@ returns-in-Ok-clause-core g c core heap reached =
     )
 
 pub returns-in-Ok-clause-collects : goal.returns-in-Ok-clause-collects
-returns-in-Ok-clause-collects g c core heap reached scan =
+returns-in-Ok-clause-collects g c core heap reached =
     let made = returns-in-Ok-clause-core g c core heap reached in
-    collects_as_told core made.0 c.args.event _ reached scan made.1
+    collects_as_told core made.0 c.args.event _ reached made.1
+
+pub returns-in-Ok-clause-ends : goal.returns-in-Ok-clause-ends
+returns-in-Ok-clause-ends g c core heap reached end =
+    let made = returns-in-Ok-clause-core g c core heap reached in
+    ends_as_told core made.0 c.args.event _ reached end made.1
 
 pub returns-in-Ok-clause-holds : goal.returns-in-Ok-clause-holds
 returns-in-Ok-clause-holds g c tells s core heap reached =
@@ -185,9 +196,14 @@ returns-in-Err-Disk-clause-core g c core heap reached =
     )
 
 pub returns-in-Err-Disk-clause-collects : goal.returns-in-Err-Disk-clause-collects
-returns-in-Err-Disk-clause-collects g c core heap reached scan =
+returns-in-Err-Disk-clause-collects g c core heap reached =
     let made = returns-in-Err-Disk-clause-core g c core heap reached in
-    collects_as_told core made.0 c.args.event _ reached scan made.1
+    collects_as_told core made.0 c.args.event _ reached made.1
+
+pub returns-in-Err-Disk-clause-ends : goal.returns-in-Err-Disk-clause-ends
+returns-in-Err-Disk-clause-ends g c core heap reached end =
+    let made = returns-in-Err-Disk-clause-core g c core heap reached in
+    ends_as_told core made.0 c.args.event _ reached end made.1
 
 pub returns-in-Err-Disk-clause-holds : goal.returns-in-Err-Disk-clause-holds
 returns-in-Err-Disk-clause-holds g c tells s core heap reached =
