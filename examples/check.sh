@@ -150,6 +150,7 @@ complains basics/quick.err 2 4 --quick play --fresh 0 </dev/null
 complains basics/no_command.err 2 3 grpah </dev/null
 complains basics/no_command.err 2 3 graph --quick </dev/null
 complains basics/no_command.err 2 3 $quick play --help </dev/null
+complains basics/no_command.err 2 3 session now </dev/null
 answers
 names_itself
 made signals.out "$examples/signals.py" $quick
@@ -161,6 +162,7 @@ ends_without_memory
 printed tools/remade
 printed clients/python
 if command -v cc >/dev/null; then printed clients/c; fi
+printed library/page
 
 made basics/list.dot "$top/tools/graph_to_dot" <"$examples/basics/list.out"
 

@@ -1,6 +1,7 @@
 #define _XOPEN_SOURCE 700
 #include "stable_heap.h"
 
+#include <errno.h>
 #include <fcntl.h>
 #include <inttypes.h>
 #include <limits.h>
@@ -82,9 +83,12 @@ static sh_result status_error(sh_error *error, int status) {
     return result;
 }
 
+/* (a signal of the caller's may cut a wait short, and so a read and a write) */
 static int wait_for(pid_t child) {
     int status = 0;
-    if (waitpid(child, &status, 0) < 0) return -1;
+    while (waitpid(child, &status, 0) < 0) {
+        if (errno != EINTR) return -1;
+    }
     return WIFEXITED(status) ? WEXITSTATUS(status) : 128 + WTERMSIG(status);
 }
 
@@ -156,6 +160,7 @@ static bool send_line(sh_heap *heap, const char *line) {
     size_t length = strlen(line), sent = 0;
     while (sent < length) {
         ssize_t now = send(heap->line, line + sent, length - sent, MSG_NOSIGNAL);
+        if (now < 0 && errno == EINTR) continue;
         if (now <= 0) return false;
         sent += (size_t)now;
     }
@@ -167,6 +172,7 @@ static bool read_line(sh_heap *heap, char *line, size_t room) {
     char *newline;
     while (!(newline = memchr(heap->buffer, '\n', heap->filled))) {
         ssize_t now = read(heap->line, heap->buffer + heap->filled, sizeof heap->buffer - heap->filled);
+        if (now < 0 && errno == EINTR) continue;
         if (now <= 0) return false;
         heap->filled += (size_t)now;
     }
@@ -244,7 +250,9 @@ void sh_close(sh_heap *heap) {
     char rest[256];
     if (heap->line >= 0) {
         shutdown(heap->line, SHUT_WR);
-        while (read(heap->line, rest, sizeof rest) > 0) continue;
+        ssize_t now;
+        do now = read(heap->line, rest, sizeof rest);
+        while (now > 0 || (now < 0 && errno == EINTR));
         close(heap->line);
     }
     if (heap->child > 0) wait_for(heap->child);

@@ -19,6 +19,7 @@ the exception was caught: at its end it is aborted, and the refusal is raised ag
 Threads may share a heap: each transaction has a session of its own, of which there are 32.
 """
 
+import operator
 import pathlib
 import random
 import subprocess
@@ -129,7 +130,7 @@ class VolatileFull(Refused):
 
 
 class OutOfRange(Refused):
-    """A number that is negative or not below 2^62, or an object of more than 510 fields."""
+    """A number that is negative, one in a field that is not below 2^62, or an object of more than 510 fields."""
 
 
 class BadField(Refused):
@@ -197,9 +198,6 @@ class Object:
 
     def put(self, field: int, number: int) -> None:
         """The field is to hold the number, from 0 to 2^62 - 1."""
-        # (a sign is not of the grammar, so the heap can't be asked)
-        if number < 0:
-            self._transaction._refuse(OutOfRange(f"put {field} {number}", "range", []))
         self._transaction._do("put", self._named(), field, number)
 
     def clear(self, field: int) -> None:
@@ -330,23 +328,18 @@ class Transaction:
             raise OutOfHandles(f"transaction {self.number} holds {HANDLES} objects")
         return self._free.pop()
 
-    def _do(self, *words) -> None:
-        if self._ask(*words) != ["done"]:
-            raise Protocol(f"no answer to {words}")
+    def _do(self, what: str, *numbers: int) -> None:
+        if self._ask(what, *numbers) != ["done"]:
+            raise Protocol(f"no answer to {what} {numbers}")
 
-    def _ask(self, *words) -> List[str]:
+    def _ask(self, what: str, *numbers: int) -> List[str]:
         if self._session is None:
             raise Protocol("the transaction has ended")
         try:
-            return self._heap._ask(self._session, *words)
+            return self._heap._ask(f"{self._session} {what}", *numbers)
         except Refused as refusal:
             self._refusal = self._refusal or refusal
             raise
-
-    def _refuse(self, refusal: Refused) -> None:
-        self._refusal = self._refusal or refusal
-        raise refusal
-
 
 class Heap:
     """An open heap: a process that works on the file `heap.img` of a folder, which no other program can open meanwhile."""
@@ -460,9 +453,13 @@ class Heap:
             self._sessions.append(session)
             self._has_session.notify()
 
-    def _ask(self, *words) -> List[str]:
-        """Sends a line, and gives the words of the answer."""
-        event = " ".join(map(str, words))
+    def _ask(self, what: str, *numbers: int) -> List[str]:
+        """Sends a line, and gives the words of the answer. What is no whole number is a TypeError, and nothing is sent."""
+        wholes = [int(operator.index(number)) for number in numbers]
+        event = " ".join([what, *map(str, wholes)])
+        # (such a number is not of the grammar, so the heap can't be asked)
+        if any(not 0 <= number < 2**64 for number in wholes):
+            raise OutOfRange(event, "range", [])
         word, *numbers = self._exchange(event)
         if word in FAULTS:
             raise DiskFault(6)

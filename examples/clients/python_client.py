@@ -92,6 +92,17 @@ class Client(unittest.TestCase):
                 t.new(510)
         self.assertEqual(full.exception.numbers, (4_096,))
 
+    def test_numbers_that_no_line_can_have(self):
+        with self.assertRaises(sh.OutOfRange), self.heap.transaction() as t:
+            t.root.put(0, 2**64)
+        with self.assertRaises(sh.OutOfRange), self.heap.transaction() as t:
+            t.root.get(-1)
+        for other in (1.5, "7\n1 seal", None):
+            with self.assertRaises(TypeError), self.heap.transaction() as t:
+                t.root.put(0, other)
+        self.assertRaises(sh.OutOfRange, self.heap.flush, -1)
+        self.assertEqual(self.root_fields(), [None] * 4)
+
     def test_seal_that_is_refused_aborts(self):
         with self.assertRaises(sh.Exhausted) as full:
             with self.heap.transaction() as t:
