@@ -22,12 +22,17 @@ abbrev pub step_device : Result Reply AllocError → Result (Unit {0}) DiskError
 step_device (Ok reply) = reply_device reply
 step_device (Err e) = Ok tt
 
--- Over calls of a heap that may have gone on after an error: no count of the disk fell, and a reply told an error only where that error's count rose.
-pub record IsCausedBy {D : Type 0} (g : Ghosts D) (old new : D) (reply : Reply) : Type 0 where
-  pub faults_kept : g.faults old ≤ g.faults new
-  pub stops_kept : g.stops old ≤ g.stops new
-  pub failed : reply_device reply ≡ Err device.Failed → Rose (g.faults old) (g.faults new)
-  pub stopped : reply_device reply ≡ Err device.Stopped → Rose (g.stops old) (g.stops new)
+-- Over calls that may have gone on after an error, or answered something else behind it: neither count fell, and an error is told only where that
+-- error's count rose.
+pub record WasCaused {T : Type 0} (faults faults' stops stops' : ℕ) (result : Result T DiskError) : Type 0 where
+  pub faults_kept : faults ≤ faults'
+  pub stops_kept : stops ≤ stops'
+  pub failed : result ≡ Err device.Failed → Rose faults faults'
+  pub stopped : result ≡ Err device.Stopped → Rose stops stops'
+
+-- so is the disk's error in a reply
+abbrev pub IsCausedBy : {D : Type 0} (g : Ghosts D) → D → D → Reply → Type 0
+IsCausedBy g old new reply = WasCaused (g.faults old) (g.faults new) (g.stops old) (g.stops new) (reply_device reply)
 
 -- what an opening's error is of a recovery
 abbrev pub open_error : RecoverError → OpenError

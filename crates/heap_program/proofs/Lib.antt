@@ -19,6 +19,7 @@ pub mod PlayFuse
 pub mod PlayLaws
 mod PlayLoop
 pub mod PlayOpen
+pub mod PlaysLaws
 mod PlayPrints
 pub mod Playable
 pub mod PrintRecovered

@@ -8,7 +8,6 @@ use Rattle.disk_model.specs.declared.disk.DiskError.TheVariants.{Failed}
 use Rattle.disk_model.specs.Disk.{HasCause}
 use Rattle.disk_model.specs.declared.fuse.FuseDisk.{FuseDisk}
 use Rattle.disk_model.specs.Fuse.{FuseOrigin, fuse_inner, fuse_origin, fuse_passed}
-use Rattle.disk_model.specs.Keeps.{KeepsDisk}
 use Rattle.disk_model.proofs.KeepsLaws.{rose_until}
 use Rattle.disk_model.specs.Moments.{LeavesOnly}
 use Rattle.gate_slot.specs.Passing.{Passes}
@@ -19,7 +18,7 @@ use Rattle.graph_model.specs.declared.reply.Reply.TheVariants.{Refused}
 use Rattle.heap_core.specs.Causes.{reply_device}
 use Rattle.heap_core.specs.Refinement.{IsLeftByStep}
 use Rattle.heap_model.specs.Core.{Core, calls}
-use Rattle.heap_program.specs.Causes.{DiskRose}
+use Rattle.heap_program.specs.Causes.{DiskRose, PlaysDisk}
 use Rattle.heap_core.specs.Steps.{HeapStep, AreSteps}
 use Rattle.heap_program.specs.Steps.{StopCause, Step}
 use Rattle.heap_program.proofs.Causes.{rose_sum_stops}
@@ -159,7 +158,7 @@ module _ {D : Type 0} {g : Ghosts D} where
           (steps.0, fuse_inner mid, one, fuse_steps steps.0 d mid new events same_mid limit_mid steps.3)
 
   -- the same, by what the fuse keeps
-  pub fuse_steps_of : {h : Ghosts (FuseDisk D g)} {x y : FuseDisk D g} {r : Result (Unit {0}) DiskError} → KeepsDisk h x y r → IsFuse h → (n : ℕ) (began : D) → IsTrue g.tells
+  pub fuse_steps_of : {h : Ghosts (FuseDisk D g)} {x y : FuseDisk D g} {r : Result (Unit {0}) DiskError} → PlaysDisk h x y r → IsFuse h → (n : ℕ) (began : D) → IsTrue g.tells
       → (c d : Core) (old new : FuseDisk D g) (events : List Event) → (fuse_origin old).disk ≡ began → (fuse_origin old).limit ≡ n
       → AreSteps (HeapStep h) c old events d new → AreSteps (Step g (Some n) began) c (fuse_inner old) events d (fuse_inner new)
   fuse_steps_of {h} keeps is n began tells c d old new events same limit steps = fuse_steps h is n began tells c d old new events same limit steps

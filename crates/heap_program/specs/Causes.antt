@@ -1,9 +1,10 @@
 -- Why a run ends as it does.
-use Rattle.std.specs.Prelude.{◌≡◌, ℕ, ◌+◌, ◌≤◌, List, Result, Ok, Err}
+use Rattle.std.specs.Prelude.{◌≡◌, ℕ, ◌+◌, ◌≤◌, List, IsTrue, Result, Ok, Err}
 use Rattle.counts.specs.Count.{Rose}
 use Rattle.disk_model.specs.declared.disk.Disk.{Ghosts}
 use Rattle.disk_model.specs.declared.disk.DiskError.{DiskError}
 use Rattle.disk_model.specs.declared.disk.DiskError.TheVariants as device
+use Rattle.heap_core.specs.Causes.{WasCaused}
 use Rattle.heap_program.specs.declared.play.Halt.{Halt}
 use Rattle.heap_program.specs.declared.play.Halt.TheVariants as halt
 use Rattle.script_text.specs.declared.script.ScriptError.TheVariants.{Fault}
@@ -16,6 +17,14 @@ abbrev pub played_device : Result (Unit {0}) Halt → Result (Unit {0}) DiskErro
 played_device (Err halt.Stopped) = Err device.Stopped
 played_device (Err halt.DiskFault) = Err device.Failed
 played_device result = Ok tt
+
+-- What a play keeps of a disk: its size, what it was made of, and that it was not restarted. It ends in the disk's error only where that error's count
+-- rose; behind an event that the disk cut short it may end for want of memory, or in the sink's failure.
+pub record PlaysDisk {D T : Type 0} (g : Ghosts D) (old new : D) (result : Result T DiskError) : Type 0 where
+  pub extent : g.extent new ≡ g.extent old
+  pub origin : g.origin new ≡ g.origin old
+  pub cause : WasCaused (g.faults old) (g.faults new) (g.stops old) (g.stops new) result
+  pub restarts : IsTrue g.tells → g.restarts new ≡ g.restarts old
 
 -- The disk's faults and stops together rose.
 abbrev pub DiskRose : ℕ → ℕ → ℕ → ℕ → Type 0

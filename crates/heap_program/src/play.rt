@@ -1,11 +1,10 @@
 //! A script is played: each of its events is made on the heap, and its line is written.
 ghost use Rattle.std.specs.Prelude.{◌≡◌, [], ◌∷◌, None, Err, IsTrue};
 ghost use Rattle.std.specs.List.{AllByRecursion};
-ghost use Rattle.disk_model.specs.Keeps.{KeepsDisk};
 ghost use Rattle.graph_model.specs.declared.event.Event.TheVariants.{Seal, Force};
 ghost use Rattle.graph_model.specs.History.{IsSession, IsOfSession};
 ghost use Rattle.image_plan.specs.declared.superblock.Super.{Super};
-ghost use Rattle.heap_program.specs.Causes.{StreamCause, played_device};
+ghost use Rattle.heap_program.specs.Causes.{StreamCause, played_device, PlaysDisk};
 ghost use Rattle.heap_program.specs.declared.play.Halt.TheVariants as halt;
 ghost use Rattle.core_laws.specs.Active.{active_in};
 ghost use Rattle.heap_model.specs.Core.{Core};
@@ -79,7 +78,7 @@ pub fn play_lines<D: Disk, K: Sink>(
     sink: &mut K,
 ) -> Result<(), Halt>
     requires { AllByRecursion IsOfSession (events lines.now) }
-    ensures disk { KeepsDisk D.Disk (heap_disk heap.old) (heap_disk heap.new) (played_device result) }
+    ensures disk { PlaysDisk D.Disk (heap_disk heap.old) (heap_disk heap.new) (played_device result) }
     ensures sink { StreamCause (K.faults sink.old) (K.faults sink.new) (result ≡ Err Halt.WriteFault) }
     ensures core { (c : Core) → IsCore c heap.old → IsRunning c → PlaysCore c (events lines.now) heap.new K.tells (K.written sink.old) (K.written sink.new) result }
     ensures plays { IsTrue D.tells → (of : Super) (c : Core) → IsHeap of c heap.old → IsRunning c → Plays of c (events lines.now) heap.old heap.new K.tells (K.written sink.old) (K.written sink.new) result }
@@ -98,7 +97,7 @@ pub fn play_all<D: Disk, K: Sink>(
     sink: &mut K,
 ) -> Result<(), Halt>
     requires { AllByRecursion IsOfSession (events lines.now) }
-    ensures disk { KeepsDisk D.Disk (heap_disk heap.old) (heap_disk heap.new) (played_device result) }
+    ensures disk { PlaysDisk D.Disk (heap_disk heap.old) (heap_disk heap.new) (played_device result) }
     ensures sink { StreamCause (K.faults sink.old) (K.faults sink.new) (result ≡ Err Halt.WriteFault) }
     ensures core { (c : Core) → IsCore c heap.old → IsRunning c → PlaysCore c (all_events None c (events lines.now)) heap.new K.tells (K.written sink.old) (K.written sink.new) result }
     ensures plays { IsTrue D.tells → (of : Super) (c : Core) → IsHeap of c heap.old → IsRunning c → Plays of c (all_events None c (events lines.now)) heap.old heap.new K.tells (K.written sink.old) (K.written sink.new) result }
@@ -113,7 +112,7 @@ pub fn play_ending<D: Disk, K: Sink>(
     heap: &mut Heap<D>,
     sink: &mut K,
 ) -> Result<(), Halt>
-    ensures disk { KeepsDisk D.Disk (heap_disk heap.old) (heap_disk heap.new) (played_device result) }
+    ensures disk { PlaysDisk D.Disk (heap_disk heap.old) (heap_disk heap.new) (played_device result) }
     ensures sink { StreamCause (K.faults sink.old) (K.faults sink.new) (result ≡ Err Halt.WriteFault) }
     ensures core { (c : Core) → IsCore c heap.old → IsRunning c → PlaysCore c (ending c) heap.new K.tells (K.written sink.old) (K.written sink.new) result }
     ensures plays { IsTrue D.tells → (of : Super) (c : Core) → IsHeap of c heap.old → IsRunning c → Plays of c (ending c) heap.old heap.new K.tells (K.written sink.old) (K.written sink.new) result }
@@ -128,7 +127,7 @@ fn play_aborts<D: Disk, K: Sink>(
     heap: &mut Heap<D>,
     sink: &mut K,
 ) -> Result<(), Halt>
-    ensures disk { KeepsDisk D.Disk (heap_disk heap.old) (heap_disk heap.new) (played_device result) }
+    ensures disk { PlaysDisk D.Disk (heap_disk heap.old) (heap_disk heap.new) (played_device result) }
     ensures sink { StreamCause (K.faults sink.old) (K.faults sink.new) (result ≡ Err Halt.WriteFault) }
     ensures core { (c : Core) → IsCore c heap.old → IsRunning c → PlaysCore c (aborting c) heap.new K.tells (K.written sink.old) (K.written sink.new) result }
     ensures plays { IsTrue D.tells → (of : Super) (c : Core) → IsHeap of c heap.old → IsRunning c → Plays of c (aborting c) heap.old heap.new K.tells (K.written sink.old) (K.written sink.new) result }
@@ -147,7 +146,7 @@ fn play_abort<D: Disk, K: Sink>(
     sink: &mut K,
 ) -> Result<(), Halt>
     requires { IsSession s }
-    ensures disk { KeepsDisk D.Disk (heap_disk heap.old) (heap_disk heap.new) (played_device result) }
+    ensures disk { PlaysDisk D.Disk (heap_disk heap.old) (heap_disk heap.new) (played_device result) }
     ensures sink { StreamCause (K.faults sink.old) (K.faults sink.new) (result ≡ Err Halt.WriteFault) }
     ensures core { (c : Core) → IsCore c heap.old → IsRunning c → PlaysCore c (abort_of s (active_in c s)) heap.new K.tells (K.written sink.old) (K.written sink.new) result }
     ensures plays { IsTrue D.tells → (of : Super) (c : Core) → IsHeap of c heap.old → IsRunning c → Plays of c (abort_of s (active_in c s)) heap.old heap.new K.tells (K.written sink.old) (K.written sink.new) result }
@@ -160,7 +159,7 @@ fn play_abort<D: Disk, K: Sink>(
 
 /// Forces the pending records, if there are any.
 fn play_force<D: Disk, K: Sink>(alloc: Global, heap: &mut Heap<D>, sink: &mut K) -> Result<(), Halt>
-    ensures disk { KeepsDisk D.Disk (heap_disk heap.old) (heap_disk heap.new) (played_device result) }
+    ensures disk { PlaysDisk D.Disk (heap_disk heap.old) (heap_disk heap.new) (played_device result) }
     ensures sink { StreamCause (K.faults sink.old) (K.faults sink.new) (result ≡ Err Halt.WriteFault) }
     ensures core { (c : Core) → IsCore c heap.old → IsRunning c → PlaysCore c (forcing c) heap.new K.tells (K.written sink.old) (K.written sink.new) result }
     ensures plays { IsTrue D.tells → (of : Super) (c : Core) → IsHeap of c heap.old → IsRunning c → Plays of c (forcing c) heap.old heap.new K.tells (K.written sink.old) (K.written sink.new) result }
@@ -179,7 +178,7 @@ pub fn play_line<D: Disk, K: Sink>(
     sink: &mut K,
 ) -> Result<(), Halt>
     requires { AllByRecursion IsOfSession (line_events line) }
-    ensures disk { KeepsDisk D.Disk (heap_disk heap.old) (heap_disk heap.new) (played_device result) }
+    ensures disk { PlaysDisk D.Disk (heap_disk heap.old) (heap_disk heap.new) (played_device result) }
     ensures sink { StreamCause (K.faults sink.old) (K.faults sink.new) (result ≡ Err Halt.WriteFault) }
     ensures core { (c : Core) → IsCore c heap.old → IsRunning c → PlaysCore c (line_events line) heap.new K.tells (K.written sink.old) (K.written sink.new) result }
     ensures plays { IsTrue D.tells → (of : Super) (c : Core) → IsHeap of c heap.old → IsRunning c → Plays of c (line_events line) heap.old heap.new K.tells (K.written sink.old) (K.written sink.new) result }
@@ -198,7 +197,7 @@ fn play_commit<D: Disk, K: Sink>(
     sink: &mut K,
 ) -> Result<(), Halt>
     requires { IsSession s }
-    ensures disk { KeepsDisk D.Disk (heap_disk heap.old) (heap_disk heap.new) (played_device result) }
+    ensures disk { PlaysDisk D.Disk (heap_disk heap.old) (heap_disk heap.new) (played_device result) }
     ensures sink { StreamCause (K.faults sink.old) (K.faults sink.new) (result ≡ Err Halt.WriteFault) }
     ensures core { (c : Core) → IsCore c heap.old → IsRunning c → PlaysCore c (Seal s ∷ Force ∷ []) heap.new K.tells (K.written sink.old) (K.written sink.new) result }
     ensures plays { IsTrue D.tells → (of : Super) (c : Core) → IsHeap of c heap.old → IsRunning c → Plays of c (Seal s ∷ Force ∷ []) heap.old heap.new K.tells (K.written sink.old) (K.written sink.new) result }
@@ -215,7 +214,7 @@ fn play_event<D: Disk, K: Sink>(
     sink: &mut K,
 ) -> Result<(), Halt>
     requires { IsOfSession event }
-    ensures disk { KeepsDisk D.Disk (heap_disk heap.old) (heap_disk heap.new) (played_device result) }
+    ensures disk { PlaysDisk D.Disk (heap_disk heap.old) (heap_disk heap.new) (played_device result) }
     ensures sink { StreamCause (K.faults sink.old) (K.faults sink.new) (result ≡ Err Halt.WriteFault) }
     ensures core { (c : Core) → IsCore c heap.old → IsRunning c → PlaysCore c (event ∷ []) heap.new K.tells (K.written sink.old) (K.written sink.new) result }
     ensures plays { IsTrue D.tells → (of : Super) (c : Core) → IsHeap of c heap.old → IsRunning c → Plays of c (event ∷ []) heap.old heap.new K.tells (K.written sink.old) (K.written sink.new) result }

@@ -1,14 +1,13 @@
 //! A load is played: round by round, so that no list of all lines is kept.
 ghost use Rattle.std.specs.Prelude.{◌≡◌, ◌<◌, ◌^◌, None, Err, IsTrue};
 ghost use Rattle.std.specs.List.{AllByRecursion};
-ghost use Rattle.disk_model.specs.Keeps.{KeepsDisk};
 ghost use Rattle.graph_model.specs.History.{IsOfSession};
 ghost use Rattle.image_plan.specs.declared.superblock.Super.{Super};
 ghost use Rattle.heap_model.specs.Core.{Core};
 ghost use Rattle.heap_model.specs.Ending.{all_events};
 ghost use Rattle.heap_core.specs.HeapState.{heap_disk};
 ghost use Rattle.heap_core.specs.Refinement.{IsCore, IsHeap};
-ghost use Rattle.heap_program.specs.Causes.{StreamCause, played_device};
+ghost use Rattle.heap_program.specs.Causes.{StreamCause, played_device, PlaysDisk};
 ghost use Rattle.heap_program.specs.Play.{IsRunning, PlaysCore, Plays};
 ghost use Rattle.script_text.specs.Line.{events};
 ghost use Rattle.script_text.specs.Load.{load_lines};
@@ -31,7 +30,7 @@ pub fn play_load<D: Disk, K: Sink, W: Sink>(
     watch: &W,
 ) -> Result<(), Halt>
     requires { seed < 2 ^ 31 }
-    ensures disk { KeepsDisk D.Disk (heap_disk heap.old) (heap_disk heap.new) (played_device result) }
+    ensures disk { PlaysDisk D.Disk (heap_disk heap.old) (heap_disk heap.new) (played_device result) }
     ensures sink { StreamCause (K.faults sink.old) (K.faults sink.new) (result ≡ Err Halt.WriteFault) }
     ensures core { (c : Core) → IsCore c heap.old → IsRunning c → PlaysCore c (all_events None c (events (load_lines seed count))) heap.new K.tells (K.written sink.old) (K.written sink.new) result }
     ensures plays { IsTrue D.tells → (of : Super) (c : Core) → IsHeap of c heap.old → IsRunning c → Plays of c (all_events None c (events (load_lines seed count))) heap.old heap.new K.tells (K.written sink.old) (K.written sink.new) result }
@@ -50,7 +49,7 @@ fn play_rounds<D: Disk, K: Sink, W: Sink>(
     watch: &W,
 ) -> Result<(), Halt>
     requires { AllByRecursion IsOfSession (events (lines_left load)) }
-    ensures disk { KeepsDisk D.Disk (heap_disk heap.old) (heap_disk heap.new) (played_device result) }
+    ensures disk { PlaysDisk D.Disk (heap_disk heap.old) (heap_disk heap.new) (played_device result) }
     ensures sink { StreamCause (K.faults sink.old) (K.faults sink.new) (result ≡ Err Halt.WriteFault) }
     ensures core { (c : Core) → IsCore c heap.old → IsRunning c → PlaysCore c (events (lines_left load)) heap.new K.tells (K.written sink.old) (K.written sink.new) result }
     ensures plays { IsTrue D.tells → (of : Super) (c : Core) → IsHeap of c heap.old → IsRunning c → Plays of c (events (lines_left load)) heap.old heap.new K.tells (K.written sink.old) (K.written sink.new) result }

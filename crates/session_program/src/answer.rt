@@ -1,11 +1,10 @@
 //! One line is answered.
 ghost use Rattle.std.specs.Prelude.{◌≡◌, Some, Err, IsTrue};
-ghost use Rattle.disk_model.specs.Keeps.{KeepsDisk};
 ghost use Rattle.heap_core.specs.HeapState.{heap_disk};
 ghost use Rattle.heap_core.specs.Refinement.{IsCore, IsHeap};
 ghost use Rattle.heap_model.specs.Core.{Core};
 ghost use Rattle.image_plan.specs.declared.superblock.Super.{Super};
-ghost use Rattle.heap_program.specs.Causes.{StreamCause, played_device};
+ghost use Rattle.heap_program.specs.Causes.{StreamCause, played_device, PlaysDisk};
 ghost use Rattle.heap_program.specs.Output.{WroteText};
 ghost use Rattle.heap_program.specs.Play.{IsRunning};
 ghost use Rattle.heap_program.specs.declared.output.WriteError.TheVariants.{SinkFailed};
@@ -29,7 +28,7 @@ pub fn answer<D: Disk, K: Sink>(
     text: &[u8],
     sink: &mut K,
 ) -> Result<(), Halt>
-    ensures disk { KeepsDisk D.Disk (heap_disk heap.old) (heap_disk heap.new) (played_device result) }
+    ensures disk { PlaysDisk D.Disk (heap_disk heap.old) (heap_disk heap.new) (played_device result) }
     ensures sink { StreamCause (K.faults sink.old) (K.faults sink.new) (result ≡ Err Halt.WriteFault) }
     ensures core { (c : Core) → IsCore c heap.old → IsRunning c → Answers c number (Some text.now) heap.new K.tells (K.written sink.old) (K.written sink.new) result }
     ensures plays { IsTrue D.tells → (of : Super) (c : Core) → IsHeap of c heap.old → IsRunning c → AnswersOn of c number (Some text.now) heap.old heap.new K.tells (K.written sink.old) (K.written sink.new) result }

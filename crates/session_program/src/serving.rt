@@ -2,14 +2,13 @@
 ghost use Rattle.std.specs.Prelude.{◌≡◌, ◌≢◌, ◌⊎◌, ℕ, ◌<◌, ◌≤◌, List, [], ◌++◌, Ok, Err, IsTrue, IsFalse};
 ghost use Rattle.counts.specs.Count.{Rose};
 ghost use Rattle.disk_model.specs.Disk.{Only};
-ghost use Rattle.disk_model.specs.Keeps.{KeepsDisk};
 ghost use Rattle.disk_model.specs.Moments.{LeavesOnly};
 ghost use Rattle.heap_core.specs.HeapState.{heap_disk};
 ghost use Rattle.heap_core.specs.Refinement.{IsCore, IsHeap};
 ghost use Rattle.heap_model.specs.Core.{Core};
 ghost use Rattle.image_plan.specs.declared.superblock.Super.{Super};
 ghost use Rattle.heap_program.specs.declared.play.Halt.TheVariants as halt;
-ghost use Rattle.heap_program.specs.Causes.{DiskRose, StreamCause, RunsDisk};
+ghost use Rattle.heap_program.specs.Causes.{DiskRose, StreamCause, RunsDisk, PlaysDisk};
 ghost use Rattle.heap_program.specs.Headline.{OfTold, BlamesNoImage, IsOfImage};
 ghost use Rattle.heap_program.specs.Play.{IsRunning};
 ghost use Rattle.heap_program.specs.Stored.{IsStored, stored_core, stored_calls};
@@ -131,7 +130,7 @@ fn serve_all<D: Disk, S: Source, K: Sink>(
 ) -> Result<Next, Break>
     requires fresh { IsTrue S.tells → IsFalse reader.old.passing }
     ensures fresh { result ≡ Ok Next.Reopen → IsTrue S.tells → IsFalse reader.new.passing }
-    ensures disk { KeepsDisk D.Disk (heap_disk heap.old) (heap_disk heap.new) (session_device result) }
+    ensures disk { PlaysDisk D.Disk (heap_disk heap.old) (heap_disk heap.new) (session_device result) }
     ensures source { StreamCause (S.faults source.old) (S.faults source.new) (result ≡ Err Break.ReadFault) }
     ensures sink { StreamCause (K.faults sink.old) (K.faults sink.new) (result ≡ Err (Break.Halted halt.WriteFault)) }
     ensures core { (c : Core) → IsCore c heap.old → IsRunning c → OfInput S.tells (next_of result) (reader.old.held ++ S.left source.old) (reader.new.held ++ S.left source.new) (S.left source.new) (λ part rest. Serves S.tells part rest c heap.new K.tells (K.written sink.old) (K.written sink.new) result) }
@@ -156,7 +155,7 @@ fn serve_lines<D: Disk, S: Source, K: Sink>(
 ) -> Result<Next, Break>
     requires fresh { IsTrue S.tells → IsFalse reader.old.passing }
     ensures fresh { result ≡ Ok Next.Reopen → IsTrue S.tells → IsFalse reader.new.passing }
-    ensures disk { KeepsDisk D.Disk (heap_disk heap.old) (heap_disk heap.new) (session_device result) }
+    ensures disk { PlaysDisk D.Disk (heap_disk heap.old) (heap_disk heap.new) (session_device result) }
     ensures source { StreamCause (S.faults source.old) (S.faults source.new) (result ≡ Err Break.ReadFault) }
     ensures sink { StreamCause (K.faults sink.old) (K.faults sink.new) (result ≡ Err (Break.Halted halt.WriteFault)) }
     ensures core { (c : Core) → IsCore c heap.old → IsRunning c → OfInput S.tells (next_of result) (reader.old.held ++ S.left source.old) (reader.new.held ++ S.left source.new) (S.left source.new) (λ part rest. ServesLines S.tells part rest c heap.new K.tells (K.written sink.old) (K.written sink.new) result) }

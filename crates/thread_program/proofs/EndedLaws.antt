@@ -6,7 +6,6 @@ use Rattle.std.proofs.lemmas.Bool.{false≢true}
 use Rattle.std.specs.declared.alloc.AllocError.{AllocError}
 use Rattle.disk_model.specs.declared.disk.Disk.{Ghosts}
 use Rattle.disk_model.specs.declared.disk.DiskError.TheVariants as device
-use Rattle.disk_model.specs.Keeps.{KeepsDisk}
 use Rattle.graph_model.specs.declared.event.Event.{Event}
 use Rattle.graph_model.specs.declared.reply.Refusal.TheVariants.{DiskFault, Stopped}
 use Rattle.graph_model.specs.declared.reply.Reply.{Reply}
@@ -22,9 +21,9 @@ use Rattle.core_laws.proofs.Run.Calls.{unfailed_events, of_session_front}
 use Rattle.core_laws.proofs.Run.Ending.{ending_of_session}
 use Rattle.heap_program.specs.declared.play.Halt.{Halt}
 use Rattle.heap_program.specs.declared.play.Halt.TheVariants as halt
-use Rattle.heap_program.specs.Causes.{DiskRose, played_device}
+use Rattle.heap_program.specs.Causes.{DiskRose, PlaysDisk, played_device}
 use Rattle.heap_program.specs.Play.{IsRunning, MadeAll, IsCutBy, EndsAs, PlaysCore, Ends, Plays}
-use Rattle.heap_program.proofs.Causes.{disk_rose}
+use Rattle.heap_program.proofs.Causes.{was_rose}
 use Rattle.image_plan.specs.declared.superblock.Super.{Super}
 use Rattle.thread_program.specs.Ended.{EndsBy, is_played_out}
 use Rattle.thread_program.specs.Together.{IsCutAmong}
@@ -103,10 +102,10 @@ module _ {D : Type 0} {g : Ghosts D} (old new : Heap D g) (c : Core) (running : 
   abbrev rose : Type 0
   rose = DiskRose (g.faults old.disk) (g.stops old.disk) (g.faults new.disk) (g.stops new.disk)
 
-  well : (result : Result (Unit {0}) Halt) (made unmade : List Event) (d : Core) → is_played_out result ≡ true → KeepsDisk g old.disk new.disk (played_device result) → EndsAs c made unmade d result → EndsWell c made unmade d rose
+  well : (result : Result (Unit {0}) Halt) (made unmade : List Event) (d : Core) → is_played_out result ≡ true → PlaysDisk g old.disk new.disk (played_device result) → EndsAs c made unmade d result → EndsWell c made unmade d rose
   well (Ok done) made unmade d is keeps ends = inl ends
-  well (Err halt.DiskFault) made unmade d is keeps ends = inr (disk_rose _ _ _ _ (played_device (Err halt.DiskFault)) device.Failed keeps.cause refl, cut_among (Refused DiskFault) c d made ends)
-  well (Err halt.Stopped) made unmade d is keeps ends = inr (disk_rose _ _ _ _ (played_device (Err halt.Stopped)) device.Stopped keeps.cause refl, cut_among (Refused Stopped) c d made ends)
+  well (Err halt.DiskFault) made unmade d is keeps ends = inr (was_rose _ _ _ _ (played_device (Err halt.DiskFault)) device.Failed keeps.cause refl, cut_among (Refused DiskFault) c d made ends)
+  well (Err halt.Stopped) made unmade d is keeps ends = inr (was_rose _ _ _ _ (played_device (Err halt.Stopped)) device.Stopped keeps.cause refl, cut_among (Refused Stopped) c d made ends)
   well (Err halt.NoMemory) made unmade d is keeps ends = absurd (false≢true is)
   well (Err halt.WriteFault) made unmade d is keeps ends = absurd (false≢true is)
 
@@ -121,7 +120,7 @@ module _ {D : Type 0} {g : Ghosts D} (old new : Heap D g) (c : Core) (running : 
   abbrev pub ReachesCore : List Event → Core → Type 0
   ReachesCore made d = IsRun c made d × IsCore d new
 
-  pub core_well : (result : Result (Unit {0}) Halt) → is_played_out result ≡ true → KeepsDisk g old.disk new.disk (played_device result) → PlaysCore c (ending c) new told before after result → EndsBy c (Ok tt) rose ReachesCore
+  pub core_well : (result : Result (Unit {0}) Halt) → is_played_out result ≡ true → PlaysDisk g old.disk new.disk (played_device result) → PlaysCore c (ending c) new told before after result → EndsBy c (Ok tt) rose ReachesCore
   core_well result is keeps plays =
       ends_well c running plays.made plays.behind plays.core plays.parts rose ReachesCore (plays.run, plays.is) (well result plays.made plays.behind plays.core is keeps plays.ends)
 
@@ -133,7 +132,7 @@ module _ {D : Type 0} {g : Ghosts D} (old new : Heap D g) (c : Core) (running : 
     abbrev pub ReachesHeap : List Event → Core → Type 0
     ReachesHeap made d = AreSteps (HeapStep g) c old.disk made d new.disk × IsHeap s d new
 
-    pub heap_well : (result : Result (Unit {0}) Halt) → is_played_out result ≡ true → KeepsDisk g old.disk new.disk (played_device result) → Plays s c (ending c) old new told before after result → EndsBy c (Ok tt) rose ReachesHeap
+    pub heap_well : (result : Result (Unit {0}) Halt) → is_played_out result ≡ true → PlaysDisk g old.disk new.disk (played_device result) → Plays s c (ending c) old new told before after result → EndsBy c (Ok tt) rose ReachesHeap
     heap_well result is keeps plays =
         ends_well c running plays.made plays.behind plays.core plays.parts rose ReachesHeap (plays.steps, plays.heap)
         (well result plays.made plays.behind plays.core is keeps (ends_as result plays.made plays.behind plays.core is plays.ends))

@@ -1,7 +1,7 @@
 use Rattle.std.proofs.Common.{◌-◌, ◌≤◌, Ok}
 use Rattle.std.specs.Prelude.{IsTrue, Result}
 use Rattle.disk_model.specs.declared.disk.DiskError.{DiskError}
-use Rattle.disk_model.specs.Keeps.{KeepsDisk}
+use Rattle.heap_program.specs.Causes.{PlaysDisk}
 use Rattle.image_plan.specs.declared.superblock.Super.{Super}
 use Rattle.core_laws.proofs.Run.Aborting.{aborting_until}
 use Rattle.heap_model.specs.Core.{Core}
@@ -16,7 +16,7 @@ invariant-loop-s g l =
     let k = g.K.Sink in
     let well : Result (Unit {0}) DiskError = Ok tt in
     record {
-      disk : KeepsDisk g.D.Disk (heap_disk l.fn.heap) (heap_disk l.heap) well;
+      disk : PlaysDisk g.D.Disk (heap_disk l.fn.heap) (heap_disk l.heap) well;
       sink : k.faults l.fn.sink ≤ k.faults l.sink;
       core : (c : Core) → IsCore c l.fn.heap → IsRunning c → PlaysCore c (aborting_until (l.s - 1) c) l.heap k.tells (k.written l.fn.sink) (k.written l.sink) (Ok tt);
       plays : IsTrue g.D.Disk.tells → (of : Super) (c : Core) → IsHeap of c l.fn.heap → IsRunning c → Plays of c (aborting_until (l.s - 1) c) l.fn.heap l.heap k.tells (k.written l.fn.sink) (k.written l.sink) (Ok tt);

@@ -1,7 +1,7 @@
 use Rattle.std.proofs.Common.{◌≡◌, ◌≤◌, List, ◌++◌, Ok}
 use Rattle.std.specs.Prelude.{IsTrue, Result}
 use Rattle.disk_model.specs.declared.disk.DiskError.{DiskError}
-use Rattle.disk_model.specs.Keeps.{KeepsDisk}
+use Rattle.heap_program.specs.Causes.{PlaysDisk}
 use Rattle.image_plan.specs.declared.superblock.Super.{Super}
 use Rattle.heap_model.specs.Core.{Core}
 use Rattle.heap_core.specs.HeapState.{heap_disk}
@@ -19,7 +19,7 @@ invariant-rounds g l =
     let well : Result (Unit {0}) DiskError = Ok tt in
     (done : List Line)
     × (lines_left l.fn.load ≡ done ++ lines_left l.load)
-    × KeepsDisk g.D.Disk (heap_disk l.fn.heap) (heap_disk l.heap) well
+    × PlaysDisk g.D.Disk (heap_disk l.fn.heap) (heap_disk l.heap) well
     × (k.faults l.fn.sink ≤ k.faults l.sink)
     × ((c : Core) → IsCore c l.fn.heap → IsRunning c → PlaysCore c (events done) l.heap k.tells (k.written l.fn.sink) (k.written l.sink) (Ok tt))
     × (IsTrue g.D.Disk.tells → (of : Super) (c : Core) → IsHeap of c l.fn.heap → IsRunning c → Plays of c (events done) l.fn.heap l.heap k.tells (k.written l.fn.sink) (k.written l.sink) (Ok tt))

@@ -1,7 +1,7 @@
 use Rattle.std.proofs.Common.{◌+◌, ◌≤◌, ◌++◌, Ok}
 use Rattle.std.specs.Prelude.{Result, IsTrue}
 use Rattle.disk_model.specs.declared.disk.DiskError.{DiskError}
-use Rattle.disk_model.specs.Keeps.{KeepsDisk}
+use Rattle.heap_program.specs.Causes.{PlaysDisk}
 use Rattle.heap_core.specs.HeapState.{heap_disk}
 use Rattle.heap_core.specs.Refinement.{IsCore, IsHeap}
 use Rattle.heap_model.specs.Core.{Core}
@@ -18,7 +18,7 @@ invariant-loop-turn g l =
     let k = g.K.Sink in
     let well : Result (Unit {0}) DiskError = Ok tt in
     record {
-      disk : KeepsDisk g.D.Disk (heap_disk l.fn.heap) (heap_disk l.heap) well;
+      disk : PlaysDisk g.D.Disk (heap_disk l.fn.heap) (heap_disk l.heap) well;
       source : s.faults l.fn.source ≤ s.faults l.source;
       sink : k.faults l.fn.sink ≤ k.faults l.sink;
       few : l.number ≤ l.turn + 1;
