@@ -1,4 +1,4 @@
-use Rattle.std.proofs.Common.{◌≡◌, ℕ, ◌*◌, List, ap, ◌∙◌, arith}
+use Rattle.std.proofs.Common.{◌≡◌, ℕ, ◌*◌, List, refl, ap, ◌∙◌, arith}
 use Rattle.disk_model.specs.Disk.{part}
 use Rattle.disk_model.proofs.KeepsLaws.{reads_none, reads_on}
 use Rattle.image_plan.specs.Plan.{frame_offset}
