@@ -98,7 +98,7 @@ impl Collections {
     /// Takes one line more.
     fn take(&mut self, line: &str) -> Result<(), AllocError> {
         if line.starts_with("flip -> flipped ") {
-            return self.begun.push(self.sealed);
+            self.begun.push(self.sealed)?;
         }
         if line.starts_with("scan -> collected ") {
             self.ended = self.ended.saturating_add(1);
