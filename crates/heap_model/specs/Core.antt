@@ -194,11 +194,22 @@ call_barrier ground g0 a None h i = []
 call_barrier ground g0 a (Some t) h i = held_barrier ground (held (view g0 a t).registers h) i
 
 abbrev pub barrier_for : Ground → Graph → Account → Event → List Record
-barrier_for ground g0 a (Get s h i h2) = call_barrier ground g0 a (a.active s) h i
+barrier_for ground g0 a (Begin s) = []
+barrier_for ground g0 a Force = []
+barrier_for ground g0 a Flip = []
+barrier_for ground g0 a Scan = []
+barrier_for ground g0 a (Flush p) = []
+barrier_for ground g0 a (Root s h) = []
+barrier_for ground g0 a (New s h len) = []
 barrier_for ground g0 a (Put s h i v) = call_barrier ground g0 a (a.active s) h i
 barrier_for ground g0 a (Clear s h i) = call_barrier ground g0 a (a.active s) h i
 barrier_for ground g0 a (Link s h i h2) = call_barrier ground g0 a (a.active s) h i
-barrier_for ground g0 a event = []
+barrier_for ground g0 a (Drop s h) = []
+barrier_for ground g0 a (Get s h i h2) = call_barrier ground g0 a (a.active s) h i
+barrier_for ground g0 a (Same s h h2) = []
+barrier_for ground g0 a (Len s h) = []
+barrier_for ground g0 a (Seal s) = []
+barrier_for ground g0 a (Abort s) = []
 
 abbrev pub barrier_records : Core → Event → List Record
 barrier_records c event = barrier_for (ground c) c.g0 (account c.history) event
@@ -288,9 +299,23 @@ space_refusal (Some s) need =
 
 -- why there is no room for what a transaction asks: for a new object, or for those that its seal promotes
 abbrev pub room_refusal : Ground → Graph → Account → Option Transaction → Event → Option Refusal
+room_refusal ground g0 a None event = None
+room_refusal ground g0 a (Some t) (Begin s) = None
+room_refusal ground g0 a (Some t) Force = None
+room_refusal ground g0 a (Some t) Flip = None
+room_refusal ground g0 a (Some t) Scan = None
+room_refusal ground g0 a (Some t) (Flush p) = None
+room_refusal ground g0 a (Some t) (Root s h) = None
 room_refusal ground g0 a (Some t) (New s h len) = area_refusal (view g0 a t) t.number len
+room_refusal ground g0 a (Some t) (Put s h i v) = None
+room_refusal ground g0 a (Some t) (Clear s h i) = None
+room_refusal ground g0 a (Some t) (Link s h i h2) = None
+room_refusal ground g0 a (Some t) (Drop s h) = None
+room_refusal ground g0 a (Some t) (Get s h i h2) = None
+room_refusal ground g0 a (Some t) (Same s h h2) = None
+room_refusal ground g0 a (Some t) (Len s h) = None
 room_refusal ground g0 a (Some t) (Seal s) = space_refusal ground.state (seal_need ground t.number (view g0 a t))
-room_refusal ground g0 a t event = None
+room_refusal ground g0 a (Some t) (Abort s) = None
 
 -- why there is no such page
 abbrev pub page_refusal : ℕ → Event → Option Refusal

@@ -30,12 +30,27 @@ bytes_of (End t) = 0
 abbrev pub moved_by_record : Record → ℕ
 moved_by_record (Copy from to words) = length words
 moved_by_record (Flip copies) = copied_size copies
-moved_by_record rec = 0
+moved_by_record (Scan page writes) = 0
+moved_by_record Collected = 0
+moved_by_record (Update t object field was word) = 0
+moved_by_record (Base t address words) = 0
+moved_by_record (Fix t object field word) = 0
+moved_by_record (Undo t object field word) = 0
+moved_by_record (Commit t) = 0
+moved_by_record (End t) = 0
 
 -- how many references it leads to the current space
 abbrev pub led_by : Record → ℕ
 led_by (Scan page writes) = length writes
-led_by rec = 0
+led_by (Copy from to words) = 0
+led_by (Flip copies) = 0
+led_by Collected = 0
+led_by (Update t object field was word) = 0
+led_by (Base t address words) = 0
+led_by (Fix t object field word) = 0
+led_by (Undo t object field word) = 0
+led_by (Commit t) = 0
+led_by (End t) = 0
 
 -- how many collections it begins
 abbrev pub begun_by : Record → ℕ
