@@ -40,7 +40,7 @@ abbrev pub hear_cut : Heard → Event → Heard
 hear_cut heard (Seal s) = record heard { in_doubt = heard.active s }
 hear_cut heard event = heard
 
--- what an event's reply adds: the last seven are replies to calls, which were not refused
+-- what an event's reply adds: every reply but these answers a call that was not refused
 abbrev pub hear : Heard → Event → Reply → Heard
 hear heard event (Begun n) = record heard { active = with_replies heard.active (session_of event) (Some []) }
 hear heard event (Sealed n) = hear_seal heard (session_of event)

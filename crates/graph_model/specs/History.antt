@@ -88,7 +88,7 @@ seals a s = record a { active = with_active a.active s None; sealed = a.sealed +
 abbrev pub aborts : Account → ℕ → Account
 aborts a s = record a { active = with_active a.active s None }
 
--- what an entry adds, by its reply: the last seven are replies to calls, which were not refused
+-- what an entry adds, by its reply: a reply that isn't named here is one to a call that was not refused
 abbrev pub done : Account → Event → Reply → Account
 done a event (Begun n) = begins a (session_of event) n
 done a event (Sealed n) = seals a (session_of event)
