@@ -1,5 +1,5 @@
 use Rattle.std.proofs.Common.{refl}
-use Rattle.heap_theorems.specs.Numbers.{HasWords, HasRecords, HasPlan, HasNumbers}
+use Rattle.heap_theorems.specs.Numbers.{HasWords, HasRecords, HasPlan}
 use Rattle.heap_theorems.proofs.numbers.numbers_are_those_of_the_formats.Goals as goal
 
 words : HasWords
