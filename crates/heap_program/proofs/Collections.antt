@@ -20,7 +20,7 @@ use Rattle.log_records.specs.declared.Record.{Record}
 use Rattle.log_records.specs.declared.Record.TheVariants as record_of
 use Rattle.log_machine.specs.Machine.{State}
 use Rattle.log_machine.proofs.ListLaws.{AllByRecursion-append}
-use Rattle.heap_model.specs.Collecting.{flip_records, flip_records_in, flip_reply}
+use Rattle.heap_model.specs.Collecting.{flip_records, flip_records_in, flip_reply, next_page, scan_reply, scan_reply_in}
 use Rattle.heap_model.specs.Core.{Core, Ground, IsRun, IsStep, after, after_refusal, all_records, all_words, answer, calls_if, core_refusal, event_records, granted_by, ground, log_refusal, own_records, room_refusal, roots, words_refusal}
 use Rattle.core_laws.specs.Unseen.{since}
 use Rattle.core_laws.specs.Valid.{IsReached}
@@ -33,7 +33,7 @@ use Rattle.limit_laws.proofs.Events.Kinds.{IsNoFlip}
 use Rattle.limit_laws.proofs.Progress.Ends.{end_law}
 use Rattle.limit_laws.proofs.Progress.Scans.{no_flips}
 use Rattle.limit_laws.proofs.Runs.{run_entries, since_run}
-use Rattle.heap_program.specs.Limits.{EndsCollection, TakesFewBytes}
+use Rattle.heap_program.specs.Limits.{EndsCollection, GoesOn, TakesFewBytes}
 
 -- Records that begin no collection.
 
@@ -131,6 +131,23 @@ scan_calls (Some why) c = refl
 scan_answer : (d next : Core) (answered : Reply) → IsStep d Scan answered next → answered ≡ answer d Scan
 scan_answer d next answered (inl whole) = whole.0
 scan_answer d next answered (inr cut) = let some = cut.0.some in absurd (omega (arith, some, scan_calls (core_refusal d Scan) d))
+
+goes_on_in : (s : State) (rs : List Record) (k : Collection) (page : Option ℕ) → GoesOn (scan_reply_in s rs (Some k) page)
+goes_on_in s rs k None = tt
+goes_on_in s rs k (Some page) = tt
+
+goes_on_by : (o : Option Refusal) (answered : Reply) → GoesOn answered → GoesOn (reply_of o answered)
+goes_on_by None answered goes = goes
+goes_on_by (Some why) answered goes = tt
+
+-- While a collection runs, a scan goes over a page, or ends it, or is refused.
+pub scan_goes_on : (d next : Core) (answered : Reply) → IsCollecting d → IsStep d Scan answered next → GoesOn answered
+scan_goes_on d next answered collecting step =
+    let s = collecting.state in
+    let rs = own_records d Scan in
+    let runs = subst (λ (run : Option Collection). GoesOn (scan_reply_in s rs run (next_page run))) (sym collecting.runs) (goes_on_in s rs collecting.collection (next_page (Some collecting.collection))) in
+    let granted = subst (λ (o : Option State). GoesOn (scan_reply o rs)) (sym collecting.reached) runs in
+    subst GoesOn (sym (scan_answer d next answered step)) (goes_on_by (core_refusal d Scan) (granted_by d Scan) granted)
 
 -- When as many scans went over a page as a space has pages, the next one ends the collection.
 pub last_scan : (c d next : Core) (events : List Event) (answered : Reply) → IsReached c → AllByRecursion IsOfSession events → IsRun c events d → BeganNone c d → IsCollecting d

@@ -25,7 +25,7 @@ use Rattle.heap_core.specs.Ending.{EndsAsTold}
 use Rattle.heap_core.proofs.Collects.{collects_as_told, none_added}
 use Rattle.heap_core.proofs.Ends.{ends_as_told}
 use Rattle.heap_program.specs.Limits.{IsStepIn, IsUnderWayIn, KeepsLimits, TakesFewBytes}
-use Rattle.heap_program.proofs.Collections.{few_bytes, last_scan}
+use Rattle.heap_program.proofs.Collections.{few_bytes, last_scan, scan_goes_on}
 
 -- Each event of a run is a step of it, and its entry stands there in the history.
 pub each_is_a_step : (first last : Core) (before : List Event) (event : Event) (behind : List Event) → IsRun first (before ++ event ∷ behind) last
@@ -134,6 +134,7 @@ module _ (first : Core) (reached : IsReached first) (nothing : first.history ≡
     pages = λ c d before between behind parts led leads none.
         let both = of_session_front (before ++ between) behind (subst (AllByRecursion IsOfSession) parts sessions) in
         pages_law c d between (run_reached first c before reached (of_session_front before between both) led) (AllByRecursion-behind IsOfSession before between both) leads none;
+    goes_on = λ d answered one collecting. scan_goes_on d one.next answered collecting one.step;
     ended = λ c d earlier between answered one parts led leads none collecting all.
         let both = subst (AllByRecursion IsOfSession) parts (before d Scan answered one) in
         last_scan c d one.next between answered (run_reached first c earlier reached (of_session_front earlier between both) led) (AllByRecursion-behind IsOfSession earlier between both) leads none collecting all one.step;

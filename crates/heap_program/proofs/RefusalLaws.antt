@@ -24,7 +24,7 @@ use Rattle.heap_program.specs.declared.status.Status.{Status}
 use Rattle.heap_program.specs.declared.status.Status.TheVariants as status
 use Rattle.heap_program.specs.Causes.{IsInputError}
 use Rattle.heap_program.specs.Headline.{IsEndOfPlay}
-use Rattle.heap_program.specs.Refusals.{IsFault, IsWordFault, OpensOnce, fault_calls, IsToldOf, IsToldOfEach, EndsRefused, IsLeftAlone, LeavesAlone}
+use Rattle.heap_program.specs.Refusals.{IsFault, IsWordFault, CallsOfOneOpening, fault_calls, IsToldOf, IsToldOfEach, EndsRefused, IsLeftAlone, LeavesAlone}
 use Rattle.command_words.specs.declared.commands.CommandError.{CommandError}
 use Rattle.command_words.specs.declared.commands.CommandError.TheVariants as asking
 use Rattle.heap_model.specs.Opening.{opening_calls}
@@ -191,7 +191,7 @@ pub input_told_each : (s : Status) (may_leave : List ℕ → Type 0) → IsInput
 input_told_each s may_leave input image may = input_told s image input
 
 -- A run that ends before it opens a heap makes no call.
-pub input_once : (n k : ℕ) (s : Status) → IsInputError s → OpensOnce n k k s
+pub input_once : (n k : ℕ) (s : Status) → IsInputError s → CallsOfOneOpening n k k s
 input_once n k status.Done input = refl
 input_once n k status.NoMemory input = refl
 input_once n k status.Usage input = refl
@@ -203,13 +203,13 @@ input_once n k status.NotHeap input = refl
 input_once n k (status.Damaged at) input = absurd input
 input_once n k (status.TooSmall size need) input = refl
 
-pub command_once : (n k : ℕ) (e : CommandError) → OpensOnce n k k (command_status e)
+pub command_once : (n k : ℕ) (e : CommandError) → CallsOfOneOpening n k k (command_status e)
 command_once n k asking.NoMemory = refl
 command_once n k asking.Usage = refl
 
 -- What an opening of an image that is damaged at an address passed, by the status of its error.
 pub opens_once : (image : List ℕ) (before now : ℕ) (e : OpenError) (fault : IsWordFault image) → opening_refusals.IsToldOf e image
-    → ((s : Super) (batches : List (List Record)) (state : State) → IsReadable s batches state image → ErrorPasses (opening_calls s batches) before now e) → OpensOnce (fault_calls fault) before now (open_status e)
+    → ((s : Super) (batches : List (List Record)) (state : State) → IsReadable s batches state image → ErrorPasses (opening_calls s batches) before now e) → CallsOfOneOpening (fault_calls fault) before now (open_status e)
 opens_once image before now opening.NoMemory fault told passes = passes fault.1.0 fault.1.1 fault.1.2 fault.1.3
 opens_once image before now opening.NotHeap fault told passes = absurd (told fault.1.0 fault.1.3.roomy.replayed.log.super)
 opens_once image before now (opening.Damaged at) fault told passes = (passes fault.1.0 fault.1.1 fault.1.2 fault.1.3).ok

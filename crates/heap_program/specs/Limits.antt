@@ -39,14 +39,21 @@ pub record IsUnderWayIn (first : Core) (events : List Event) (c d : Core) : Type
   pub leads : IsRun (after c Flip) since d
   pub alone : BeganNone (after c Flip) d
 
--- What is appended from c to d takes at most 16 bytes for each word that a collection copies, 12 for each reference that a scan leads to the current
--- space, and 6 to begin and to end. The records of transactions, and the gates and lengths of batches, are not counted.
+-- What a collection appends from c to d takes at most 16 bytes for each word that it copies, 12 for each reference that a scan leads to the current
+-- space, and 6 to begin and to end. The gates and lengths of batches are not counted.
 abbrev pub TakesFewBytes : Core → Core → Type 0
 TakesFewBytes c d = sum_by bytes_of (appended c d) ≤ 16 * sum_by moved_by_record (appended c d) + 12 * sum_by led_by (appended c d) + 6
 
 -- A scan of d is answered as one that ends a collection, unless the disk failed before, or the log has no room for the end.
 abbrev pub EndsCollection : Core → Reply → Type 0
 EndsCollection d answered = (used : ℕ) × (answered ≡ reply_of (refusal_of (account d.history).failed (log_refusal d Scan)) (reply.Collected used))
+
+-- A scan where a collection runs goes over a page, or ends the collection, or is refused.
+abbrev pub GoesOn : Reply → Type 0
+GoesOn (reply.Scanned page objects words) = Unit {0}
+GoesOn (reply.Collected used) = Unit {0}
+GoesOn (reply.Refused why) = Unit {0}
+GoesOn answered = ⊥
 
 -- Events led from a core that was just opened to the last one, and each step of that run kept to this.
 pub record KeepsLimits (first : Core) (made : List Event) (last : Core) : Type 0 where
@@ -61,6 +68,8 @@ pub record KeepsLimits (first : Core) (made : List Event) (last : Core) : Type 0
   pub exact : (c d : Core) (used : ℕ) → (here : IsStepIn first made last d Scan (reply.Collected used)) → IsUnderWayIn first here.before c d → CopiesJust c d used
   -- while no collection begins, scans go once through the pages
   pub pages : (c d : Core) (before between behind : List Event) → made ≡ before ++ between ++ behind → IsRun first before c → IsRun c between d → BeganNone c d → GoesThrough c d
+  -- none of them is idle while a collection runs, so of one scan more than a space has pages one ends it or is refused;
+  pub goes_on : (d : Core) (answered : Reply) → IsStepIn first made last d Scan answered → IsCollecting d → GoesOn answered
   -- and where one runs when as many scans went over a page as a space has pages, the next scan ends it
   pub ended : (c d : Core) (before between : List Event) (answered : Reply) → (here : IsStepIn first made last d Scan answered) → here.before ≡ before ++ between → IsRun first before c → IsRun c between d
       → BeganNone c d → IsCollecting d → c.pages ≤ length (scanned_pages (since c d)) → EndsCollection d answered

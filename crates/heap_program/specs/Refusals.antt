@@ -23,12 +23,12 @@ IsWordFault image = (address : ℕ) × IsFaultAt (Address address) image
 abbrev pub fault_calls : {image : List ℕ} → IsWordFault image → ℕ
 fault_calls fault = opening_calls fault.1.0 fault.1.1
 
--- A run opened an image once, which takes n writes and syncs: it made all of them where it tells what is damaged there, no more of them where the
--- disk failed, and else none.
-abbrev pub OpensOnce : ℕ → ℕ → ℕ → Status → Type 0
-OpensOnce n before now (status.Damaged at) = now ≡ counted n before
-OpensOnce n before now status.DiskFault = (k : ℕ) × (k ≤ n) × (now ≡ counted k before)
-OpensOnce n before now result = now ≡ before
+-- A run made the writes and syncs of one opening, which are n: all of them where it tells what is damaged there, no more of them where the disk
+-- failed, and else none.
+abbrev pub CallsOfOneOpening : ℕ → ℕ → ℕ → Status → Type 0
+CallsOfOneOpening n before now (status.Damaged at) = now ≡ counted n before
+CallsOfOneOpening n before now status.DiskFault = (k : ℕ) × (k ≤ n) × (now ≡ counted k before)
+CallsOfOneOpening n before now result = now ≡ before
 
 -- A status that speaks of the image tells what is so.
 abbrev pub IsToldOf : Status → List ℕ → Type 0

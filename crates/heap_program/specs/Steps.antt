@@ -16,8 +16,8 @@ use Rattle.heap_model.specs.CoreCrash.{IsCommitPrefix}
 use Rattle.heap_program.specs.Causes.{DiskRose, Unharmed}
 
 -- Why a step was cut short on a disk that is to stop: it is answered `diskfault` where the disk's faults and stops together rose in that step,
--- and nowhere else; so what is answered `stopped` never reached the disk. That is, if the disk doesn't stop by itself, only where it had let n
--- writes and syncs through since the start.
+-- and nowhere else; so no call of an event that is answered `stopped` failed in the disk itself. It is answered `stopped`, if the disk doesn't stop by
+-- itself, only where that had let n writes and syncs through since the start.
 pub record StopCause {D : Type 0} (g : Ghosts D) (n : ℕ) (start before after : D) (reply : Reply) : Type 0 where
   pub kept : g.faults before + g.stops before ≤ g.faults after + g.stops after
   pub failed : reply ≡ Refused DiskFault → DiskRose (g.faults before) (g.stops before) (g.faults after) (g.stops after)

@@ -24,7 +24,7 @@ ghost use Rattle.heap_program.specs.Load.{RunsLoad, SummarizesSome};
 ghost use Rattle.heap_program.specs.Headline.{OfTold, PrintsRun, IsOfOwnImage, Runs, IsUntouching, EndsUnread, EndsUnmade, BlamesNoImage, RestartsDisk, graph_text, stop_after};
 ghost use Rattle.heap_program.specs.Playable.{IsReadFrom};
 ghost use Rattle.heap_recovery.specs.Faults.{IsLeftOf};
-ghost use Rattle.heap_program.specs.Refusals.{IsFault, IsWordFault, OpensOnce, fault_calls, IsToldOf, IsToldOfEach, EndsRefused, IsLeftAlone, LeavesAlone};
+ghost use Rattle.heap_program.specs.Refusals.{IsFault, IsWordFault, CallsOfOneOpening, fault_calls, IsToldOf, IsToldOfEach, EndsRefused, IsLeftAlone, LeavesAlone};
 ghost use Rattle.script_text.specs.Script.{script};
 
 use crate::loading::run_load;
@@ -113,7 +113,7 @@ pub fn run_alone<D: Disk, S: Source, K: Sink>(
     ensures keeps_log { OfTold D.tells (D.bytes disk) (D.may_leave disk) ((asked : Command) → command (map string_bytes words.now) ≡ Some asked → makes asked ≡ None
         → IsWordFault (D.bytes disk) → LeavesOnly D.moment D.left_since disk result.1 (IsLeftOf (D.bytes disk))) }
     // Where no stop was asked, a run makes the writes and syncs of one opening of it: all where it tells the damage, and no more where the disk fails.
-    ensures opens_once { IsTrue D.tells → (asked : Command) → command (map string_bytes words.now) ≡ Some asked → makes asked ≡ None → restarts_of asked ≡ 0 → (fault : IsWordFault (D.bytes disk)) → OpensOnce (fault_calls fault) (D.passed disk) (D.passed result.1) result.0 }
+    ensures opens_once { IsTrue D.tells → (asked : Command) → command (map string_bytes words.now) ≡ Some asked → makes asked ≡ None → restarts_of asked ≡ 0 → (fault : IsWordFault (D.bytes disk)) → CallsOfOneOpening (fault_calls fault) (D.passed disk) (D.passed result.1) result.0 }
     ensures refused { IsTrue D.tells → (asked : Command) → command (map string_bytes words.now) ≡ Some asked → makes asked ≡ None → (Rose (D.restarts disk) (D.restarts result.1) → restarts_of asked ≡ 0) → IsToldOf result.0 (D.bytes disk) }
     // With a stop too, such a status tells what is so of the disk that is given back: of what it reads as, and of each image that a crash may leave.
     ensures refused_at_end { OfTold D.tells (D.bytes disk) (D.may_leave disk) (IsToldOfEach result.0 (D.may_leave result.1)) }

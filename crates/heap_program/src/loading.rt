@@ -9,7 +9,7 @@ ghost use Rattle.heap_program.specs.Causes.{StreamCause, RunsDisk, IsOpenedEnd};
 ghost use Rattle.heap_program.specs.Commands.{IsEndOf};
 ghost use Rattle.heap_program.specs.Headline.{OfTold, IsEndOfPlay, CanPlay, IsUntouching, EndsUnmade, BlamesNoImage};
 ghost use Rattle.heap_program.specs.Load.{PlaysLoad, RunsLoad, SummarizesSome};
-ghost use Rattle.heap_program.specs.Refusals.{IsFault, IsWordFault, OpensOnce, fault_calls, IsToldOf, IsToldOfEach, EndsRefused, IsLeftAlone, LeavesAlone};
+ghost use Rattle.heap_program.specs.Refusals.{IsFault, IsWordFault, CallsOfOneOpening, fault_calls, IsToldOf, IsToldOfEach, EndsRefused, IsLeftAlone, LeavesAlone};
 ghost use Rattle.heap_program.specs.Stored.{IsStored, stored_core, stored_calls};
 ghost use Rattle.heap_recovery.specs.Faults.{IsLeftOf};
 
@@ -57,7 +57,7 @@ pub fn run_load<D: Disk, K: Sink>(
     ensures sound { OfTold D.tells (D.bytes disk) (D.may_leave disk) ((pages : ℕ) → fresh ≡ Some pages → BlamesNoImage result.0) }
     ensures keeps_fault { OfTold D.tells (D.bytes disk) (D.may_leave disk) (fresh ≡ None → (expected : Status) → IsFault expected (D.bytes disk) → LeavesOnly D.moment D.left_since disk result.1 (IsFault expected)) }
     ensures keeps_log { OfTold D.tells (D.bytes disk) (D.may_leave disk) (fresh ≡ None → IsWordFault (D.bytes disk) → LeavesOnly D.moment D.left_since disk result.1 (IsLeftOf (D.bytes disk))) }
-    ensures opens_once { IsTrue D.tells → fresh ≡ None → (fault : IsWordFault (D.bytes disk)) → OpensOnce (fault_calls fault) (D.passed disk) (D.passed result.1) result.0 }
+    ensures opens_once { IsTrue D.tells → fresh ≡ None → (fault : IsWordFault (D.bytes disk)) → CallsOfOneOpening (fault_calls fault) (D.passed disk) (D.passed result.1) result.0 }
 {
     match fresh {
         None => load_whole(alloc, disk, seed, count, sink),
@@ -93,7 +93,7 @@ fn load_whole<D: Disk, K: Sink>(
     ensures left_alone { IsTrue D.tells → (expected : Status) → IsFault expected (D.bytes disk) → IsLeftAlone expected → LeavesAlone D.Disk disk result.1 }
     ensures keeps_fault { IsTrue D.tells → Only (D.bytes disk) (D.may_leave disk) → (expected : Status) → IsFault expected (D.bytes disk) → LeavesOnly D.moment D.left_since disk result.1 (IsFault expected) }
     ensures keeps_log { IsTrue D.tells → Only (D.bytes disk) (D.may_leave disk) → IsWordFault (D.bytes disk) → LeavesOnly D.moment D.left_since disk result.1 (IsLeftOf (D.bytes disk)) }
-    ensures opens_once { IsTrue D.tells → (fault : IsWordFault (D.bytes disk)) → OpensOnce (fault_calls fault) (D.passed disk) (D.passed result.1) result.0 }
+    ensures opens_once { IsTrue D.tells → (fault : IsWordFault (D.bytes disk)) → CallsOfOneOpening (fault_calls fault) (D.passed disk) (D.passed result.1) result.0 }
 {
     let mut heap = match Heap::open(alloc, disk) {
         Ok(heap) => heap,

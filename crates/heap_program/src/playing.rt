@@ -11,7 +11,7 @@ ghost use Rattle.heap_program.specs.Causes.{StreamCause, RunsDisk, IsInputError,
 ghost use Rattle.heap_program.specs.Headline.{OfTold, IsPlayed, IsEndOfPlay, PrintsRun, PrintsSome, IsOfImage, IsOfOwnImage, Runs, CanPlay, IsUntouching, EndsUnread, EndsUnmade, BlamesNoImage, RestartsDisk, restarts_asked, starts_asked, stop_after};
 ghost use Rattle.heap_program.specs.Playable.{IsScript, IsReadFrom};
 ghost use Rattle.heap_recovery.specs.Faults.{IsLeftOf};
-ghost use Rattle.heap_program.specs.Refusals.{IsFault, IsWordFault, OpensOnce, fault_calls, IsToldOf, IsToldOfEach, EndsRefused, IsLeftAlone, LeavesAlone};
+ghost use Rattle.heap_program.specs.Refusals.{IsFault, IsWordFault, CallsOfOneOpening, fault_calls, IsToldOf, IsToldOfEach, EndsRefused, IsLeftAlone, LeavesAlone};
 ghost use Rattle.heap_program.specs.Stored.{IsStored, stored_core, stored_calls};
 ghost use Rattle.heap_model.specs.Ending.{all_events};
 ghost use Rattle.heap_program.specs.Output.{early_end};
@@ -75,8 +75,8 @@ pub fn run_play<D: Disk, S: Source, K: Sink>(
     ensures sound { OfTold D.tells (D.bytes disk) (D.may_leave disk) ((pages : ℕ) → fresh ≡ Some pages → BlamesNoImage result.0) }
     ensures keeps_fault { OfTold D.tells (D.bytes disk) (D.may_leave disk) (fresh ≡ None → (expected : Status) → IsFault expected (D.bytes disk) → LeavesOnly D.moment D.left_since disk result.1 (IsFault expected)) }
     ensures keeps_log { OfTold D.tells (D.bytes disk) (D.may_leave disk) (fresh ≡ None → IsWordFault (D.bytes disk) → LeavesOnly D.moment D.left_since disk result.1 (IsLeftOf (D.bytes disk))) }
-    // Where no stop was asked, such an image is opened once.
-    ensures opens_once { IsTrue D.tells → fresh ≡ None → stop ≡ None → (fault : IsWordFault (D.bytes disk)) → OpensOnce (fault_calls fault) (D.passed disk) (D.passed result.1) result.0 }
+    // Where no stop was asked, the writes and syncs are those of one opening of such an image.
+    ensures opens_once { IsTrue D.tells → fresh ≡ None → stop ≡ None → (fault : IsWordFault (D.bytes disk)) → CallsOfOneOpening (fault_calls fault) (D.passed disk) (D.passed result.1) result.0 }
 {
     let script = match read_input(alloc, source) {
         Ok(script) => script,
@@ -117,7 +117,7 @@ fn play_script<D: Disk, K: Sink>(
     // At each moment a crash leaves an image with the same fault.
     ensures keeps_fault { IsTrue D.tells → Only (D.bytes disk) (D.may_leave disk) → (expected : Status) → IsFault expected (D.bytes disk) → LeavesOnly D.moment D.left_since disk result.1 (IsFault expected) }
     ensures keeps_log { IsTrue D.tells → Only (D.bytes disk) (D.may_leave disk) → IsWordFault (D.bytes disk) → LeavesOnly D.moment D.left_since disk result.1 (IsLeftOf (D.bytes disk)) }
-    ensures opens_once { IsTrue D.tells → stop ≡ None → (fault : IsWordFault (D.bytes disk)) → OpensOnce (fault_calls fault) (D.passed disk) (D.passed result.1) result.0 }
+    ensures opens_once { IsTrue D.tells → stop ≡ None → (fault : IsWordFault (D.bytes disk)) → CallsOfOneOpening (fault_calls fault) (D.passed disk) (D.passed result.1) result.0 }
 {
     match stop {
         None => play_whole(alloc, disk, script, sink),
@@ -160,7 +160,7 @@ fn play_whole<D: Disk, K: Sink>(
     ensures left_alone { IsTrue D.tells → (expected : Status) → IsFault expected (D.bytes disk) → IsLeftAlone expected → LeavesAlone D.Disk disk result.1 }
     ensures keeps_fault { IsTrue D.tells → Only (D.bytes disk) (D.may_leave disk) → (expected : Status) → IsFault expected (D.bytes disk) → LeavesOnly D.moment D.left_since disk result.1 (IsFault expected) }
     ensures keeps_log { IsTrue D.tells → Only (D.bytes disk) (D.may_leave disk) → IsWordFault (D.bytes disk) → LeavesOnly D.moment D.left_since disk result.1 (IsLeftOf (D.bytes disk)) }
-    ensures opens_once { IsTrue D.tells → (fault : IsWordFault (D.bytes disk)) → OpensOnce (fault_calls fault) (D.passed disk) (D.passed result.1) result.0 }
+    ensures opens_once { IsTrue D.tells → (fault : IsWordFault (D.bytes disk)) → CallsOfOneOpening (fault_calls fault) (D.passed disk) (D.passed result.1) result.0 }
 {
     let mut heap = match Heap::open(alloc, disk) {
         Ok(heap) => heap,

@@ -6,4 +6,5 @@ pub mod graphs;
 pub mod histories;
 pub mod images;
 pub mod limits;
+pub mod numbers;
 pub mod scripts;

@@ -13,7 +13,7 @@ ghost use Rattle.heap_program.specs.Causes.{DiskRose, StreamCause, RunsDisk, IsO
 ghost use Rattle.heap_program.specs.Headline.{OfTold, IsEndOfPlay, IsOfImage, IsOfOwnImage, CanPlay, IsUntouching, EndsUnread, EndsUnmade, BlamesNoImage};
 ghost use Rattle.heap_program.specs.Play.{IsRunning};
 ghost use Rattle.heap_program.specs.Playable.{IsScript, IsReadFrom};
-ghost use Rattle.heap_program.specs.Refusals.{IsFault, IsWordFault, OpensOnce, fault_calls, IsToldOf, IsToldOfEach, EndsRefused, IsLeftAlone, LeavesAlone};
+ghost use Rattle.heap_program.specs.Refusals.{IsFault, IsWordFault, CallsOfOneOpening, fault_calls, IsToldOf, IsToldOfEach, EndsRefused, IsLeftAlone, LeavesAlone};
 ghost use Rattle.heap_program.specs.Stored.{IsStored, stored_core, stored_calls};
 ghost use Rattle.heap_recovery.specs.Faults.{IsLeftOf};
 ghost use Rattle.script_text.specs.declared.line.Line.{Line};
@@ -76,7 +76,7 @@ pub fn run_threads<D: Disk + Send, S: Source, K: Sink, G: Gate + Sync, R: Thread
     ensures sound { OfTold D.tells (D.bytes disk) (D.may_leave disk) ((pages : ℕ) → fresh ≡ Some pages → BlamesNoImage result.0) }
     ensures keeps_fault { OfTold D.tells (D.bytes disk) (D.may_leave disk) (fresh ≡ None → (expected : Status) → IsFault expected (D.bytes disk) → LeavesOnly D.moment D.left_since disk result.1 (IsFault expected)) }
     ensures keeps_log { OfTold D.tells (D.bytes disk) (D.may_leave disk) (fresh ≡ None → IsWordFault (D.bytes disk) → LeavesOnly D.moment D.left_since disk result.1 (IsLeftOf (D.bytes disk))) }
-    ensures opens_once { IsTrue D.tells → fresh ≡ None → (fault : IsWordFault (D.bytes disk)) → OpensOnce (fault_calls fault) (D.passed disk) (D.passed result.1) result.0 }
+    ensures opens_once { IsTrue D.tells → fresh ≡ None → (fault : IsWordFault (D.bytes disk)) → CallsOfOneOpening (fault_calls fault) (D.passed disk) (D.passed result.1) result.0 }
 {
     let script = match read_input(alloc, source) {
         Ok(script) => script,
@@ -118,7 +118,7 @@ fn play_by_workers<D: Disk + Send, K: Sink, G: Gate + Sync, R: Threads + Wait + 
     ensures left_alone { IsTrue D.tells → (expected : Status) → IsFault expected (D.bytes disk) → IsLeftAlone expected → LeavesAlone D.Disk disk result.1 }
     ensures keeps_fault { IsTrue D.tells → Only (D.bytes disk) (D.may_leave disk) → (expected : Status) → IsFault expected (D.bytes disk) → LeavesOnly D.moment D.left_since disk result.1 (IsFault expected) }
     ensures keeps_log { IsTrue D.tells → Only (D.bytes disk) (D.may_leave disk) → IsWordFault (D.bytes disk) → LeavesOnly D.moment D.left_since disk result.1 (IsLeftOf (D.bytes disk)) }
-    ensures opens_once { IsTrue D.tells → (fault : IsWordFault (D.bytes disk)) → OpensOnce (fault_calls fault) (D.passed disk) (D.passed result.1) result.0 }
+    ensures opens_once { IsTrue D.tells → (fault : IsWordFault (D.bytes disk)) → CallsOfOneOpening (fault_calls fault) (D.passed disk) (D.passed result.1) result.0 }
 {
     match Heap::open(alloc, disk) {
         Ok(heap) => {

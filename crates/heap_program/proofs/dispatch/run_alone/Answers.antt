@@ -162,7 +162,7 @@ returns-in-Load-clause-complete g c tells only which is can script no_source no_
     let able = subst (λ (x : Command). CanRun x (g.D.Disk.extent c.args.disk) (g.D.Disk.bytes c.args.disk)) same can in
     end_done _ _ c.run_load.result.0 (c.run_load.ensures.complete tells only able) c.run_load.ensures.disk_fault.cause c.run_load.ensures.write_fault.cause no_disk no_sink
 
--- ---- an image that is damaged at an address is opened once
+-- ---- on an image that is damaged at an address it makes the writes and syncs of one opening
 
 pub returns-in-Err-clause-opens_once : goal.returns-in-Err-clause-opens_once
 returns-in-Err-clause-opens_once g c tells which is none unstopped fault = rw c.from.ensures (command_once (fault_calls fault) (g.D.Disk.passed c.args.disk) c.in-Err.e)

@@ -124,7 +124,7 @@ returns-in-Err-clause-keeps_log g c tells only fault = left_moments g.D.Disk (g.
 pub returns-in-Ok-clause-keeps_log : goal.returns-in-Ok-clause-keeps_log
 returns-in-Ok-clause-keeps_log g c tells only fault = absurd (c.in-Ok.ensures.damaged tells (Address fault.0) fault.1)
 
--- it was opened once
+-- it made the writes and syncs of one opening
 pub returns-in-Err-clause-opens_once : goal.returns-in-Err-clause-opens_once
 returns-in-Err-clause-opens_once g c tells fault =
     let d = g.D.Disk in
