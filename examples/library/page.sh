@@ -9,7 +9,7 @@ tar -C "$top" --exclude=out -c HANDLES crates.txt crates | tar -x || exit
 echo 'library_page: heap_core graph_model disk_model disk_file heap_io' >>crates.txt
 src=$room/crates/library_page/src
 mkdir -p "$src"
-cp "$here/main.rt" "$src" && "$here/blocks.py" "$src" || exit
+cp "$here/main.rt.txt" "$src/main.rt" && "$here/blocks.py" "$src" || exit
 
 (cd crates/library_page && rt try </dev/null) >"$room/printed" 2>"$room/said" || cat "$room/said" >&2
 lines=$(wc -l <"$src/first.out")
