@@ -1,6 +1,7 @@
 -- Each slot is empty.
-use Rattle.std.proofs.Common.{◌≡◌, None, length, ap, ◌∙◌, arith}
+use Rattle.std.proofs.Common.{◌≡◌, ◌+◌, None, length, ap, ◌∙◌, arith}
 use Rattle.std.proofs.lemmas.List.{length-replicate}
+use Rattle.log_machine.specs.declared.log_state.TheConstants.{LAST_NUMBER}
 use Rattle.txn_table.specs.Table.{TableState}
 use Rattle.txn_table.specs.Slots.{table_of}
 use Rattle.txn_table.proofs.SlotLaws.{all_idle}
@@ -15,5 +16,5 @@ invariant_of-result c =
 
 pub returns : goal.returns
 returns c =
-    ap (table_of c.args.next) c.loop.invariant
-    ∙ ap (λ m. let table : TableState = record { next = c.args.next; active = m } in table) (all_idle 1 c.loop.counter)
+    ap (table_of (LAST_NUMBER + 1)) c.loop.invariant
+    ∙ ap (λ m. let table : TableState = record { next = LAST_NUMBER + 1; active = m } in table) (all_idle 1 c.loop.counter)
