@@ -31,7 +31,7 @@ use Rattle.flip_laws.proofs.Lists.{ascend_raise}
 -- The copies are the same.
 
 -- the words of an object are its header, its birth and its fields
-object_parts : (words : List ℕ) (at n : ℕ) → object_at words at ≡ Some n → planned.words_to_copy words at ≡ words_to_copy words at
+object_parts : (words : List ℕ) (at n : ℕ) → object_at words at ≡ Some n → planned.object_words_at words at ≡ words_to_copy words at
 object_parts words at n is =
     let within = (object_header words at n is).1 in
     let there : suc (suc at) ≡ at + 2 = omega arith in
@@ -54,9 +54,9 @@ same_copies words to [] each = refl
 same_copies words to (at ∷ ats) each =
     let object = each at (Contains-head at ats) in
     let same = object_parts words at object.0 object.1 in
-    let size : length (planned.words_to_copy words at) ≡ taken_at words at = omega (arith, ap length same) in
+    let size : length (planned.object_words_at words at) ≡ taken_at words at = omega (arith, ap length same) in
     let copy : List ℕ → ObjectCopy = λ ws. record { from = at; to = to; words = ws } in
-    ap (λ (ws : List ℕ). copy ws ∷ copies_from words (to + length (planned.words_to_copy words at)) ats) same
+    ap (λ (ws : List ℕ). copy ws ∷ copies_from words (to + length (planned.object_words_at words at)) ats) same
     ∙ ap (λ (n : ℕ). copy (words_to_copy words at) ∷ copies_from words (to + n) ats) size
     ∙ ap (λ (cs : List ObjectCopy). copy (words_to_copy words at) ∷ cs) (same_copies words (to + taken_at words at) ats (λ a has. each a (Contains-rest at ats a has)))
 
@@ -106,8 +106,8 @@ laid_copies {s} {places} {words} laid behind to (at ∷ ats) within up among =
     let object = start_within laid at here in
     let n = object.fields in
     let close = object.below in
-    let copy : ObjectCopy = record { from = at; to = to; words = planned.words_to_copy words at } in
-    let size = length (planned.words_to_copy words at) in
+    let copy : ObjectCopy = record { from = at; to = to; words = planned.object_words_at words at } in
+    let size = length (planned.object_words_at words at) in
     let long : size ≡ 2 + n = object_words-length words at n object.object in
     let small = object_small words at n object.object in
     let others : (x : ℕ) → Contains ats x → Contains (addresses places) x = λ x has. among x (Contains-rest at ats x has) in

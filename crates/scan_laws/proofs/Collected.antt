@@ -91,7 +91,7 @@ object_recorded words at n is fit fields =
 -- The objects of the from-space.
 
 forwarded_on : {s : State} {k : Collection} {places remaining : Places} {words : List ℕ} → IsCollecting s k places remaining words → (b : ℕ) (t : Bool) → t ≡ true → StandsOrForwards words (addresses places) b t
-    → scanned.StandsOrForwards (spaces_of s) words b
+    → scanned.IsForwarded (spaces_of s) words b
 forwarded_on is b false moved none = absurd (cc moved)
 forwarded_on is b true moved (to, leads, has) =
     let within = start_within is.laid to has in
