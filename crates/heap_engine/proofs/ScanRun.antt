@@ -13,7 +13,7 @@ use Rattle.log_records.specs.declared.Record.{Record}
 use Rattle.log_records.specs.declared.Record.TheVariants.{Copy, Scan}
 use Rattle.log_records.specs.Record.{spelling, spellings}
 use Rattle.log_records.proofs.RecordLaws.{length-word_bytes, length-writes}
-use Rattle.log_machine.specs.Collecting.{can_move, can_hold, with_moved, with_copy, copied_in as copied_one, collecting_after}
+use Rattle.log_machine.specs.Collecting.{can_move, can_hold, with_moved, with_copy, copied_while as copied_one, collecting_after}
 use Rattle.log_machine.specs.Effect.{EachWritesBelow}
 use Rattle.log_machine.specs.Machine.{State, words_in}
 use Rattle.log_machine.specs.Sound.{IsConsistent}
