@@ -14,7 +14,7 @@ pub returns-clause-logged : goal.returns-clause-logged
 returns-clause-logged c =
     let log = c.args.log.now in
     let count : log_count c.append_all.new.self ≡ log_count log + length c.args.records.now = search rules in
-    still_lacking (log_count log) (c.records-first.result + 1) (log_count c.append_all.new.self) (cached c.args.cache.now) (cached c.apply_all.new.self) c.args.records.now c.requires.new (omega (arith, c.records-first.ensures))
+    still_lacking (log_count log) c.next_lsn-first.result (log_count c.append_all.new.self) (cached c.args.cache.now) (cached c.apply_all.new.self) c.args.records.now c.requires.new (omega (arith, c.next_lsn-first.ensures))
     count c.apply_all.ensures.redone
 
 pub returns-clause-spare : goal.returns-clause-spare

@@ -24,8 +24,8 @@ pages_are first lsn later old mid new scan write begins ends are is =
 pub apply-requires-clause-new : goal.apply-requires-clause-new
 apply-requires-clause-new c p =
     let count = log_count c.args.log.now in
-    let lacking = still_lacking count (c.records-first.result + 1) (count + length c.args.scan.now) (cached c.args.cache.now) (cached c.apply_all.new.self) c.args.scan.now c.requires.new (omega (arith, c.records-first.ensures)) refl c.apply_all.ensures.redone p in
-    omega (arith, lacking, c.records-first.ensures)
+    let lacking = still_lacking count c.next_lsn-first.result (count + length c.args.scan.now) (cached c.args.cache.now) (cached c.apply_all.new.self) c.args.scan.now c.requires.new (omega (arith, c.next_lsn-first.ensures)) refl c.apply_all.ensures.redone p in
+    omega (arith, lacking, c.next_lsn-first.ensures)
 
 pub apply-requires-clause-inside : goal.apply-requires-clause-inside
 apply-requires-clause-inside c =
@@ -36,8 +36,8 @@ apply-requires-clause-inside c =
 pub returns-clause-lsns : goal.returns-clause-lsns
 returns-clause-lsns c =
     let count = log_count c.args.log.now in
-    let are = pages_are (count + 1) (c.records-first.result + 1) (c.records-first.result + 1 + length c.args.scan.now) (cached c.args.cache.now) (cached c.apply_all.new.self) (cached c.apply.new.self) c.args.scan.now c.args.write.now
-    (omega (arith, c.records-first.ensures)) (omega (arith, c.records-first.ensures)) c.apply_all.ensures.redone c.apply.ensures.redone in
+    let are = pages_are (count + 1) c.next_lsn-first.result (c.next_lsn-first.result + length c.args.scan.now) (cached c.args.cache.now) (cached c.apply_all.new.self) (cached c.apply.new.self) c.args.scan.now c.args.write.now
+    (omega (arith, c.next_lsn-first.ensures)) (omega (arith, c.next_lsn-first.ensures)) c.apply_all.ensures.redone c.apply.ensures.redone in
     ap (λ (at : Pages). at.lsns) are
 
 pub returns-clause-size : goal.returns-clause-size
@@ -51,8 +51,8 @@ pub returns-clause-logged : goal.returns-clause-logged
 returns-clause-logged c =
     let count = log_count c.args.log.now in
     let all = c.args.scan.now ++ c.args.write.now ∷ [] in
-    let are = pages_are (count + 1) (c.records-first.result + 1) (c.records-first.result + 1 + length c.args.scan.now) (cached c.args.cache.now) (cached c.apply_all.new.self) (cached c.apply.new.self) c.args.scan.now c.args.write.now
-    (omega (arith, c.records-first.ensures)) (omega (arith, c.records-first.ensures)) c.apply_all.ensures.redone c.apply.ensures.redone in
+    let are = pages_are (count + 1) c.next_lsn-first.result (c.next_lsn-first.result + length c.args.scan.now) (cached c.args.cache.now) (cached c.apply_all.new.self) (cached c.apply.new.self) c.args.scan.now c.args.write.now
+    (omega (arith, c.next_lsn-first.ensures)) (omega (arith, c.next_lsn-first.ensures)) c.apply_all.ensures.redone c.apply.ensures.redone in
     let first : log_count c.append_all.new.self ≡ count + length c.args.scan.now = search rules in
     let last : log_count c.append.new.self ≡ log_count c.append_all.new.self + 1 = search rules in
     let now : log_count c.append.new.self ≡ count + length all = omega (arith, first, last, length-append c.args.scan.now (c.args.write.now ∷ [])) in

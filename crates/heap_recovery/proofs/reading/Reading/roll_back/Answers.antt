@@ -32,7 +32,7 @@ pub returns-clause-pages : goal.returns-clause-pages
 returns-clause-pages c =
     let old = cached c.args.self.now.cache in
     let state = c.args.self.now.state in
-    let first = c.records-first.result + 1 in
-    let is : first ≡ log_count c.args.self.now.log + 1 = omega (arith, c.records-first.ensures) in
+    let first = c.next_lsn-first.result in
+    let is : first ≡ log_count c.args.self.now.log + 1 = omega (arith, c.next_lsn-first.ensures) in
     let records : c.deref-2.result.now ≡ rollback state = c.deref-2.ensures.value ∙ c.in_ok-records.ensures.records in
     c.apply_all.ensures.redone ∙ ap (redo_all first old) records ∙ ap (λ (n : ℕ). redo_all n old (rollback state)) is
