@@ -161,6 +161,3 @@ room_left old new history event reply room kept (inr ready) ends = omega (arith,
 pub room_lacking : (m new : Memory) (history : List Entry) (event : Event) (room : ℕ) → (NeedsNoMemory m event → ⊥) → (65 < room) ⊎ IsReady m history event → entries_kept new history ≤ room
 room_lacking m new history event room lacks (inl more) = omega (arith, entries_few new history)
 room_lacking m new history event room lacks (inr ready) = absurd (lacks (ready_needs m history event ready))
-
--- What takes no memory by a core takes none by its engine.
-module _ (c : Core) (e : Engine) (is : IsMemory (memory e) (account c.history) c) where
