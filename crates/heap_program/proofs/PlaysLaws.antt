@@ -18,8 +18,8 @@ was_last faults mid faults' stops mids stops' first result before cause = record
 
 module _ {D : Type 0} (g : Ghosts D) where
   -- nothing was played
-  pub plays_none : {T : Type 0} (disk : D) (x : T) → PlaysDisk {T = T} g disk disk (Ok x)
-  plays_none disk x = record {
+  pub played_none : {T : Type 0} (disk : D) (x : T) → PlaysDisk {T = T} g disk disk (Ok x)
+  played_none disk x = record {
     extent = refl;
     origin = refl;
     cause = record { faults_kept = omega arith; stops_kept = omega arith; failed = λ is. absurd (cc is); stopped = λ is. absurd (cc is) };
@@ -27,8 +27,8 @@ module _ {D : Type 0} (g : Ghosts D) where
   }
 
   -- one play more, whose answer is told
-  pub plays_on : {S T : Type 0} (old mid new : D) (first : Result S DiskError) (result : Result T DiskError) → PlaysDisk g old mid first → PlaysDisk g mid new result → PlaysDisk g old new result
-  plays_on old mid new first result before play = record {
+  pub played_on : {S T : Type 0} (old mid new : D) (first : Result S DiskError) (result : Result T DiskError) → PlaysDisk g old mid first → PlaysDisk g mid new result → PlaysDisk g old new result
+  played_on old mid new first result before play = record {
     extent = play.extent ∙ before.extent;
     origin = play.origin ∙ before.origin;
     cause = was_last (g.faults old) (g.faults mid) (g.faults new) (g.stops old) (g.stops mid) (g.stops new) first result before.cause play.cause;

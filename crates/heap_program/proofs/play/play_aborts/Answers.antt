@@ -1,5 +1,5 @@
 use Rattle.std.proofs.Common.{◌≡◌, ℕ, ◌+◌, ◌-◌, ◌≤◌, ◌∙◌, List, Ok, Err, rules, refl, subst, ap, arith}
-use Rattle.heap_program.proofs.PlaysLaws.{plays_none, plays_on}
+use Rattle.heap_program.proofs.PlaysLaws.{played_none, played_on}
 use Rattle.graph_model.specs.declared.event.Event.{Event}
 use Rattle.core_laws.proofs.Run.Aborting.{aborting_until, until_last}
 use Rattle.heap_core.specs.HeapState.{heap_disk}
@@ -17,7 +17,7 @@ all_aborted s c low high = let last : s - 1 ≡ 32 = omega arith in ap (λ (n : 
 
 pub loop-s-init : goal.loop-s-init
 loop-s-init g c = record {
-  disk = plays_none g.D.Disk (heap_disk c.args.heap.now) tt;
+  disk = played_none g.D.Disk (heap_disk c.args.heap.now) tt;
   sink = omega arith;
   core = λ core is running. core_none core c.args.heap.now g.K.Sink.tells (g.K.Sink.written c.args.sink.now) is;
   plays = λ tells of core is running. plays_none of core c.args.heap.now g.K.Sink.tells (g.K.Sink.written c.args.sink.now) is;
@@ -50,7 +50,7 @@ loop-s-preserved g c =
     let s = c.loop-s.s in
     let same : s ≡ (s + 1) - 1 = omega arith in
     record {
-      disk = plays_on g.D.Disk _ _ _ (Ok tt) (Ok tt) i.disk c.in_ok-play_abort.ensures.disk;
+      disk = played_on g.D.Disk _ _ _ (Ok tt) (Ok tt) i.disk c.in_ok-play_abort.ensures.disk;
       sink = omega (arith, i.sink, c.in_ok-play_abort.ensures.sink.kept);
       core = λ core is running.
           let P : ℕ → Type 0 = λ n. PlaysCore core (aborting_until n core) c.play_abort.new.heap k.tells (k.written c.args.sink.now) (k.written c.play_abort.new.sink) (Ok tt) in

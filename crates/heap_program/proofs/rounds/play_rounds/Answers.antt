@@ -2,7 +2,7 @@ use Rattle.std.proofs.Common.{◌≡◌, List, [], ◌++◌, Ok, Err, rules, ref
 use Rattle.std.specs.List.{AllByRecursion}
 use Rattle.std.proofs.lemmas.List.{append-nil}
 use Rattle.std.proofs.lemmas.Grind.{flat_map-append}
-use Rattle.heap_program.proofs.PlaysLaws.{plays_none, plays_on}
+use Rattle.heap_program.proofs.PlaysLaws.{played_none, played_on}
 use Rattle.graph_model.specs.History.{IsOfSession}
 use Rattle.heap_core.specs.HeapState.{heap_disk}
 use Rattle.heap_model.proofs.ListLaws.{AllByRecursion-behind}
@@ -21,7 +21,7 @@ pub rounds-init : goal.rounds-init
 rounds-init g c = (
   [],
   refl,
-  plays_none g.D.Disk (heap_disk c.args.heap.now) tt,
+  played_none g.D.Disk (heap_disk c.args.heap.now) tt,
   omega arith,
   (λ core is running. core_none core c.args.heap.now g.K.Sink.tells (g.K.Sink.written c.args.sink.now) is),
   (λ tells of core is running. plays_none of core c.args.heap.now g.K.Sink.tells (g.K.Sink.written c.args.sink.now) is),
@@ -52,7 +52,7 @@ rounds-preserved g c =
     let after = k.written c.play_lines.new.sink in (
       so_far.0 ++ round,
       parts,
-      plays_on g.D.Disk _ _ _ (Ok tt) (Ok tt) so_far.2 c.in_ok-play_lines.ensures.disk,
+      played_on g.D.Disk _ _ _ (Ok tt) (Ok tt) so_far.2 c.in_ok-play_lines.ensures.disk,
       omega (arith, so_far.3, c.in_ok-play_lines.ensures.sink.kept),
       (λ core is running. core_round so_far.0 round rest all parts core (record { running = running; sessions = c.requires }) mid new k.tells before between after (Ok tt) (so_far.4 core is running)
           (λ d is_core is_ready. subst (λ (ls : List Line). PlaysCore d (events ls) new k.tells between after (Ok tt)) c.deref.ensures.value (c.in_ok-play_lines.ensures.core d is_core is_ready.running))),

@@ -1,6 +1,6 @@
 use Rattle.std.proofs.Common.{◌∙◌, ◌≡◌, ℕ, ◌++◌, List, false, Some, None, Ok, Err, refl, rules, sym, ap, subst, arith}
 use Rattle.std.specs.Prelude.{IsTrue, IsFalse}
-use Rattle.heap_program.proofs.PlaysLaws.{plays_none, plays_on}
+use Rattle.heap_program.proofs.PlaysLaws.{played_none, played_on}
 use Rattle.heap_core.specs.HeapState.{heap_disk}
 use Rattle.heap_program.specs.declared.play.Halt.TheVariants as halt
 use Rattle.heap_program.specs.StatusOf.{write_halt}
@@ -27,7 +27,7 @@ loop-turn-init g c =
     let left = c.args.reader.now.held ++ s.left c.args.source.now in
     let w = k.written c.args.sink.now in
     record {
-      disk = plays_none g.D.Disk (heap_disk c.args.heap.now) tt;
+      disk = played_none g.D.Disk (heap_disk c.args.heap.now) tt;
       source = omega arith;
       sink = omega arith;
       few = omega arith;
@@ -156,7 +156,7 @@ loop-turn-preserved g c =
           let heap = b.answer.new.heap in
           let after = k.written b.answer.new.sink in
           rw (b.heap-is, b.sink-is) (record {
-            disk = plays_on g.D.Disk _ _ _ (Ok tt) (Ok tt) l.invariant.disk b.in_ok-answer-in-Line-2.ensures.disk;
+            disk = played_on g.D.Disk _ _ _ (Ok tt) (Ok tt) l.invariant.disk b.in_ok-answer-in-Line-2.ensures.disk;
             source = omega (arith, l.invariant.source, c.next.ensures.kept);
             sink = omega (arith, l.invariant.sink, b.in_ok-answer-in-Line-2.ensures.sink.kept);
             few = omega (arith, l.invariant.few);
