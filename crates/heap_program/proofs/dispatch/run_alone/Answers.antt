@@ -177,3 +177,6 @@ pub returns-in-Load-clause-opens_once : goal.returns-in-Load-clause-opens_once
 returns-in-Load-clause-opens_once g c tells which is none unstopped fault =
     let same : which ≡ asked.Load c.in-Load.seed c.in-Load.count c.in-Load.fresh = cc (is, c.in-Ok.ensures.read, c.in-Load.is) in
     c.run_load.ensures.opens_once tells (load_made c.in-Load.seed c.in-Load.count c.in-Load.fresh (subst (λ (x : Command). makes x ≡ None) same none)) fault
+
+pub returns-in-Graph-clause-opens_once : goal.returns-in-Graph-clause-opens_once
+returns-in-Graph-clause-opens_once g c tells which is none unstopped fault = c.run_graph.ensures.opens_once tells fault

@@ -50,3 +50,6 @@ returns-in-Ok-clause-sound g c tells only pages is =
 -- the heap that was made is durable
 pub returns-in-Ok-clause-refused_at_end : goal.returns-in-Ok-clause-refused_at_end
 returns-in-Ok-clause-refused_at_end g c tells only = c.load_whole-in-Ok.ensures.refused_at_end tells (c.in-Ok.ensures.made tells).1
+
+pub returns-in-None-clause-opens_once : goal.returns-in-None-clause-opens_once
+returns-in-None-clause-opens_once g c tells unmade fault = c.load_whole.ensures.opens_once tells fault

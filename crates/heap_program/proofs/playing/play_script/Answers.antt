@@ -10,3 +10,6 @@ returns-in-Some-clause-played g c tells stored only = rw c.in-Some.is (c.play_st
 -- a stop was asked, so the disk was not started again
 pub returns-in-Some-clause-refused : goal.returns-in-Some-clause-refused
 returns-in-Some-clause-refused g c tells unstarted = c.play_stopped.ensures.refused tells (λ rose. let never : None ≡ Some c.in-Some.stop = sym (unstarted rose) ∙ c.in-Some.is in cc never)
+
+pub returns-in-None-clause-opens_once : goal.returns-in-None-clause-opens_once
+returns-in-None-clause-opens_once g c tells unstopped fault = c.play_whole.ensures.opens_once tells fault

@@ -109,3 +109,6 @@ returns-in-Err-clause-keeps_log g c tells only none fault =
 -- a script that was bad or could not be read made no call
 pub returns-in-Err-clause-opens_once : goal.returns-in-Err-clause-opens_once
 returns-in-Err-clause-opens_once g c tells none unstopped fault = input_once (fault_calls fault) (g.D.Disk.passed c.args.disk) _ c.in-Err.ensures.status
+
+pub returns-in-None-clause-opens_once : goal.returns-in-None-clause-opens_once
+returns-in-None-clause-opens_once g c tells unmade unstopped fault = c.play_script.ensures.opens_once tells unstopped fault

@@ -119,3 +119,6 @@ returns-clause-headline g c tells only =
 -- a script that was bad or could not be read made no call
 pub returns-in-Err-clause-opens_once : goal.returns-in-Err-clause-opens_once
 returns-in-Err-clause-opens_once g c tells none fault = input_once (fault_calls fault) (g.D.Disk.passed c.args.disk) _ c.in-Err.ensures.status
+
+pub returns-in-None-clause-opens_once : goal.returns-in-None-clause-opens_once
+returns-in-None-clause-opens_once g c tells unmade fault = c.play_by_workers.ensures.opens_once tells fault
