@@ -1,4 +1,4 @@
-use Rattle.std.proofs.Common.{◌≡◌, ℕ, Option, Some, refl, ap, ◌∙◌, subst}
+use Rattle.std.proofs.Common.{◌≡◌, ℕ, Option, None, Some, refl, ap, ◌∙◌, subst}
 use Rattle.std.specs.Prelude.{IfSome}
 use Rattle.command_words.specs.declared.commands.Command.TheVariants as asked
 use Rattle.command_words.specs.declared.commands.Command.{Command}
@@ -46,3 +46,13 @@ pub returns-in-Err-NoMemory-clause-keeps_log : goal.returns-in-Err-NoMemory-clau
 returns-in-Err-NoMemory-clause-keeps_log g c tells only asked is none fault =
     let now = (g.met.D.Disk g.world.𝓛 g.world.𝓜 g.world.𝓡 ((λ s x. x), (λ x. x), (λ x. x), λ x. x)).only_now in
     untouched_log g.D.Disk c.args.disk only (λ image since. now tells c.args.disk image since) fault
+
+-- where no heap is made, no pages are asked for
+threads_made : (fresh : Option ℕ) (tries : ℕ) → makes (asked.Threads fresh tries) ≡ None → fresh ≡ None
+threads_made None tries none = refl
+threads_made (Some pages) tries none = cc
+
+pub returns-in-Ok-Threads-clause-opens_once : goal.returns-in-Ok-Threads-clause-opens_once
+returns-in-Ok-Threads-clause-opens_once g c tells which is none unstopped fault =
+    let same : which ≡ asked.Threads c.in-Ok-Threads.fresh c.in-Ok-Threads.tries = cc (is, c.in-Ok-Threads.ensures.read, c.in-Ok-Threads.field-0-is) in
+    c.run_threads.ensures.opens_once tells (threads_made c.in-Ok-Threads.fresh c.in-Ok-Threads.tries (subst (λ (x : Command). makes x ≡ None) same none)) fault
