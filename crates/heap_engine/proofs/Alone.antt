@@ -69,7 +69,7 @@ alone_settled area words undo address is f has =
     let all = All-from_recursion P (written_fields undo) (none_counted words (written_fields undo) none) has.0 f has.1 in
     subst P has.2 all
 
--- what the writes tell, of which the newest stands last
+-- what the writes say, of which the newest stands last
 pub alone_is : (area : AreaState) (words : List ℕ) (us undo : List UndoEntry) (address : ℕ) → reverse us ≡ undo
     → IsTrue (list_all (is_settled words) us) ↔ (seal_records area words undo address ≡ Commit area.transaction ∷ [])
 alone_is area words us undo address is =
@@ -83,7 +83,7 @@ alone_is area words us undo address is =
           list_all-from_AllPass (is_settled words) us (All-from_recursion P us (subst (AllByRecursion P) back each)),
     )
 
--- A transaction that is told of.
+-- A transaction, as it is seen.
 pub alone_told : (m : Memory) (o : Option TransactionState) (b : Bool) (words : List ℕ) (us : List UndoEntry) → IsSome o → IfSome o (λ t. reverse us ≡ t.undo) → words ≡ m.words → b ≡ list_all (is_settled words) us
     → IsTrue b ↔ SealsAlone m o
 alone_told m None b words us some undo is told = absurd (cc some)

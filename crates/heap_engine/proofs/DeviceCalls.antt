@@ -51,7 +51,7 @@ pub hand_calls : (n : ℕ) (p : List Record) → n ≡ 4 + length (spellings p) 
 hand_calls n [] is = ap (λ (k : ℕ). if nat_lt 4 k then 4 else 0) is
 hand_calls n (r ∷ rs) is = ap (λ b. cond b 4 0) (lt-ltb 4 n (omega (arith, is, some_spellings r rs)))
 
--- a force makes four calls where something waits
+-- a force makes four calls if something is pending
 pub force_passes : (c : Core) (log : Log) (before now : ℕ) (result : Result (Unit {0}) DiskError) → IsValid c → Keeps log c.batches c.pending
     → Passes (if is_waiting log then 4 else 0) before now result → Passes (calls c Force) before now result
 force_passes c log before now result valid keeps passes =

@@ -25,7 +25,7 @@ ends_aborted old new s aborted = record {
   sealed = omega (arith, aborted.left.sealed);
 }
 
--- the end of a transaction that is there is granted
+-- the end of an active transaction is granted
 pub ends_granted : (o : Option TransactionState) (reply : Reply) → IsSome o → reply ≡ reply_of (end_refusal o) Aborted → reply ≡ Aborted
 ends_granted None reply some is = absurd (cc some)
 ends_granted (Some t) reply some is = is

@@ -72,7 +72,7 @@ same_disk : (o : Option Refusal) (c : Core) (event : Event) → (AsksDisk event 
 same_disk (Some why) c event other = all_same c
 same_disk None c event other = same_done c event other
 
--- the names of objects are their births behind an event, if they were before
+-- the names of objects are their births after an event, if they were before
 pub born_after : (c : Core) (event : Event) → IsTrue c.born → IsTrue (after c event).born
 born_after c event born = (same_step c (after c event) event (answer c event) (inl (refl, refl))).born ∙ born
 
@@ -140,7 +140,7 @@ disk_keeps s c image may_leave disk sound d left =
     crash_law c s c.batches disk.stored sound disk.born disk.logged.words (prefixes_on c c.batches disk.stored disk.logged (inl refl)) (inl refl) disk.of d
     (subst (λ (x : List ℕ). Holds s c.batches disk.stored x) (sym (disk.only d left)) disk.held)
 
--- and the bytes behind its plan
+-- and the bytes past its plan
 pub disk_leaves : (s : Super) (c : Core) (image : List ℕ) (may_leave : List ℕ → Type 0) → OnDisk s c image may_leave → IsSound c → (d : List ℕ) → may_leave d → IsLeftByStep c image d
 disk_leaves s c image may_leave disk sound d left = record {
   commits = disk_keeps s c image may_leave disk sound d left;
@@ -209,7 +209,7 @@ module _ {D : Type 0} (g : Ghosts D) where
     pages = λ told. knows_as c (memory old) (memory new) (g.bytes disk) same.store (is.pages told);
   }
 
-  -- What an event comes to that leaves the disk alone.
+  -- The outcome of an event that leaves the disk alone.
   pub record LeavesDisk (event : Event) (old new : Engine) (disk : D) (result : Result Reply StepError) : Type 0 where
     pub inside : LiesWithin old (g.extent disk) → LiesWithin new (g.extent disk)
     pub works : HasNotFailed old → HasNotFailed new

@@ -17,7 +17,7 @@ use Rattle.heap_engine.proofs.Tables.{told_undo}
 abbrev LiesBelow : ℕ → UndoEntry → Type 0
 LiesBelow end u = field_at u.object u.field < end
 
--- one write more
+-- one more write
 pub along_more : (end : ℕ) (pairs : List (ℕ × ℕ)) (us : List UndoEntry) (i : ℕ) (d : UndoEntry) → i < length us → WroteBelow end (translated_list pairs (take i us))
     → field_at (moved_to pairs (get_or us i d).object) (get_or us i d).field < end → WroteBelow end (translated_list pairs (take (i + 1) us))
 along_more end pairs us i d within before here =
@@ -54,14 +54,14 @@ turned_along end pairs us undo is below =
     let turned = All-from_recursion P (reverse (translated_list pairs us)) (AllByRecursion-reverse P (translated_list pairs us) (recursion_from_All P (translated_list pairs us) below)) in
     subst (All P) (reverse_translated pairs us ∙ ap (translated_list pairs) is) turned
 
--- so do those of a transaction that are told the newest last
+-- so do those of a transaction that are listed the newest last
 pub told_along : (end : ℕ) (pairs : List (ℕ × ℕ)) (table : TableState) (s : ℕ) (us : List UndoEntry) → GoAlongBelow end pairs table → IsSome (transaction_of table s)
     → IfSome (transaction_of table s) (λ t. reverse us ≡ t.undo) → WroteBelow end (translated_list pairs us)
 told_along end pairs table s us along some is =
     let undo = undo_if (transaction_of table s) in
     turned_along end pairs undo us (ap reverse (sym (told_undo (transaction_of table s) us some is)) ∙ reverse-reverse us) (along s)
 
--- what the transactions of the first sessions wrote lies in so many words then
+-- what the transactions of the first sessions wrote lies in that many words then
 abbrev pub GoAlongUpto : ℕ → List (ℕ × ℕ) → TableState → ℕ → Type 0
 GoAlongUpto end pairs table k = (s : ℕ) → 1 ≤ s → s < k → WroteBelow end (translated_list pairs (undo_if (transaction_of table s)))
 
@@ -75,7 +75,7 @@ upto_next end pairs table k upto here = λ s low high. elim (cases_eq s k) [
   | inr other ↦ upto s low (omega arith)
 ]
 
--- one session more, whose transaction wrote this
+-- one more session, whose transaction wrote this
 pub upto_some : (end : ℕ) (pairs : List (ℕ × ℕ)) (table : TableState) (k : ℕ) (us : List UndoEntry) → GoAlongUpto end pairs table k → IsSome (transaction_of table k)
     → IfSome (transaction_of table k) (λ t. reverse us ≡ t.undo) → WroteBelow end (translated_list pairs us) → GoAlongUpto end pairs table (k + 1)
 upto_some end pairs table k us upto some is below =

@@ -48,7 +48,7 @@ copies_bytes (copy ∷ copies) =
     let size = size_more copy copies in
     omega (arith, length-append (copy_bytes copy) (flat_map copy_bytes copies), length-copy_bytes copy, more, size)
 
--- it has so many bytes at most
+-- it has at most that many bytes
 pub flip_bytes : (spaces : SpacesState) (copies : List ObjectCopy) → IsSpaces spaces → AreCopiesOf spaces copies → length (spelling (Flip copies)) ≤ 12582917
 flip_bytes spaces copies is are =
     let bytes = copies_bytes copies in

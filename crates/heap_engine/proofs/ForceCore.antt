@@ -58,7 +58,7 @@ force_does m new c reply valid is keeps at room same store replied =
 force_flush : (p : ℕ) → Force ≢ Flush p
 force_flush p is = cc is
 
--- the disk behind a force
+-- the disk after a force
 pub disk_forced : (s : Super) (c : Core) (old new : List ℕ) (may_leave' may_leave : List ℕ → Type 0) → IsValid c → OnDisk s c old may_leave' → SameOutside 64 (64 + s.log_bytes) old new
     → HoldsBatches (part new 64 s.log_bytes) (with_batch c.batches c.pending) → Only new may_leave → OnDisk s (after c Force) new may_leave
 disk_forced s c old new may_leave' may_leave valid disk outside holds only =
@@ -75,7 +75,7 @@ disk_forced s c old new may_leave' may_leave valid disk outside holds only =
       only = only;
     })
 
--- a force of what waits makes calls
+-- a force of pending records makes calls
 pub some_calls : (p : List Record) → p ≢ [] → 0 < force_calls p
 some_calls [] some = absurd (some refl)
 some_calls (r ∷ rs) some = lit< tt
@@ -114,7 +114,7 @@ module _ (c : Core) (w : Engine) (log : Log) (works : IsMemory (memory w) (accou
       → KnowsPages (after c Force) n image
   knows_forced n old image store outside pages = knows_after c Force (memory w) n old image force_flush store (frames_forced old image outside pages.frames) (gates_still old image outside) pages
 
-  -- something waits where a force ends in an error
+  -- something is pending if a force ends in an error
   pub force_waits : (result : Result (Unit {0}) DiskError) (e : DiskError) → (IsBufferEmpty log → result ≡ Ok tt) → result ≡ Err e → c.pending ≢ []
   force_waits result e waited is none =
       let four : IsBufferEmpty log = buffer_size-Keeps log c.batches c.pending keeps ∙ ap (λ (p : List Record). 4 + length (spellings p)) none in
@@ -149,7 +149,7 @@ module _ (c : Core) (w : Engine) (log : Log) (works : IsMemory (memory w) (accou
         crash_law c s bs disk.stored sound disk.born disk.logged.words (prefixes_on c bs disk.stored disk.logged on) on disk.of image
         (held_with s c.batches bs disk.stored old image disk.held outside (let P : ℕ → ℕ → Type 0 = λ n m. HoldsBatches (part image n m) bs in in_log P held))
 
-    -- what a crash leaves during a force are first commits
+    -- what a crash leaves during a force is a commit prefix
     pub force_keeps : (image : List ℕ) → IsSound c → SameOutside (log_place log) (log_place log + log_room log) old image × (HoldsBatches (part image (log_place log) (log_room log)) c.batches ⊎ HoldsBatches (part image (log_place log) (log_room log)) (with_batch c.batches c.pending))
         → IsCommitPrefix c image
     force_keeps image sound found =
@@ -157,7 +157,7 @@ module _ (c : Core) (w : Engine) (log : Log) (works : IsMemory (memory w) (accou
         ⊎_elim (λ held. kept_batches c.batches image sound (inl refl) outside held)
         (λ held. kept_batches (with_batch c.batches c.pending) image sound (inr refl) outside held) found.1
 
-    -- and each byte behind the plan is as it was
+    -- and each byte past the plan is as it was
     pub force_leaves : (image : List ℕ) → IsSound c → SameOutside (log_place log) (log_place log + log_room log) old image × (HoldsBatches (part image (log_place log) (log_room log)) c.batches ⊎ HoldsBatches (part image (log_place log) (log_room log)) (with_batch c.batches c.pending))
         → IsLeftByStep c old image
     force_leaves image sound found = record { commits = force_keeps image sound found; outside = within_plan old image found.0 }

@@ -50,7 +50,7 @@ found_is (Ok s) m (Some t) area words us ea eu ew fields objects needs =
       need = needs ∙ (λ i. need (ea i) (same i));
     }
 
--- the records that are made where these objects are promoted, and these fields are put right
+-- the records that are made if these objects are promoted, and these fields are updated
 abbrev pub records_by : AreaState → List ℕ → List ℕ → List Field → ℕ → List Record
 records_by area words objects fields address =
     let moves = moves_to area objects address in

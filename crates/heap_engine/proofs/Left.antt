@@ -17,7 +17,7 @@ use Rattle.heap_memory.specs.Memory.{Memory, own}
 use Rattle.heap_memory.specs.Leaves.{Adds, IsAsItWas, Leaves, LeavesOwn, with_read}
 use Rattle.heap_engine.proofs.Reserved.{adds_to}
 
--- no record more
+-- no more records
 pub adds_nothing : (log : Log) → Adds log log []
 adds_nothing log = record {
   place = record { at = refl; room = refl; tail = refl; forced = refl };

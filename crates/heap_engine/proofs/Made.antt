@@ -11,7 +11,7 @@ use Rattle.txn_table.specs.Table.{TransactionState}
 use Rattle.heap_memory.specs.Refusals.{handle_refusal, area_refusal, new_refusal}
 use Rattle.heap_engine.specs.Reserve.{can_refer}
 
--- what is told of a full area
+-- what is reported of a full area
 abbrev pub TellsFull : Option TransactionState → Result ℕ AreaError → ℕ → Type 0
 TellsFull o r len = (used : ℕ) → (r ≡ Err (area.VolatileFull used)) ↔ IsSomeAnd o (λ t. (used ≡ length t.area.words) × (4096 < used + 2 + len))
 
@@ -40,7 +40,7 @@ new_granted o t h len is handle small fits =
     (λ i. first_of_two (handle i) (first_of_two (if less i then Some Range else None) (area_refusal (is i) len)))
     ∙ ap (λ (b : Bool). if b then Some (VolatileFull (length t.area.words)) else None) (le-ltb 4096 (length t.area.words + 2 + len) fits)
 
--- where there is no room it is told
+-- if there is no room it is reported
 pub new_full : (o : Option TransactionState) (t : TransactionState) (h len : ℕ) → o ≡ Some t → handle_refusal o h ≡ None → len ≤ 510 → 4096 < length t.area.words + 2 + len
     → new_refusal o h len ≡ Some (VolatileFull (length t.area.words))
 new_full o t h len is handle small full =

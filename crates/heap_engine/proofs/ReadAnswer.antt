@@ -18,7 +18,7 @@ use Rattle.heap_memory.specs.Refusals.{and_then, get_refusal, handle_refusal, lo
 use Rattle.heap_memory.specs.Replies.{get_reply, meant_behind, word_reply}
 use Rattle.heap_engine.specs.StepResult.{reply_device}
 
--- a refusal that is none of the disk's
+-- a refusal that is not the disk's
 abbrev IsOurs : Option Refusal → Type 0
 IsOurs o = (x : Reply) → reply_device x ≡ Ok tt → reply_device (reply_of o x) ≡ Ok tt
 

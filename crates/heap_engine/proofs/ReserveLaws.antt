@@ -72,7 +72,7 @@ reserved_ended table s t is has =
     let turned = total_turned kept_for_end table (with_ended table s) s is (with_ended_other table s) in
     omega (arith, turned, ap kept_for_end has, ap kept_for_end (with_ended_same table s))
 
--- where the transaction has so many writes more
+-- if the transaction has that many more writes
 pub reserved_more : (table : TableState) (s : ℕ) (t u : TransactionState) (more : ℕ) → IsSession s → transaction_of table s ≡ Some t → length u.undo ≡ length t.undo + more
     → reserved (with_transaction table s u) ≡ reserved table + 19 * more
 reserved_more table s t u more is has long =

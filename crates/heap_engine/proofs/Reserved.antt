@@ -1,4 +1,4 @@
--- What holds of a log holds once more memory was taken for it.
+-- What holds of a log still holds after more memory was allocated for it.
 use Rattle.std.proofs.Common.{◌≡◌, ℕ, ◌+◌, ◌<◌, ◌≤◌, ◌^◌, List, [], append-nil, sym, ◌∙◌, subst, arith}
 use Rattle.std.proofs.lemmas.Bool.Decides.{nat_tests}
 use Rattle.gated_log.specs.declared.log.Log.{Log}

@@ -32,11 +32,11 @@ used_need tail buffer k = grind (arith, nat_tests)
 need_few : (buffer k : ℕ) → need_bytes buffer k ≤ k + 5
 need_few buffer k = grind (arith, nat_tests)
 
--- so many bytes take no more of the log than they need
+-- that many bytes take no more of the log than they need
 pub used_with_need : (log : Log) (k : ℕ) → log_used_with log k ≤ log_used log + log_need log k
 used_with_need log k = used_need (log_tail log) (buffer_size log) k
 
--- and they need a batch at most besides
+-- and they need at most a batch's bytes besides
 pub need_little : (log : Log) (k : ℕ) → log_need log k ≤ k + 5
 need_little log k = need_few (buffer_size log) k
 

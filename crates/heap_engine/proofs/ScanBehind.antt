@@ -1,4 +1,4 @@
--- The spaces, the collection and the words behind the records of a scan.
+-- The spaces, the collection and the words after the records of a scan.
 use Rattle.std.proofs.Common.{◌≡◌, ◌≢◌, ℕ, ◌+◌, ◌-◌, ◌<◌, ◌≤◌, ◌==◌, Bool, true, false, List, [], ◌∷◌, length, Option, None, Some, fold, nat_le, nat_lt, refl, sym, ap, ◌∙◌, subst, arith}
 use Rattle.std.specs.Prelude.{slice_get, slice_index, slice_set, sum_by, unwrap_or, if◌then◌else◌}
 use Rattle.std.specs.List.{AllByRecursion, enumerate_from}

@@ -1,4 +1,4 @@
--- The records of a planned scan are copies of objects, and the scan behind them, with few writes.
+-- The records of a planned scan are copies of objects, and the scan after them, with few writes.
 use Rattle.std.proofs.Common.{◌≡◌, ℕ, zero, suc, ◌+◌, ◌*◌, ◌<◌, ◌≤◌, ◌==◌, ◌&&◌, Bool, true, false, List, [], ◌∷◌, ◌++◌, length, drop, Option, None, Some, nat_le, nat_lt, refl, ap, subst, arith, length-append, length-take}
 use Rattle.std.specs.Prelude.{slice_index, option_and_then, if◌then◌else◌}
 use Rattle.std.specs.List.{AllByRecursion}

@@ -67,7 +67,7 @@ copy_bytes from to words = omega (arith, length-word_bytes words)
 scan_bytes : (page : ℕ) (writes : List (ℕ × ℕ)) → length (spelling (Scan page writes)) ≡ 7 + 12 * length writes
 scan_bytes page writes = omega (arith, length-writes writes)
 
--- The scan, behind all copies.
+-- The scan, after all copies.
 run_scan : (s n : State) (k : Collection) (page scanned : ℕ) (writes : List (ℕ × ℕ)) → IsConsistent s → s.collection ≡ Some k → length writes < 65536
     → collecting_after_all s (Scan scanned writes ∷ []) ≡ Some n → IsRun s k (Scan scanned writes ∷ [])
 run_scan s n k page scanned writes consistent own few passes =
@@ -81,7 +81,7 @@ run_scan s n k page scanned writes consistent own few passes =
       bytes = omega (arith, size, few, length-append (spelling (Scan scanned writes)) []);
     }
 
--- One copy, and the records behind it.
+-- One copy, and the records after it.
 run_copy : (s : State) (k : Collection) (from to : ℕ) (words : List ℕ) (records : List Record) → IsConsistent s → s.collection ≡ Some k
     → (can_move s k from (length words) && can_hold s to (length words)) ≡ true
     → IsRun (with_copy s k (record { from = from; to = to; words = words })) (with_moved k from to words) records → IsRun s k (Copy from to words ∷ records)

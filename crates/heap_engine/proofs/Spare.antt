@@ -1,4 +1,4 @@
--- The memory that a log has left behind what was appended to it, and behind a force.
+-- The memory that a log has left after an append, and after a force.
 use Rattle.std.proofs.Common.{◌≡◌, ℕ, ◌+◌, ◌<◌, ◌≤◌, Result, Ok, Err, sym, ap, ◌∙◌, arith}
 use Rattle.std.specs.Prelude.{IsOk, OnOk, OnErr}
 use Rattle.std.proofs.lemmas.Bool.Decides.{nat_tests}
@@ -15,7 +15,7 @@ need_tells tail a b n one two some is = grind (arith, nat_tests)
 less_used : (tail a b : ℕ) → 4 ≤ a → 4 ≤ b → used_bytes tail a ≤ used_bytes tail b → a ≤ b
 less_used tail a b one two is = grind (arith, nat_tests)
 
--- the pending bytes when so many were appended
+-- the pending bytes after that many were appended
 pub size_with : (old new : Log) (n : ℕ) → log_tail new ≡ log_tail old → log_used new ≡ log_used_with old n → buffer_size new ≡ buffer_size old + n
 size_with old new n tail used =
     used_tells (log_tail old) (buffer_size new) (buffer_size old + n) new.has_head (omega (arith, old.has_head)) (ap (λ t. used_bytes t (buffer_size new)) (sym tail) ∙ used)
@@ -25,11 +25,11 @@ pub size_after : (old new : Log) (n : ℕ) → 0 < n → log_tail new ≡ log_ta
 size_after old new n some tail used =
     need_tells (log_tail old) (buffer_size old) (buffer_size new) n old.has_head new.has_head some (ap (λ t. used_bytes t (buffer_size new)) (sym tail) ∙ used)
 
--- what there was memory for besides them there is memory for still
+-- the memory besides them is still there
 pub spare_left : (old new : Log) (n more : ℕ) → log_tail new ≡ log_tail old → log_used new ≡ log_used_with old n → KeepsMemory old new → HasSpare old (n + more) → HasSpare new more
 spare_left old new n more tail used memory spare = omega (arith, size_with old new n tail used, memory, spare)
 
--- a force lets go of what was pending, or of nothing
+-- a force drops what was pending, or nothing
 pub spare_forced : {A E : Type 0} (r : Result A E) (old new : Log) (more : ℕ) → OnOk r (IsBufferEmpty new) → OnErr r (log_tail new ≡ log_tail old) → log_used new ≤ log_used old → KeepsMemory old new
     → HasSpare old more → HasSpare new more
 spare_forced (Ok a) old new more empty tail used memory spare = omega (arith, empty, old.has_head, memory, spare)

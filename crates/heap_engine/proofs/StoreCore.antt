@@ -55,7 +55,7 @@ its {P = P} result x is holds = let Q : Result _ _ → Type 0 = λ r. OnOk r P i
 pub same_log : (log : Log) → IsSameLog log log
 same_log log = record { place = record { at = refl; room = refl; tail = refl; forced = refl }; buffer = refl; size = refl; count = refl }
 
--- memory behind a force that is only made if something is ahead
+-- memory after a force that is only made if something is ahead
 memory_if : (ahead : Bool) (m : Memory) (log : Log) (a : Account) (c : Core) → IsMemory m a c → Keeps log (forced_if ahead c).batches (forced_if ahead c).pending → log_place log ≡ log_place m.log → log_room log ≡ log_room m.log
     → IsMemory (record m { log = log }) a (forced_if ahead c)
 memory_if true m log a c is keeps at room =
@@ -93,7 +93,7 @@ past_or_below a b = elim (cases_lt a b) [
   | inr below ↦ le-ltb a b below ∙ ap not (sym (lt-ltb b (a + 1) (omega (arith, below))))
 ]
 
--- the core when what waits is forced if a page is ahead
+-- the core after pending records are forced if a page is ahead
 abbrev pub ready : Core → ℕ → Core
 ready c p = forced_if (is_ahead c p) c
 
@@ -130,7 +130,7 @@ module _ (c : Core) (w : Engine) (p : ℕ) (works : IsMemory (memory w) (account
   there : p < pages_in (ready c p).pages
   there = subst (λ (n : ℕ). p < pages_in n) (sym same.pages) within
 
-  -- no page is ahead once what waits is forced
+  -- no page is ahead once pending records are forced
   pub not_ahead : (log : Log) (n : ℕ) → n ≡ cached_lsn w.cache p → n ≤ log_forced log → Keeps log (ready c p).batches (ready c p).pending → present_lsn (ready c p) p < next_lsn (log_origin (ready c p)) (records_of (ready c p).batches)
   not_ahead log n is le keeps = omega (arith, le, is, lsn, present_forced c (ready c p) p same, keeps.forced)
 
@@ -197,7 +197,7 @@ module _ (c : Core) (w : Engine) (p : ℕ) (works : IsMemory (memory w) (account
         held_with s c.batches (ready c p).batches disk.stored old mid disk.held (in_log (λ n m. SameOutside n (n + m) old mid) outside)
         (in_log (λ n m. HoldsBatches (part mid n m) (ready c p).batches) forced)
 
-    -- a crash while the page is stored leaves first commits
+    -- a crash while the page is stored leaves a commit prefix
     pub store_keeps : (image : List ℕ) → IsSound c → IsStoring (cache_log w.cache) p (cached_lsn w.cache p) (cached_page w.cache p) mid image → IsCommitPrefix c image
     store_keeps image sound storing =
         let here = as_core (λ n k ws. IsStoring n p k ws mid image) storing in
@@ -206,14 +206,14 @@ module _ (c : Core) (w : Engine) (p : ℕ) (works : IsMemory (memory w) (account
         (subst (λ (o : Origin). EachHoldsPrefix o (records_of (ready c p).batches) (stored_pages s.pages s.log_bytes image)) (origin_forced c (ready c p) same) beside) same.on disk.of image
         (storing_held s (ready c p) p super_is there behind disk.stored logged mid image held here.outside)
 
-    -- and the bytes behind the plan
+    -- and the bytes past the plan
     pub store_leaves : (image : List ℕ) → IsSound c → IsStoring (cache_log w.cache) p (cached_lsn w.cache p) (cached_page w.cache p) mid image → IsLeftByStep c old image
     store_leaves image sound storing =
         let log = cache_log w.cache in
         let stored = outside_within (frame_offset log p 0) (frame_offset log (p + 1) 0) 0 (image_size c.pages c.room) mid image (omega arith) (omega (arith, bytes, within)) storing.outside in
         record { commits = store_keeps image sound storing; outside = outside_then 0 (image_size c.pages c.room) old mid image (within_plan c w w.log works (same_log w.log) old mid outside) stored }
 
-    -- behind it the disk holds the core with that page stored
+    -- after it the disk holds the core with that page stored
     pub flushed_on : (image : List ℕ) (leaves : List ℕ → Type 0) → IsTrue (cache.is_dirty w.cache p) → HasPage (cache_log w.cache) p (cached_lsn w.cache p) (cached_page w.cache p) image
         → ((q : ℕ) → q ≢ p → SamePage (cache_log w.cache) q mid image) → SameButPage (cache_log w.cache) p mid image → Only image leaves → OnDisk s (flushed c p) image leaves
     flushed_on image leaves dirty has others but only =

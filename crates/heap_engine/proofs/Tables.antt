@@ -201,7 +201,7 @@ inside_of table size bytes sealed s sound = cases (transaction_of table s) refl
     cases None is = λ k d within. absurd (omega arith)
     cases (Some t) is = (sound.each s t is).inside
 
--- what is told of its writes, the newest last
+-- its writes, the newest last
 pub told_undo : (o : Option TransactionState) (us : List UndoEntry) → IsSome o → IfSome o (λ t. reverse us ≡ t.undo) → reverse us ≡ undo_if o
 told_undo None us some is = absurd (cc some)
 told_undo (Some t) us some is = is

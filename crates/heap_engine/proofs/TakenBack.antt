@@ -61,7 +61,7 @@ taken_out s new f copies fresh is = same_addresses new s (λ q. cases q (list_an
         whole true = refl
         whole false = refl
 
--- What is told of copies that are taken back.
+-- What is known of copies that are taken back.
 pub record TakesBack (old new : Collection) (copies : List CopiedObject) : Type 0 where
   pub used : new.used ≡ old.used
   pub copied : new.copied + words_of copies ≡ old.copied

@@ -17,7 +17,7 @@ use Rattle.heap_memory.specs.Collecting.{copied_in, spaces_behind, collection_be
 
 -- The records.
 
--- these are the records of the scan of a page: copies of objects, and the scan behind them, with so few writes that their count has 16 bits
+-- these are the records of the scan of a page: copies of objects, and the scan after them, with few enough writes that their count has 16 bits
 abbrev pub is_page_scan : ℕ → List Record → Bool
 is_page_scan page (Scan scanned writes ∷ []) = scanned == page && nat_lt (length writes) 65536
 is_page_scan page (Copy from to words ∷ records) = nat_le (length words) 512 && is_page_scan page records
@@ -28,7 +28,7 @@ abbrev pub HasFewWords : Record → Type 0
 HasFewWords (Copy from to words) = length words ≤ 512
 HasFewWords rec = Unit {0}
 
--- the same where a page is scanned, and where none is there are none
+-- the same if a page is scanned, and otherwise there are none
 abbrev pub is_scan_of : Option ℕ → List Record → Bool
 is_scan_of (Some page) records = is_page_scan page records
 is_scan_of None [] = true
@@ -44,13 +44,13 @@ copied_word to words at word = if nat_lt at to then word else unwrap_or (slice_g
 abbrev pub write_at : ℕ → ℕ → ℕ × ℕ → ℕ
 write_at at word write = if write.0 == at then write.1 else word
 
--- the word at an address behind a record of a scan, where this one stands before it
+-- the word at an address after a record of a scan, if this one stands there before it
 abbrev pub word_with : ℕ → ℕ → Record → ℕ
 word_with at word (Copy from to words) = if from == at then header_bits (Forward to) else copied_word to words at word
 word_with at word (Scan page writes) = fold (write_at at) word writes
 word_with at word rec = word
 
--- the word at an address behind records of a scan, where this one stands before them
+-- the word at an address after records of a scan, if this one stands there before them
 abbrev pub word_after : ℕ → ℕ → List Record → ℕ
 word_after at word records = fold (word_with at) word records
 
@@ -90,8 +90,8 @@ pub record IsSoundCollection (spaces : SpacesState) (k : Collection) : Type 0 wh
 abbrev pub IsSoundIn : SpacesState → Option Collection → Type 0
 IsSoundIn spaces runs = (k : Collection) → runs ≡ Some k → IsSoundCollection spaces k
 
--- The records of a scan can be carried out where this is kept in memory: there is room for what they copy, they write words that there are, and
--- what is known of a collection is known behind them.
+-- The records of a scan can be carried out on what is kept in memory: there is room for what they copy, they write words that exist, and
+-- what is known of a collection is known after them.
 pub record CanScan (m : Memory) (records : List Record) : Type 0 where
   pub keeps : CanKeep m.collection (copied_in records)
   pub owed : words_of (copied_in records) ≤ m.spaces.owed

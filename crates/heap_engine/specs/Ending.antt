@@ -1,4 +1,4 @@
--- The events that take no memory: transactions can be ended, and what was sealed can be forced, when none is left.
+-- The events that need no memory: transactions can be ended, and what was sealed can be forced, when none is left.
 use Rattle.std.specs.Prelude.{◌≡◌, ℕ, ◌+◌, Bool, not, IsSome, List, [], ◌∷◌, slice_index, Option, None, Some, ⊤}
 use Rattle.heap_words.specs.Word.{is_volatile}
 use Rattle.log_machine.specs.declared.UndoEntry.{UndoEntry}
@@ -22,14 +22,14 @@ abbrev pub SealsAlone : Memory → Option TransactionState → Type 0
 SealsAlone m None = ⊥
 SealsAlone m (Some t) = sealing_records m t ≡ Commit t.area.transaction ∷ []
 
--- An event that takes no memory.
+-- An event that needs no memory.
 abbrev pub NeedsNoMemory : Memory → Event → Type 0
 NeedsNoMemory m (Abort s) = ⊤
 NeedsNoMemory m (Seal s) = SealsAlone m (own m s)
 NeedsNoMemory m Force = ⊤
 NeedsNoMemory m event = ⊥
 
--- One transaction fewer is active, and so many more are sealed.
+-- One transaction fewer is active, and this many more are sealed.
 pub record EndsOne (old new : Memory) (more : ℕ) : Type 0 where
   pub active : active_count new.table + 1 ≡ active_count old.table
   pub sealed : new.sealed ≡ old.sealed + more

@@ -1,4 +1,4 @@
--- When an engine and its disk are a core, and what an event on them comes to.
+-- When an engine and its disk are a core, and the outcome of an event on them.
 use Rattle.std.specs.Prelude.{◌≡◌, ◌<◌, IsTrue, ℕ, List, length, is_some, None, Result, Ok, Err, OnOk, ⊤}
 use Rattle.disk_model.specs.Disk.{Only, SameOutside}
 use Rattle.disk_model.specs.Moments.{LeavesOnly}
@@ -38,12 +38,12 @@ pub record OnDisk (s : Super) (c : Core) (image : List ℕ) (may_leave : List �
   pub held : Holds s c.batches stored image
   pub only : Only image may_leave
 
--- an image that has each byte behind the plan of a core's heap as it was in another
+-- an image that has each byte past the plan of a core's heap as it was in another
 abbrev pub SameBehind : Core → List ℕ → List ℕ → Type 0
 SameBehind c old image = SameOutside 0 (image_size c.pages c.room) old image
 
--- What a crash leaves of an image at a moment of an event: first commits of a core, among them all that were acknowledged or forced before, and the
--- bytes behind its plan.
+-- What a crash leaves of an image at a moment of an event: a commit prefix of a core with all that were acknowledged or forced before, and the
+-- bytes past its plan.
 pub record IsLeftByStep (c : Core) (old image : List ℕ) : Type 0 where
   pub commits : IsCommitPrefix c image
   pub outside : SameBehind c old image
@@ -62,7 +62,7 @@ module _ {D : Type 0} (g : Ghosts D) where
     pub pages : IsTrue g.tells → KnowsPages c (memory e) (g.bytes disk)
     pub memory : IsMemory (memory e) (account c.history) c
 
-  -- What an event came to that had its memory: it was answered as the core answers it, or the disk failed or stopped.
+  -- The outcome of an event that had its memory: it was answered as the core answers it, or the disk failed or stopped.
   abbrev pub CameTo : Core → Event → Engine → D → Result Reply StepError → Type 0
   CameTo c event e disk (Ok reply) = (reply ≡ answer c event) × IsEngine (after c event) e disk
   CameTo c event e disk (Err NoMemory) = ⊤
@@ -73,7 +73,7 @@ module _ {D : Type 0} (g : Ghosts D) where
     pub core : (c : Core) → IsEngine c old before → IsReached c → CameTo c event new now result
     -- an event that makes no write or sync leaves the disk alone, and does not read it either
     pub still : (c : Core) → IsEngine c old before → IsReached c → calls c event ≡ 0 → now ≡ before
-    -- so does one without memory, and it changes nothing
+    -- so does one that runs out of memory, and it changes nothing
     pub untouched : result ≡ Err NoMemory → now ≡ before
     pub kept : result ≡ Err NoMemory → (c : Core) → IsEngine c old before → IsEngine c new now
 

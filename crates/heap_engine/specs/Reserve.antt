@@ -28,7 +28,7 @@ undo_if (Some t) = t.undo
 abbrev pub WroteBelow : ℕ → List UndoEntry → Type 0
 WroteBelow end undo = All (λ u. field_at u.object u.field < end) undo
 
--- what each session's transaction wrote, if it has one, lies in so many words when objects have moved
+-- what each session's transaction wrote, if it has one, lies in that many words after objects have moved
 abbrev pub GoAlongBelow : ℕ → List (ℕ × ℕ) → TableState → Type 0
 GoAlongBelow end pairs table = (s : ℕ) → WroteBelow end (translated_list pairs (undo_if (transaction_of table s)))
 
@@ -42,14 +42,14 @@ can_refer (Some (Volatile at)) = nat_lt at VOLATILE_WORDS
 abbrev pub HoldPlaces : List (Option Place) → Type 0
 HoldPlaces handles = AllPass can_refer handles
 
--- What is known of the transaction of a session, where there are so many words, and this is the next transaction's number.
+-- What is known of the transaction of a session, if there are `size` words, and this is the next transaction's number.
 pub record IsSoundTransaction (size next s : ℕ) (t : TransactionState) : Type 0 where
   pub session : IsSession s
   pub number : t.number < next
   pub inside : WroteBelow size t.undo  -- what it wrote lies in the words
   pub held : HoldPlaces t.handles
 
--- What is known of all of them, where so many bytes are kept for their ends, and so many were sealed.
+-- What is known of all of them, if this many bytes are kept for their ends, and this many were sealed.
 pub record AreSound (table : TableState) (size bytes sealed : ℕ) : Type 0 where
   pub each : (s : ℕ) (t : TransactionState) → transaction_of table s ≡ Some t → IsSoundTransaction size table.next s t
   pub kept : bytes ≡ reserved table

@@ -13,7 +13,7 @@ pub record IsFound (m : Memory) (t : TransactionState) (found : Sealing) : Type 
   pub objects : found.objects.items ≡ promoted_by t.area m.words t.undo
   pub need : found.need ≡ sealing_need m t
 
--- The seal of a transaction appends these records, and takes so many words.
+-- The seal of a transaction appends these records, and takes that many words.
 pub record IsSealOf (m : Memory) (t : TransactionState) (need : ℕ) (records : List Record) : Type 0 where
   pub takes : need ≡ sealing_need m t
   pub appends : records ≡ sealing_records m t

@@ -33,7 +33,7 @@ pub(crate) struct PagePlan {
 }
 
 impl PagePlan {
-    /// No scan. It takes no memory.
+    /// No scan. Does not allocate.
     fn none(alloc: Global) -> PagePlan
         ensures { result.records.items ≡ [] }
     {
@@ -87,7 +87,7 @@ impl PagePlan {
         self.records.is_empty()
     }
 
-    /// The word that stands at an address behind the scan, where this one stands before it.
+    /// The word that stands at an address after the scan, if this one stands there before it.
     pub(crate) fn word_behind(&self, at: u32, word: u64) -> u64
         ensures { result ≡ word_after at word self.now.records.items }
     {
@@ -99,7 +99,7 @@ impl PagePlan {
     }
 }
 
-/// The word that stands at an address behind a record of a scan, where this one stands before it.
+/// The word that stands at an address after a record of a scan, if this one stands there before it.
 fn word_with(rec: &Record, at: u32, word: u64) -> u64
     ensures { result ≡ word_with at word rec.now }
 {
@@ -139,7 +139,7 @@ fn copies_in(alloc: Global, records: &[Record]) -> Result<Vec<CopiedObject>, All
     requires { AllByRecursion HasFewWords records.now }
     ensures { IfOk result (λ copies. copies.items ≡ copied_in records.now) }
 {
-    let mut copies = Vec::new(alloc);
+    let mut copies = Vec::with_capacity(alloc, records.len())?;
     for rec in records {
         if let Record::Copy { from, to, words } = rec {
             copies.push(copied_object(*from, *to, words.as_slice()))?;

@@ -38,8 +38,8 @@ impl Engine {
     ghost use Rattle.heap_engine.specs.EngineState.{memory};
 
     /// Begins a collection, if none runs: the spaces change their roles, and the root object and all stable objects that transactions name or
-    /// lock are copied into the one that is current from now on. What the transactions keep goes along, and none of them has to wait. It
-    /// takes the time of these objects and of what the transactions keep, whatever the heap's size.
+    /// lock are copied into the one that is current from now on. What the transactions keep is updated, and none of them has to wait. It
+    /// takes time for these objects and for what the transactions keep, whatever the heap's size.
     pub(crate) fn flip(&mut self) -> Result<Reply, AllocError>
         ensures reply { IfOk result (λ reply. (roots : List ℕ) × AreRoots self.old.table self.old.locks roots × (reply ≡ reply_of (flip_refusal (memory self.old) roots) (flip_reply (memory self.old) roots))) }
         ensures flipped { (objects words : ℕ) → result ≡ Ok (Flipped objects words) → (roots : List ℕ) × Flips (memory self.old) (memory self.new) roots }
@@ -58,7 +58,7 @@ impl Engine {
         let mut collection = Collection::begin(self.alloc, used);
         collection.add_copies(plan.moved())?;
         let moves = moves_of(self.alloc, plan.pairs())?;
-        // The last step that may lack memory.
+        // The last step that may run out of memory.
         self.locks.rekey(&moves)?;
         let reply = change_spaces(&mut self.spaces, &plan);
         self.table.translate(plan.pairs());
@@ -98,7 +98,7 @@ impl Engine {
         true
     }
 
-    /// Scans the least page in which a gray object starts, if a collection runs. Where no object is gray it ends the collection.
+    /// Scans the least page in which a gray object starts, if a collection runs. If no object is gray it ends the collection.
     pub(crate) fn scan(&mut self) -> Result<Reply, AllocError>
         ensures reply { IfOk result (λ reply. (next : Option ℕ) × IsNextPage self.old.collection next × (reply ≡ reply_of (scan_refusal (memory self.old) next) (scan_reply (memory self.old) next))) }
         ensures scanned { (page objects words : ℕ) → result ≡ Ok (Scanned page objects words) → Scans (memory self.old) (memory self.new) (Some page) }
@@ -177,7 +177,7 @@ fn lie_below(end: u64, entries: &[UndoEntry], pairs: &[(u32, u32)]) -> bool
     true
 }
 
-/// The two spaces change their roles, and the words of these copies are taken. It tells how many there are, and of how many words.
+/// The two spaces change their roles, and the words of these copies are taken. It returns how many there are, and of how many words.
 fn change_spaces(spaces: &mut Spaces, plan: &FlipPlan) -> Reply
     requires { copied_size plan.now ≤ spaces.old.used }
     ensures reply { result ≡ Flipped (length plan.now) (copied_size plan.now) }
@@ -203,7 +203,7 @@ fn words_of(copies: &[CopiedObject]) -> u64
     words
 }
 
-/// Where each object stood and where it stands now, as locks name it.
+/// The old address of each object and its new one, as locks name it.
 fn moves_of(alloc: Global, pairs: &[(u32, u32)]) -> Result<Vec<(Key, Key)>, AllocError>
     ensures { IfOk result (λ moves. moves.items ≡ key_moves pairs.now) }
 {

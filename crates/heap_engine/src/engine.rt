@@ -76,7 +76,7 @@ impl Engine {
     ghost use Rattle.heap_engine.specs.Refinement.{Steps, StepsOn};
     ghost use Rattle.heap_engine.specs.declared.step_error.StepError.TheVariants.{NoMemory};
 
-    /// The engine of a heap that was just opened: no session has a transaction, and a collection that runs goes on. It takes no memory.
+    /// The engine of a heap that was just opened: no session has a transaction, and a collection that runs continues. Does not allocate.
     pub fn new(
         alloc: Global,
         log: Log,
@@ -107,7 +107,7 @@ impl Engine {
         }
     }
 
-    /// Makes an event on the disk that the engine was opened from, and answers it. Its session, if it has one, is from 1 to 32. Where the disk
+    /// Makes an event on the disk that the engine was opened from, and returns the reply. Its session, if it has one, is from 1 to 32. If the disk
     /// fails or stops, no other event may follow.
     pub fn step_on<D: Disk>(&mut self, disk: &mut D, event: Event) -> Result<Reply, StepError>
         requires session { IsOfSession event }
@@ -116,12 +116,12 @@ impl Engine {
         ensures inside { LiesWithin self.new (D.extent disk.new) }
         ensures works { engine_device result ≡ Ok tt → HasNotFailed self.new }
         ensures disk { KeepsDisk D.Disk disk.old disk.new (engine_device result) }
-        // An answer tells of no failure of the disk.
+        // A reply reports no failure of the disk.
         ensures answered { IfOk result (λ reply. reply_device reply ≡ Ok tt) }
         // It is a step of the core that the engine is, and so is what a modelled disk holds.
         ensures core { Steps D.Disk event self.old disk.old self.new disk.new result }
         ensures holds { IsTrue D.tells → StepsOn D.Disk event self.old disk.old self.new disk.new result }
-        // When memory runs out transactions can be aborted, or sealed where they promote nothing, and what waits can be forced.
+        // When memory runs out transactions can be aborted, or sealed if they promote nothing, and what is pending can be forced.
         ensures memory { NeedsNoMemory (memory self.old) event → result ≢ Err NoMemory }
         ensures ends { IfOk result (Ends (memory self.old) (memory self.new) event) }
     {
@@ -152,7 +152,7 @@ impl Engine {
         self.table.active(session)
     }
 
-    /// Whether a session has a transaction whose seal promotes nothing. It takes the time of what the transaction wrote.
+    /// Whether a session has a transaction whose seal promotes nothing. It takes time linear in what the transaction wrote.
     pub fn seals_alone(&self, session: u32) -> bool
         ensures { IsTrue result ↔ SealsAlone (memory self.now) (own (memory self.now) session) }
     {

@@ -1,4 +1,4 @@
-//! The fields of objects, of those that stand in the current space and of those that a transaction has made: how they are written and read.
+//! Reads and writes the fields of objects, of those that stand in the current space and of those that a transaction has made.
 ghost use Rattle.std.specs.Prelude.{◌≡◌, ◌+◌, ◌*◌, ◌<◌, ◌≤◌, ◌^◌, length, slice_index, [], true, Ok, Some, None, OnErr, IfOk, IfSome, IsSome};
 ghost use Rattle.gated_log.specs.LogState.{log_room, log_used_with, HasSpare};
 ghost use Rattle.heap_words.specs.Word.{bits, meaning, IsWord};
@@ -14,7 +14,7 @@ ghost use Rattle.heap_engine.specs.Reserve.{can_refer};
 use crate::barrier::{PagePlan, keep_copies, note_scan, take_back_copies};
 use crate::engine::{Engine, refused};
 use crate::locking::{keep_write, lock_of, lock_refusal};
-use crate::log_room::{UNDO_BYTES, log_refusal, need_of};
+use crate::log_room::{UNDO_BYTES, reserve_room};
 use crate::logging::{carry_out, carry_out_write};
 use graph_model::{Refusal, Reply};
 use heap_words::{FIELDS_AT, Header, NO_INT, Word, decode, encode, header_of};
@@ -24,7 +24,7 @@ use object_locks::Mode;
 use std::alloc::AllocError;
 use txn_table::Place;
 
-/// The words of the fields of the object that stands at an address, in order, and none where no object stands.
+/// The words of the fields of the object that stands at an address, in order, and none if no object stands there.
 fn fields_at(words: &[u64], at: u32) -> &[u64]
     requires { length words.now < 2 ^ 32 }
     ensures { result.now ≡ field_words words.now at }
@@ -62,7 +62,7 @@ impl Engine {
         }
     }
 
-    /// Lets field `i` of the object that a handle of the transaction holds be null. It locks the object as `put` does.
+    /// Sets field `i` of the object that a handle of the transaction holds to null. It locks the object as `put` does.
     pub(crate) fn clear(&mut self, session: u32, h: u64, i: u64) -> Result<Reply, AllocError>
         ensures reply { IfOk result (λ reply. reply ≡ reply_of (clear_refusal (memory self.old) session h i) Done) }
         ensures done { result ≡ Ok Done → WritesHeld (memory self.old) (memory self.new) session h i 0 }
@@ -94,7 +94,7 @@ impl Engine {
         }
     }
 
-    /// What is in field `i` of the object that handle `h` of the transaction holds. Where it is a reference, `h2` holds what it refers
+    /// What is in field `i` of the object that handle `h` of the transaction holds. If it is a reference, `h2` holds what it refers
     /// to from then on. An object of the current space gets a shared lock.
     pub(crate) fn get(&mut self, session: u32, h: u64, i: u64, h2: u64) -> Result<Reply, AllocError>
         ensures reply { IfOk result (λ reply. reply ≡ reply_of (get_refusal (memory self.old) session h i h2) (get_reply (memory self.old) session h i)) }
@@ -122,7 +122,7 @@ impl Engine {
         }
     }
 
-    /// The same of a field of an object that stands in the current space: it is locked, and its page is scanned first where a gray object
+    /// The same for a field of an object that stands in the current space: it is locked, and its page is scanned first if a gray object
     /// starts in it.
     fn get_stable(
         &mut self,
@@ -154,13 +154,13 @@ impl Engine {
         }
         note_scan(&mut self.spaces, &mut self.collection, &scan);
         carry_out(&mut self.log, &mut self.cache, scan.records());
-        // The scan may have led the field on.
+        // The scan may have updated the field to the copy.
         let fields = fields_at(self.cache.as_slice(), object);
         let word = fields.get(field as usize).copied().unwrap_or(0);
         Ok(self.read_into(session, h, word))
     }
 
-    /// Makes room in the log for a scan, if there is one to make, or tells why there is none.
+    /// Makes room in the log for a scan, if there is one to make, or reports why there is none.
     pub(crate) fn make_room_for(&mut self, scan: &PagePlan) -> Result<Option<Refusal>, AllocError>
         requires few { length (spellings scan.now.records.items) < 2 ^ 32 + 2 ^ 24 }
         ensures why { IfOk result (λ why. why ≡ records_room (memory self.old) scan.now.records.items) }
@@ -174,7 +174,7 @@ impl Engine {
         self.make_room(scan.bytes())
     }
 
-    /// The words of the fields of the object at a place, in order, and none where no object stands.
+    /// The words of the fields of the object at a place, in order, and none if no object stands there.
     pub(crate) fn fields(&self, session: u32, place: Place) -> &[u64]
         requires { IsSome (own (memory self.now) session) }
         ensures { IfSome (own (memory self.now) session) (λ t. result.now ≡ words_at (cached self.now.cache).words t.area place) }
@@ -185,7 +185,7 @@ impl Engine {
         }
     }
 
-    /// The same of an object that the transaction has made.
+    /// The same for an object that the transaction has made.
     fn own_fields(&self, session: u32, at: u32) -> &[u64]
         requires { IsSome (own (memory self.now) session) }
         ensures { IfSome (own (memory self.now) session) (λ t. result.now ≡ own_fields t.area at) }
@@ -219,7 +219,7 @@ impl Engine {
         }
     }
 
-    /// Puts a word into a field of an object that stands in the current space: it is locked, its page is scanned first where a gray object
+    /// Puts a word into a field of an object that stands in the current space: it is locked, its page is scanned first if a gray object
     /// starts in it, and the before-image goes to the log.
     fn write_stable(
         &mut self,
@@ -245,10 +245,9 @@ impl Engine {
         let was = scan.word_behind(at, self.cache.word(at));
         let bytes = scan.bytes() + UPDATE_BYTES as u64;
         let reserved = self.reserved + UNDO_BYTES;
-        if let Some(why) = log_refusal(&self.log, need_of(&self.log, bytes), reserved) {
+        if let Some(why) = reserve_room(&mut self.log, bytes, reserved)? {
             return Ok(refused(why));
         }
-        self.log.reserve((bytes + reserved) as usize)?;
         keep_copies(&mut self.collection, scan.copies())?;
         let entry = UndoEntry { object, field, was };
         if let Err(e) = keep_write(&mut self.table, &mut self.locks, session, entry, lock) {
@@ -268,7 +267,7 @@ impl Engine {
         Ok(Reply::Done)
     }
 
-    /// What a field is answered that was read; a handle holds what it refers to.
+    /// The reply for a field that was read; a handle holds what it refers to.
     fn read_into(&mut self, session: u32, h: u64, word: u64) -> Reply
         requires active { IsSome (own (memory self.old) session) }
         requires within { h < 64 }

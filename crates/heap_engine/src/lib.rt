@@ -1,9 +1,9 @@
 //! The engine of an open heap: the log, the pages, the transactions and the locks in memory, and one call, which makes an event on the heap's
 //! disk.
 //!
-//! A session is a number from 1 to 32, and has one transaction at most. The transactions of the sessions are kept apart by strict two-phase
+//! A session is a number from 1 to 32, and has at most one transaction. The transactions of the sessions are isolated by strict two-phase
 //! locking: each locks an object of the current space before it reads or writes it, and keeps its locks until it ends. No event waits for
-//! another: where others hold a conflicting lock it is refused as busy, with the least of their numbers.
+//! another: if others hold a conflicting lock it is refused as busy, with the least of their numbers.
 //!
 //! A collection of one space into the other may run beside the transactions: it begins with a flip, each scan copies what one page leads to,
 //! and an event on an object in a page that is not scanned yet scans that page first.

@@ -13,7 +13,7 @@ use object_locks::{Holding, Key, LockTable, Mode};
 use std::alloc::AllocError;
 use txn_table::TxnTable;
 
-/// The refusal that names who holds an object.
+/// The refusal that names the transaction with the lock.
 fn busy(holder: u32) -> Refusal
     ensures { result ≡ Refusal.Busy holder }
 {
@@ -33,7 +33,7 @@ pub(crate) fn lock_of(t: u32, mode: Mode, at: u32) -> Holding
     }
 }
 
-/// Why a lock can't be taken: others hold the object.
+/// Why a lock can't be taken: others hold conflicting locks on the object.
 pub(crate) fn lock_refusal(locks: &LockTable, lock: Holding) -> Option<Refusal>
     ensures why { result ≡ busy_with (holder_of locks.now lock) }
     ensures free { result ≡ None → MayHold locks.now lock }
@@ -42,8 +42,8 @@ pub(crate) fn lock_refusal(locks: &LockTable, lock: Holding) -> Option<Refusal>
     Some(busy(holder))
 }
 
-/// Keeps what a write of the session's transaction replaces, and takes the lock of the object that it writes, which no other transaction
-/// holds. An error changes nothing.
+/// Keeps what a write of the session's transaction replaces, and takes the lock of the object that it writes, with which no other transaction's
+/// lock conflicts. An error changes nothing.
 pub(crate) fn keep_write(
     table: &mut TxnTable,
     locks: &mut LockTable,

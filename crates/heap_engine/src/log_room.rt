@@ -1,6 +1,6 @@
 //! What the log has room for.
 ghost use Rattle.std.specs.Prelude.{◌≡◌, ◌+◌, ◌<◌, ◌≤◌, ◌^◌, length, Ok, None, IfOk, IfSome, IsSome};
-ghost use Rattle.gated_log.specs.LogState.{log_need, log_room, log_used_with, HasSpare};
+ghost use Rattle.gated_log.specs.LogState.{log_need, log_room, log_used_with, HasSpare, IsSameLog, KeepsMemory};
 ghost use Rattle.log_records.specs.Record.{spellings};
 ghost use Rattle.log_machine.specs.Machine.{end_bytes};
 ghost use Rattle.heap_memory.specs.Memory.{own, reserved};
@@ -35,8 +35,8 @@ pub(crate) fn log_refusal(log: &Log, need: u64, reserved: u64) -> Option<Refusal
     }
 }
 
-/// What records of so many bytes need, with the bytes of a batch where no record is pending.
-pub(crate) fn need_of(log: &Log, bytes: u64) -> u64
+/// What `bytes` bytes of records need, with the bytes of a batch if no record is pending.
+fn need_of(log: &Log, bytes: u64) -> u64
     requires { bytes < 2 ^ 32 + 2 ^ 24 }
     ensures { result ≡ log_need log.now bytes }
 {
@@ -47,12 +47,34 @@ pub(crate) fn need_of(log: &Log, bytes: u64) -> u64
     }
 }
 
+/// Makes room for `bytes` bytes of records, and for the `kept` bytes that end transactions after them: takes the memory, or reports why the log has no
+/// room.
+pub(crate) fn reserve_room(
+    log: &mut Log,
+    bytes: u64,
+    kept: u64,
+) -> Result<Option<Refusal>, AllocError>
+    requires few { bytes < 2 ^ 32 + 2 ^ 24 }
+    requires kept { kept < 2 ^ 33 }
+    ensures why { IfOk result (λ why. why ≡ no_room log.old (log_need log.old bytes) kept) }
+    ensures memory { result ≡ Ok None → HasSpare log.new (bytes + kept) }
+    ensures room { result ≡ Ok None → log_used_with log.new bytes + kept ≤ log_room log.new }
+    ensures same { IsSameLog log.old log.new }
+    ensures keeps { KeepsMemory log.old log.new }
+{
+    if let Some(why) = log_refusal(log, need_of(log, bytes), kept) {
+        return Ok(Some(why));
+    }
+    log.reserve((bytes + kept) as usize)?;
+    Ok(None)
+}
+
 impl Engine {
     ghost use Rattle.heap_memory.specs.Refusals.{reserved_without};
     ghost use Rattle.heap_engine.specs.EngineState.{memory};
 
-    /// Makes room in memory for records of so many bytes, beside what ends all transactions, or tells why the log has none for them. What is
-    /// kept for transactions stays.
+    /// Makes room for `bytes` bytes of records, besides what ends all transactions, or reports why the log has none for them. What is kept for
+    /// transactions stays.
     pub(crate) fn make_room(&mut self, bytes: u64) -> Result<Option<Refusal>, AllocError>
         requires few { bytes < 2 ^ 32 + 2 ^ 24 }
         ensures why { IfOk result (λ why. why ≡ no_room self.old.log (log_need self.old.log bytes) (reserved self.old.table)) }
@@ -60,11 +82,7 @@ impl Engine {
         ensures room { result ≡ Ok None → log_used_with self.new.log bytes + self.new.reserved ≤ log_room self.new.log }
         ensures same { IsAsItWas (memory self.old) (memory self.new) }
     {
-        if let Some(why) = log_refusal(&self.log, need_of(&self.log, bytes), self.reserved) {
-            return Ok(Some(why));
-        }
-        self.log.reserve((bytes + self.reserved) as usize)?;
-        Ok(None)
+        reserve_room(&mut self.log, bytes, self.reserved)
     }
 
     /// The bytes that are kept for the ends of all transactions but that of the session, when it ends.

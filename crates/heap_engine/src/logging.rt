@@ -35,7 +35,7 @@ pub(crate) fn carry_out(log: &mut Log, cache: &mut PageCache, records: &[Record]
     cache.apply_all(first, records);
 }
 
-/// The same of the records of a scan and of a write behind it: all of them are appended before the first is put on its pages.
+/// The same for the records of a scan and of a write after it: all of them are appended before the first is put on its pages.
 pub(crate) fn carry_out_write(log: &mut Log, cache: &mut PageCache, scan: &[Record], write: &Record)
     requires memory { HasSpare log.old (length (spellings (scan.now ++ write.now ∷ []))) }
     requires room { log_used_with log.old (length (spellings (scan.now ++ write.now ∷ []))) ≤ log_room log.old }

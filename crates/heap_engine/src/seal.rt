@@ -14,7 +14,7 @@ ghost use Rattle.std.specs.List.{list_all};
 ghost use Rattle.heap_engine.specs.Seal.{IsFound, IsSealOf};
 
 use crate::engine::{Engine, refused};
-use crate::log_room::{bytes_of, log_refusal, need_of};
+use crate::log_room::{bytes_of, reserve_room};
 use crate::logging::carry_out;
 use graph_model::{Refusal, Reply};
 use heap_spaces::Spaces;
@@ -24,7 +24,7 @@ use log_records::Record;
 use sealing::Sealing;
 use std::alloc::AllocError;
 
-/// Why the current space has no room for so many words.
+/// Why the current space has no room for `need` words.
 fn space_refusal(spaces: &Spaces, need: u64) -> Option<Refusal>
     ensures { result ≡ space_refusal spaces.now need }
 {
@@ -61,8 +61,8 @@ impl Engine {
     ghost use Rattle.heap_memory.specs.Leaves.{IsAsItWas, Seals};
     ghost use Rattle.heap_engine.specs.EngineState.{memory};
 
-    /// Seals the transaction, and tells how many have been sealed since the heap was opened. What its writes have made reachable from the
-    /// objects of the current space is promoted, and its locks are free again. Where nothing is promoted it takes no memory.
+    /// Seals the transaction, and returns how many have been sealed since the heap was opened. What its writes have made reachable from the
+    /// objects of the current space is promoted, and its locks are free again. If nothing is promoted it does not allocate.
     pub(crate) fn seal(&mut self, session: u32) -> Result<Reply, AllocError>
         ensures reply { IfOk result (λ reply. reply ≡ reply_of (seal_refusal (memory self.old) session) (Sealed (self.old.sealed + 1))) }
         ensures sealed { (number : _) → result ≡ Ok (Sealed number) → Seals (memory self.old) (memory self.new) session }
@@ -84,14 +84,13 @@ impl Engine {
         let records = self.seal_records(session, &sealing)?;
         let others = self.reserved_without(session);
         let bytes = bytes_of(&records);
-        if let Some(why) = log_refusal(&self.log, need_of(&self.log, bytes), others) {
+        if let Some(why) = reserve_room(&mut self.log, bytes, others)? {
             return Ok(refused(why));
         }
-        self.log.reserve((bytes + others) as usize)?;
         Ok(self.append_seal(session, sealing.need(), &records))
     }
 
-    /// Appends the records of a seal, which takes so many words of the current space, and ends the transaction. There is room and memory for
+    /// Appends the records of a seal, which takes `need` words of the current space, and ends the transaction. There is room and memory for
     /// them, and for the ends of the others.
     fn append_seal(&mut self, session: u32, need: u64, records: &[Record]) -> Reply
         requires active { IsSome (own (memory self.old) session) }

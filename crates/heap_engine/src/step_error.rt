@@ -6,7 +6,7 @@ use thiserror::Error;
 /// Why an event was not made.
 #[derive(Clone, Copy, Debug, PartialEq, Eq, Error)]
 pub enum StepError {
-    /// Memory was refused. The event changed nothing, and may be asked again.
+    /// Out of memory. The event changed nothing, and may be asked again.
     #[error("memory was refused")]
     NoMemory,
     /// The disk failed or stopped in the event. The engine makes no other one.

@@ -1,4 +1,4 @@
-//! The events that write the disk: what is pending is forced, and a page is stored, never ahead of the log.
+//! The events that write the disk: pending records are forced, and a page is stored, never ahead of the log.
 ghost use Rattle.std.specs.Prelude.{◌≡◌, ◌≢◌, ◌⊎◌, ◌+◌, ◌≤◌, ◌<◌, ℕ, nat_lt, Ok, Err, IfOk, IsTrue, OnOk, if◌then◌else◌};
 ghost use Rattle.disk_model.specs.Disk.{Only, SameOutside, part};
 ghost use Rattle.disk_model.specs.Keeps.{KeepsDisk};
@@ -22,7 +22,7 @@ use disk_model::{Disk, DiskError};
 use gated_log::Log;
 use graph_model::{Refusal, Reply};
 
-/// Forces what is pending where a record of that LSN is not on the disk.
+/// Forces what is pending if a record of that LSN is not on the disk.
 fn force_up_to<D: Disk>(log: &mut Log, disk: &mut D, lsn: u64) -> Result<(), DiskError>
     requires known { lsn ≤ log_count log.old }
     requires inside { log_place log.old + log_room log.old ≤ D.extent disk.old }
@@ -57,14 +57,14 @@ impl Engine {
     ghost use Rattle.heap_engine.specs.Refinement.{KnowsPages, OnDisk, IsLeftByStep, Steps, StepsOn};
     ghost use Rattle.heap_engine.specs.declared.step_error.StepError.TheVariants.{NoMemory};
 
-    /// Forces what is pending. It takes no memory.
+    /// Forces what is pending. Does not allocate.
     pub(crate) fn force<D: Disk>(&mut self, disk: &mut D) -> Result<Reply, StepError>
         requires inside { LiesWithin self.old (D.extent disk.old) }
         requires works { HasNotFailed self.old }
         ensures inside { LiesWithin self.new (D.extent disk.new) }
         ensures works { engine_device result ≡ Ok tt → HasNotFailed self.new }
         ensures disk { KeepsDisk D.Disk disk.old disk.new (engine_device result) }
-        // An answer tells of no failure of the disk.
+        // An answer reports no failure of the disk.
         ensures answered { IfOk result (λ reply. reply_device reply ≡ Ok tt) }
         ensures core { Steps D.Disk Force self.old disk.old self.new disk.new result }
         ensures holds { IsTrue D.tells → StepsOn D.Disk Force self.old disk.old self.new disk.new result }
@@ -82,7 +82,7 @@ impl Engine {
         ensures inside { LiesWithin self.new (D.extent disk.new) }
         ensures works { engine_device result ≡ Ok tt → HasNotFailed self.new }
         ensures disk { KeepsDisk D.Disk disk.old disk.new (engine_device result) }
-        // An answer tells of no failure of the disk.
+        // An answer reports no failure of the disk.
         ensures answered { IfOk result (λ reply. reply_device reply ≡ Ok tt) }
         ensures core { Steps D.Disk (Flush p) self.old disk.old self.new disk.new result }
         ensures holds { IsTrue D.tells → StepsOn D.Disk (Flush p) self.old disk.old self.new disk.new result }
@@ -118,7 +118,7 @@ impl Engine {
         ensures pages { IsTrue D.tells → (c : Core) → IsMemory (memory self.old) (account c.history) c → KnowsPages c (memory self.old) (D.bytes disk.old) → OnOk result (KnowsPages (flushed c p) (memory self.new) (D.bytes disk.new)) }
         ensures holds { IsTrue D.tells → (s : Super) (c : Core) → IsMemory (memory self.old) (account c.history) c → KnowsPages c (memory self.old) (D.bytes disk.old) → OnDisk s c (D.bytes disk.old) (D.may_leave disk.old)
             → OnOk result (OnDisk s (flushed c p) (D.bytes disk.new) (D.may_leave disk.new)) }
-        // At each moment of it a crash leaves a commit prefix, with all commits that were acknowledged or forced before, and each byte behind the plan as it was.
+        // At each moment of it a crash leaves a commit prefix, with all commits that were acknowledged or forced before, and each byte past the plan as it was.
         ensures moments { IsTrue D.tells → (s : Super) (c : Core) → IsMemory (memory self.old) (account c.history) c → KnowsPages c (memory self.old) (D.bytes disk.old) → OnDisk s c (D.bytes disk.old) (D.may_leave disk.old) → IsSound c
             → LeavesOnly D.moment D.left_since disk.old disk.new (IsLeftByStep c (D.bytes disk.old)) }
         ensures passes { IsTrue D.tells → (c : Core) → IsMemory (memory self.old) (account c.history) c → KnowsPages c (memory self.old) (D.bytes disk.old) → Passes (flush_calls c p) (D.passed disk.old) (D.passed disk.new) result }

@@ -1,4 +1,4 @@
-//! Writes are taken back, and no memory is taken for that.
+//! Takes writes back, without allocating.
 ghost use Rattle.std.specs.Prelude.{◌≡◌, ℕ, ◌+◌, ◌≤◌, ◌<◌, ◌^◌, length, reverse, fold};
 ghost use Rattle.gated_log.specs.LogState.{log_room, log_count, log_used, log_used_with, HasSpare};
 ghost use Rattle.heap_memory.specs.Leaves.{Adds};

@@ -35,6 +35,7 @@ impl Engine {
             return Ok(refused(Refusal::NumbersSpent));
         }
         let reserved = self.reserved + end_bytes(0);
+        // It appends nothing, so it needs nothing of the log but what is kept.
         if let Some(why) = log_refusal(&self.log, 0, reserved) {
             return Ok(refused(why));
         }
@@ -46,7 +47,7 @@ impl Engine {
         })
     }
 
-    /// Takes back what the transaction wrote, and ends it: its locks are free again. It takes no memory.
+    /// Takes back what the transaction wrote, and ends it: its locks are free again. Does not allocate.
     pub(crate) fn abort(&mut self, session: u32) -> Reply
         ensures reply { result ≡ reply_of (end_refusal (own (memory self.old) session)) Aborted }
         ensures aborted { result ≡ Aborted → Aborts (memory self.old) (memory self.new) session }

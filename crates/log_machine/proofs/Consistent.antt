@@ -48,7 +48,7 @@ pub consistent_end : (s : State) (t next : ℕ) → IsConsistent s → next ≡ 
 consistent_end s t next is later =
     record { sound = λ q w some. let loser = is.sound q w some in record { some = loser.some; number = loser.number; known = omega (arith, loser.known); inside = loser.inside }; addresses = is.addresses; spaced = spaced_as s s.undo s.commits next is.spaced }
 
--- where nothing may be taken back any more
+-- if nothing may be taken back any more
 pub consistent_settled : (s : State) (undo : FinMap nat_cmp (List UndoEntry)) → IsConsistent s → undo ≡ empty → IsConsistent (record s { undo = undo })
 consistent_settled s undo is none =
     subst (λ u. IsConsistent (record s { undo = u })) (sym none)
@@ -64,7 +64,7 @@ consistent_on s t size used next is room more later = record {
   spaced = record { first = is.spaced.first; room = omega (arith, room, more); within = is.spaced.within };
 }
 
--- one write more
+-- one more write
 pub inside_more : (s : State) (now : State) (t : ℕ) (write : UndoEntry) → IsConsistent s → s ≡ now → lies_inside now write.object write.field ≡ true → AllByRecursion (LiesInside s.base s.used) (write ∷ undo_of s t)
 inside_more s now t write is same inside =
     (inside_told s write.object write.field write.was (ap (λ (x : State). lies_inside x write.object write.field) same ∙ inside), all_inside s t is.sound)

@@ -31,7 +31,7 @@ chosen_of : (b : Bool) (copy : ObjectCopy) (copies : List ObjectCopy) (from : �
 chosen_of true copy copies from rest = refl
 chosen_of false copy copies from rest = rest
 
--- the copy of an object tells where it went
+-- the copy of an object says where it went
 pub destination_of : (copies : List ObjectCopy) (from : ℕ) → destination (pairs_of copies) from ≡ option_map (λ (c : ObjectCopy). c.to) (copy_of copies from)
 destination_of [] from = refl
 destination_of (copy ∷ copies) from = chosen_of (copy.from == from) copy copies from (destination_of copies from)
@@ -61,7 +61,7 @@ has_told : (field : ℕ) (o : Option ObjectCopy) → has_field field o ≡ true 
 has_told field None e = absurd (cc e)
 has_told field (Some copy) e = (copy, refl, ltb-true _ _ e)
 
--- an entry that goes along lies in the copy of its object
+-- an entry that is translated lies in the copy of its object
 entry_inside : (base used : ℕ) (copies : List ObjectCopy) (u : UndoEntry) → AllByRecursion (Stands base used) copies → can_translate copies u ≡ true → LiesInside base used (translated_entry (pairs_of copies) u)
 entry_inside base used copies u stand can =
     let found = has_told u.field (copy_of copies u.object) (and_parts _ _ can).0 in
@@ -83,7 +83,7 @@ some_found : (o : Option ObjectCopy) → is_some o ≡ true → (copy : ObjectCo
 some_found None e = absurd (cc e)
 some_found (Some copy) e = (copy, refl)
 
--- a word of this meaning that goes along is still one that a field may have
+-- a word of this meaning that is translated is still one that a field may have
 word_spelled : (copies : List ObjectCopy) (word : ℕ) (m : Option Word) → AllByRecursion (λ (copy : ObjectCopy). copy.to < 2097152) copies → follows_copies copies m ≡ true → IsFieldWord word → IsFieldWord (translated_by (pairs_of copies) word m)
 word_spelled copies word None fit follows good = good
 word_spelled copies word (Some Null) fit follows good = good
@@ -96,7 +96,7 @@ word_spelled copies word (Some (Stable address)) fit follows good =
     (Stable (moved_to (pairs_of copies) address), low, refl)
 word_spelled copies word (Some (Volatile index)) fit follows good = good
 
--- an entry that goes along has a spelling still
+-- an entry that is translated still has a spelling
 entry_spelled : (copies : List ObjectCopy) (u : UndoEntry) → AllByRecursion (λ (copy : ObjectCopy). copy.to < 2097152) copies → can_translate copies u ≡ true → IsEntry u → IsEntry (translated_entry (pairs_of copies) u)
 entry_spelled copies u fit can good =
     let parts = and_parts (has_field u.field (copy_of copies u.object)) (follows_copies copies (meaning u.was)) can in
@@ -153,7 +153,7 @@ some_translated pairs (u ∷ us) some e = cc e
 
 -- The state.
 
--- what may be taken back is such when it has gone along
+-- what may be taken back is such after it is translated
 pub sound_flipped : (s n : State) (copies : List ObjectCopy) → AreLosers s → can_translate_all copies s.undo ≡ true → s.next ≤ n.next → AllByRecursion (Stands n.base n.used) copies → AreLosers (with_undo n (translated_undo (pairs_of copies) s.undo))
 sound_flipped s n copies sound can later stand = λ q w some.
     let found = some_mapped (translated_list (pairs_of copies)) (get s.undo q) w (sym (get_translated (pairs_of copies) s.undo q) ∙ some) in
@@ -198,13 +198,13 @@ flip_told s n copies None e =
     let found = some_mapped (λ (next : State). with_undo next (translated_undo (pairs_of copies) s.undo)) (copies_after (with_roles_changed s) copies) n told.1 in
     record { m = found.0; along = can.1; copied = found.1; is = found.2 }
 
--- the spaces behind one
+-- the spaces after one
 pub spaced_flip : (s n : State) (copies : List ObjectCopy) → IsSpaced s → IsFlipped s copies n → IsSpaced n
 spaced_flip s n copies is told =
     let there = spaced_copies (with_roles_changed s) told.m copies (spaced_roles s is) told.copied in
     subst IsSpaced told.is (record { first = there.first; room = there.room; within = there.within })
 
--- what may be taken back behind one
+-- what may be taken back after one
 pub sound_flip : (s n : State) (copies : List ObjectCopy) → AreLosers s → IsFlipped s copies n → AreLosers n
 sound_flip s n copies sound told =
     let copied = copies_told (with_roles_changed s) told.m copies told.copied in
@@ -230,7 +230,7 @@ pub flip_not_begun : (s : State) (copies : List ObjectCopy) → begins_at s.base
 flip_not_begun s copies begins =
     ap (λ b. cond (b && can_translate_all copies s.undo) (option_map (λ next. with_undo next (translated_undo (pairs_of copies) s.undo)) (copies_after (with_roles_changed s) copies)) None) begins
 
--- where an entry doesn't go along,
+-- if an entry can't be translated,
 and_false : (a b : Bool) → b ≡ false → (a && b) ≡ false
 and_false true b e = e
 and_false false b e = refl
@@ -271,7 +271,7 @@ flip_copies s n copies None e =
     let found = some_mapped (λ (next : State). with_undo next (translated_undo (pairs_of copies) s.undo)) (copies_after (with_roles_changed s) copies) n told.1 in
     (with_undo found.0 empty, along_copies (with_roles_changed s) found.0 copies empty found.1)
 
--- the state behind a flip, as it is put together in memory
+-- the state after a flip, as it is put together in memory
 abbrev pub flipped_state : State → State → FinMap nat_cmp (List UndoEntry) → State
 flipped_state s n undo = record { pages = s.pages; base = n.base; used = n.used; collection = n.collection; undo = undo; commits = s.commits; next = s.next }
 

@@ -19,7 +19,7 @@ pub AllByRecursion-front : {X : Type 0} (P : X → Type 0) (xs ys : List X) → 
 AllByRecursion-front P [] ys h = tt
 AllByRecursion-front P (x ∷ xs) ys h = (h.0, AllByRecursion-front P xs ys h.1)
 
--- and behind it
+-- and after it
 pub AllByRecursion-behind : {X : Type 0} (P : X → Type 0) (xs ys : List X) → AllByRecursion P (xs ++ ys) → AllByRecursion P ys
 AllByRecursion-behind P [] ys h = h
 AllByRecursion-behind P (x ∷ xs) ys h = AllByRecursion-behind P xs ys h.1

@@ -55,7 +55,7 @@ pub kept_put : (bytes new : ℕ) (es n : List (ℕ × Vec UndoEntry)) (t : ℕ) 
 kept_put bytes new es n t v u us kept changes same e =
     subst (λ undo. IsReserve new undo) (sym (put_list es n (seen_undo es) t v (u ∷ us) refl changes same)) (kept_with bytes new (seen_undo es) t (u ∷ us) kept e)
 
--- one write more on a list
+-- one more write on a list
 pub added : (old new : Vec UndoEntry) (u : UndoEntry) → new.items ≡ old.items ++ u ∷ [] → seen new ≡ u ∷ seen old
 added old new u e = ap reverse e ∙ reverse-append old.items (u ∷ [])
 

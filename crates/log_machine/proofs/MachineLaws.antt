@@ -1,4 +1,4 @@
--- Laws of the state and the words after a list of records: with more records behind it, record by record, and what holds of
+-- Laws of the state and the words after a list of records: with more records after it, record by record, and what holds of
 -- every state that records reach.
 use Rattle.std.proofs.Common.{◌≡◌, ◌≢◌, ℕ, ◌+◌, ◌≤◌, Bool, true, false, cond, List, [], ◌∷◌, ◌++◌, length, Option, None, Some, is_some, refl, ap, ◌∙◌}
 use Rattle.std.specs.Prelude.{◌&&◌, fold, option_and_then, unwrap_or}
@@ -16,16 +16,16 @@ use Rattle.log_machine.specs.Machine.{State, undo_in, undo_of, with_entries, num
 use Rattle.log_machine.specs.Origin.{Origin, words_from}
 use Rattle.log_machine.proofs.MapLaws.{get_inserted, get_removed, get_beside, get_kept, insert_insert, remove_insert, insert_remove, remove_remove}
 
--- Records behind records.
+-- Records after records.
 
--- more records behind these, where their first was taken or not
+-- more records after these, where their first was taken or not
 along_append : (o : Option State) (m : State) (rs more : List Record)
     → ((s : State) → after_all s rs ≡ Some m → after_all s (rs ++ more) ≡ after_all m more)
     → option_and_then (λ next. after_all next rs) o ≡ Some m → option_and_then (λ next. after_all next (rs ++ more)) o ≡ after_all m more
 along_append None m rs more step e = cc
 along_append (Some s) m rs more step e = step s e
 
--- what records say with more records behind them
+-- what records say with more records after them
 pub after_all-append2 : (s m : State) (rs more : List Record) → after_all s rs ≡ Some m → after_all s (rs ++ more) ≡ after_all m more
 after_all-append2 s m [] more e = let same : s ≡ m = cc e in ap (λ (x : State). after_all x more) same
 after_all-append2 s m (r ∷ rs) more e = along_append (after s r) m rs more (λ x. after_all-append2 x m rs more) e
@@ -35,11 +35,11 @@ one_after : (o : Option State) → option_and_then (λ next. Some next) o ≡ o
 one_after None = refl
 one_after (Some s) = refl
 
--- what records say with one record more
+-- what records say with one more record
 pub after_all-append : (s m : State) (rs : List Record) (r : Record) → after_all s rs ≡ Some m → after_all s (rs ++ r ∷ []) ≡ after m r
 after_all-append s m rs r e = after_all-append2 s m rs (r ∷ []) e ∙ one_after (after m r)
 
--- the words with more records behind these
+-- the words with more records after these
 pub words_from-append : (o : Origin) (rs more : List Record) → words_from o (rs ++ more) ≡ fold put_record (words_from o rs) more
 words_from-append o rs more = fold-append put_record o.words rs more
 
@@ -95,7 +95,7 @@ inside_from s u inside = and_from _ _ (le-leb _ _ inside.above) (lt-ltb _ _ insi
 pub inside_told : (s : State) (object field was : ℕ) → lies_inside s object field ≡ true → LiesInside s.base s.used (record { object = object; field = field; was = was })
 inside_told s object field was e = let parts = and_parts _ _ e in record { above = leb-true _ _ parts.0; below = ltb-true _ _ parts.1 }
 
--- What it says that so many words from an address on are the next ones that are not used.
+-- What it means that a number of words from an address on are the next ones that are not used.
 pub record IsNextFree (s : State) (address size : ℕ) : Type 0 where
   pub at : address ≡ s.base + s.used
   pub room : s.used + size + owed s ≤ space_words s.pages
@@ -129,18 +129,18 @@ newest_told (u ∷ us) write rest e =
 newest_taken : (entries : List UndoEntry) (u : UndoEntry) (us : List UndoEntry) → entries ≡ u ∷ us → without_newest entries u ≡ Some us
 newest_taken entries u us e = ap (λ l. without_newest l u) e ∙ ap (λ b. cond b (Some us) None) (same_write u)
 
--- the state behind a record of a transaction with a number
+-- the state after a record of a transaction with a number
 of_number : (s : State) (r : Record) → is_number_or_none (number_of r) ≡ true → after s r ≡ row_after s r
 of_number s r number = ap (λ b. cond b (row_after s r) None) number
 
--- the state behind a write that can follow
+-- the state after a write that can follow
 pub after-Update : (s : State) (t object field was word : ℕ) → is_number t ≡ true → lies_inside s object field ≡ true
     → after s (Update t object field was word) ≡ Some (turned s t (with_entries s.undo t (record { object = object; field = field; was = was } ∷ undo_of s t)) 0)
 after-Update s t object field was word number inside =
     of_number s (Update t object field was word) number
     ∙ ap (λ b. cond b (Some (turned s t (with_entries s.undo t (record { object = object; field = field; was = was } ∷ undo_of s t)) 0)) None) inside
 
--- behind an object that becomes stable
+-- after an object that becomes stable
 pub after-Base : (s : State) (t address : ℕ) (words : List ℕ) → is_number t ≡ true → IsNextFree s address (length words) → is_promoted_by t words ≡ true
     → after s (Base t address words) ≡ Some (promoted s t (length words))
 after-Base s t address words number free own =
@@ -159,24 +159,24 @@ follows_Base s t address words e =
     let both = told_both (is_number t) (is_next_free s address (length words) && is_promoted_by t words) (promoted s t (length words)) e in
     (both.0, free_told s address (length words) (and_parts _ _ both.1).0)
 
--- behind a field that comes to refer to one
+-- after a field that comes to refer to one
 pub after-Fix : (s : State) (t object field word : ℕ) → is_number t ≡ true → lies_inside s object field ≡ true → is_stable word ≡ true
     → after s (Fix t object field word) ≡ Some (turned s t s.undo 0)
 after-Fix s t object field word number inside stable =
     of_number s (Fix t object field word) number
     ∙ ap (λ b. cond b (Some (turned s t s.undo 0)) None) (and_from _ _ inside stable)
 
--- behind one that takes the newest write back
+-- after one that takes the newest write back
 pub after-Undo : (s : State) (t : ℕ) (u : UndoEntry) (us : List UndoEntry) → is_number t ≡ true → undo_of s t ≡ u ∷ us
     → after s (Undo t u.object u.field u.was) ≡ Some (turned s t (with_entries s.undo t us) 0)
 after-Undo s t u us number newest =
     of_number s (Undo t u.object u.field u.was) number
     ∙ ap (λ (x : Option (List UndoEntry)). option_and_then (λ rest. Some (turned s t (with_entries s.undo t rest) 0)) x) (newest_taken (undo_of s t) u us newest)
 
--- behind a commit
+-- after a commit
 pub after-Commit : (s : State) (t : ℕ) → is_number t ≡ true → after s (Commit t) ≡ Some (turned s t (with_entries s.undo t []) 1)
 after-Commit s t number = of_number s (Commit t) number
 
--- and behind an end
+-- and after an end
 pub after-End : (s : State) (t : ℕ) → is_number t ≡ true → undo_of s t ≡ [] → after s (End t) ≡ Some (turned s t s.undo 0)
 after-End s t number none = of_number s (End t) number ∙ ap (λ l. cond (has_none l) (Some (turned s t s.undo 0)) None) none

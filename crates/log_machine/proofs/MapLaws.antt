@@ -136,7 +136,7 @@ module _ {X : Type 0} (f : X → ℕ) where
       let new = rest none in
       omega arith
 
-  -- one entry more
+  -- one more entry
   sum-put : (k : ℕ) (v : X) (es : List (ℕ × X)) → find nat_cmp k es ≡ None → sum_over f (put nat_cmp k v es) ≡ f v + sum_over f es
   sum-put k v [] none = sum_by-cons (λ (x : ℕ × X). f x.1) (k, v) []
   sum-put k v (e ∷ es) none = placed k v e es (put nat_cmp k v es) (nat_cmp k e.0) refl none (λ gone. sum-put k v es gone)

@@ -40,6 +40,6 @@ fix_records t fixes = map (λ f. Fix t f.0 f.1 f.2) fixes
 abbrev pub CanFix : State → FieldWord → Type 0
 CanFix s f = (lies_inside s f.0 f.1 ≡ true) × (is_stable f.2 ≡ true)
 
--- the state where so many words more are used
+-- the state when that many more words are used
 abbrev pub with_used : State → ℕ → State
 with_used s size = record s { used = s.used + size }

@@ -1,4 +1,4 @@
--- The state behind the records of a promotion: only the number of used words and the next number may be others.
+-- The state after the records of a promotion: only the number of used words and the next number may be others.
 use Rattle.std.proofs.Common.{◌≡◌, ℕ, ◌+◌, ◌<◌, ◌≤◌, max, true, List, [], ◌∷◌, ◌++◌, length, Some, refl, sym, ap, ◌∙◌, subst, arith, length-append}
 use Rattle.std.specs.Prelude.{option_and_then}
 use Rattle.std.specs.List.{AllByRecursion}
@@ -84,7 +84,7 @@ used_twice s a b = ap (λ n. record s { used = n }) (omega arith)
 used_none : (s : State) → s ≡ with_used s 0
 used_none s = ap (λ n. record s { used = n }) (omega arith)
 
--- the state behind objects that become stable, the first at the first word that is not used
+-- the state after objects that become stable, the first at the first word that is not used
 pub bases_reach : (s : State) (t address : ℕ) (os : List (List ℕ)) → is_number t ≡ true → t < s.next → address ≡ s.base + s.used → s.used + length (end_to_end os) + owed s ≤ space_words s.pages
     → AllByRecursion (λ o. is_promoted_by t o ≡ true) os → after_all s (base_records t address os) ≡ Some (with_used s (length (end_to_end os)))
 bases_reach s t address [] number known at room own = ap Some (used_none s)
@@ -95,14 +95,14 @@ bases_reach s t address (o ∷ os) number known at room own =
     ∙ bases_reach (with_used s (length o)) t (address + length o) os number known (omega arith) (omega arith) own.1
     ∙ ap Some (used_twice s (length o) (length (end_to_end os)) ∙ ap (with_used s) (sym size))
 
--- the state behind fields that come to refer to them
+-- the state after fields that come to refer to them
 pub fixes_reach : (s : State) (t : ℕ) (fs : List FieldWord) → is_number t ≡ true → t < s.next → AllByRecursion (CanFix s) fs → after_all s (fix_records t fs) ≡ Some s
 fixes_reach s t [] number known can = refl
 fixes_reach s t (f ∷ fs) number known can =
     let first = after-Fix s t f.0 f.1 f.2 number can.0.0 can.0.1 ∙ ap Some (turned_known s t known) in
     ap (λ x. option_and_then (λ next. after_all next (fix_records t fs)) x) first ∙ fixes_reach s t fs number known can.1
 
--- the state behind both
+-- the state after both
 pub promotion_reaches : (s : State) (t address : ℕ) (os : List (List ℕ)) (fs : List FieldWord) → is_number t ≡ true → t < s.next → address ≡ s.base + s.used → s.used + length (end_to_end os) + owed s ≤ space_words s.pages
     → AllByRecursion (λ o. is_promoted_by t o ≡ true) os → AllByRecursion (CanFix (with_used s (length (end_to_end os)))) fs
     → after_all s (base_records t address os ++ fix_records t fs) ≡ Some (with_used s (length (end_to_end os)))

@@ -45,7 +45,7 @@ unshaped_at o rs i r m lt at so_far stuck = record {
   stuck = ap (λ n. after_all o.state (take n rs)) (omega arith) ∙ ap (λ (l : List Record). after_all o.state l) (front rs i r lt at) ∙ after_all-append o.state m (take i rs) r so_far ∙ stuck;
 }
 
--- records behind one that can't follow
+-- records after one that can't follow
 stuck_in : (o : Option State) (rs rest : List Record) → ((n : State) → after_all n rs ≡ None → after_all n (rs ++ rest) ≡ None)
     → option_and_then (λ n. after_all n rs) o ≡ None → option_and_then (λ n. after_all n (rs ++ rest)) o ≡ None
 stuck_in None rs rest step stuck = refl

@@ -42,7 +42,7 @@ reserve-with s t us more = bytes_with s.undo t us
 pub reserve-start : (pages first : ℕ) → reserve (start pages first) ≡ 0
 reserve-start pages first = ap (λ es. sum_over undo_bytes es) (entries_empty (List UndoEntry))
 
--- a write more keeps at most the bytes of an end and of one write
+-- one more write keeps at most the bytes of an end and of one write
 bytes_more : (u : UndoEntry) (us : List UndoEntry) → bytes_for (u ∷ us) ≤ bytes_for us + 29
 bytes_more u [] = omega arith
 bytes_more u (w ∷ ws) = omega arith
@@ -84,6 +84,6 @@ reserve_row s n (Scan page writes) sound e = let same = (collects s n (Scan page
 reserve_row s n (Flip copies) sound e = let same = (collects s n (Flip copies) e).bytes in omega arith
 reserve_row s n Collected sound e = let same = (collects s n Collected e).bytes in omega arith
 
--- a record more keeps at most so many bytes more
+-- one more record keeps at most that many bytes more
 pub reserve-after : (s n : State) (r : Record) → AreLosers s → after s r ≡ Some n → reserve n ≤ reserve s + 29
 reserve-after s n r sound e = let told = told_if _ _ _ e in reserve_row s n r sound told.1

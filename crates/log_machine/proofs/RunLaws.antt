@@ -70,7 +70,7 @@ runs-effect before (Scan page writes) = writes_each writes
 runs-effect before (Flip copies) = copies_each copies
 runs-effect before Collected = refl
 
--- one run more
+-- one more run
 pub writes_more : (so_far : List (ℕ × List ℕ)) (run : ℕ × List ℕ) → run_writes (so_far ++ run ∷ []) ≡ run_writes so_far ++ enumerate_from run.0 run.1
 writes_more so_far run =
     flat_map-append (λ (r : ℕ × List ℕ). enumerate_from r.0 r.1) so_far (run ∷ [])

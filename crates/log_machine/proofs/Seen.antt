@@ -1,4 +1,4 @@
--- What a change of the lists in memory is to the map that contracts see.
+-- What a change of the lists in memory does to the map that contracts see.
 use Rattle.std.proofs.Common.{◌≡◌, ℕ, Bool, true, false, cond, List, [], ◌∷◌, map, reverse, Option, None, Some, Less, refl, sym, ap, ◌∙◌}
 use Rattle.std.specs.Prelude.{T, ◌&&◌, unwrap_or, option_map}
 use Rattle.std.specs.List.{AllByRecursion}

@@ -18,7 +18,7 @@ spaced_ends s is = elim is.first [ inl low ↦ let room = is.room in omega arith
 pub spaced_more : (s : State) (n : ℕ) → IsSpaced s → s.used + n ≤ space_words s.pages → s.base + s.used + n ≤ words_in s.pages
 spaced_more s n is room = elim is.first [ inl low ↦ omega arith | inr high ↦ omega arith ]
 
--- a write of a used word is one where more words are used
+-- a write of a used word is still one if more words are used
 pub inside_on : (base used used' : ℕ) (us : List UndoEntry) → used ≤ used' → AllByRecursion (LiesInside base used) us → AllByRecursion (LiesInside base used') us
 inside_on base used used' [] more inside = tt
 inside_on base used used' (u ∷ us) more inside = (record { above = inside.0.above; below = omega (arith, inside.0.below, more) }, inside_on base used used' us more inside.1)

@@ -25,7 +25,7 @@ pub use Rattle.log_machine.proofs.Spaced.{spaced_start, spaced_ends, spaced_more
 
 -- What one record does.
 
--- a record that uses no words more
+-- a record that uses no more words
 turned_turns : (s n : State) (r : Record) (t : ℕ) (undo : FinMap nat_cmp (List UndoEntry)) → number_of r ≡ Some t → is_number t ≡ true → turned s t undo (cond (is_commit r) 1 0) ≡ n → Turns s r n
 turned_turns s n r t undo own number is =
     subst (Turns s r) is
@@ -72,7 +72,7 @@ turns s n r e = let told = told_if _ _ _ e in row_turns s n r told.0 told.1
 
 -- Sound states.
 
--- a loser is one behind a record more
+-- a loser is still one after one more record
 pub grown : (s : State) (t : ℕ) (undo : FinMap nat_cmp (List UndoEntry)) (more q : ℕ) (entries : List UndoEntry) → IsLoser s q entries → IsLoser (turned s t undo more) q entries
 grown s t undo more q entries is = record { some = is.some; number = is.number; known = omega (arith, is.known); inside = is.inside }
 
@@ -178,7 +178,7 @@ spelled_row s n (Scan page writes) good spaced few each e = (collects s n (Scan 
 spelled_row s n (Flip copies) good spaced few each e = (collects s n (Flip copies) e).spelled spaced few each
 spelled_row s n Collected good spaced few each e = (collects s n Collected e).spelled spaced few each
 
--- one record more leaves a sound state
+-- one more record leaves a sound state
 pub sound_after : (s n : State) (r : Record) → AreLosers s → after s r ≡ Some n → AreLosers n
 sound_after s n r sound e = let told = told_if _ _ _ e in sound_row s n r told.0 sound told.1
 
@@ -189,12 +189,12 @@ sound_after_all s m (r ∷ rs) sound e = option_and_then_some (λ next. after_al
 
 -- Where records lead.
 
--- the next number behind a record grows, and stays in range
+-- the next number after a record grows, and stays in range
 next_later : (next : ℕ) (number : Option ℕ) → is_number_or_none number ≡ true → (next ≤ next_with next number) × (next ≤ 4294967295 → next_with next number ≤ 4294967295)
 next_later next None is = (omega arith, λ fits. fits)
 next_later next (Some t) is = let small = number_small t is in (omega arith, λ fits. omega arith)
 
--- where one record more leads
+-- where one more record leads
 leads_turned : (s n : State) (r : Record) → Turns s r n → Leads s n
 leads_turned s n r is =
     let later = next_later s.next (number_of r) is.number in
@@ -220,7 +220,7 @@ leads_after_all s m (r ∷ rs) e = option_and_then_some (λ next. after_all next
 
 -- What records can take back.
 
--- one record more leaves undos that have spellings
+-- one more record leaves undos that have spellings
 pub spelled_after : (s n : State) (r : Record) → IsRecord r → IsSpaced s → words_in s.pages ≤ 2097152 → HaveSpellings s.undo → after s r ≡ Some n → HaveSpellings n.undo
 spelled_after s n r good spaced few each e = let told = told_if _ _ _ e in spelled_row s n r good spaced few each told.1
 
@@ -263,7 +263,7 @@ commits-after_all s m (r ∷ rs) e = option_and_then_some (λ next. after_all ne
     let more = sum_by-cons (λ x. cond (is_commit x) 1 0) r rs in
     omega arith)
 
--- so does the state that they leave behind an origin: its commits are those of the origin and their own
+-- so does the state that they leave from an origin: its commits are those of the origin and their own
 pub commits-from : (o : Origin) (m : State) (rs : List Record) → state_from o rs ≡ Some m → commits_in (state_from o rs) ≡ o.state.commits + commits rs
 commits-from o m rs e = let all = commits-after_all o.state m rs e in let same = ap commits_in e in omega arith
 

@@ -68,7 +68,7 @@ taken_first s t (u ∷ us) now sound own other =
 pub all_taken_back-first : (s : State) (t : ℕ) (now : List ℕ) → AreLosers s → IsApart s t (undo_of s t) → all_taken_back s now ≡ others_taken_back s t (taken_back (undo_of s t) now)
 all_taken_back-first s t now sound other = taken_first s t (undo_of s t) now sound refl other
 
--- Behind records.
+-- After records.
 
 -- a write is taken back with the others
 pub taken_back-Update : (s : State) (now : List ℕ) (t object field was word : ℕ) → AreLosers s → get_or now (field_at object field) 0 ≡ was → IsApart s t (record { object = object; field = field; was = was } ∷ undo_of s t)

@@ -1,4 +1,4 @@
--- The lists in memory when their writes go along with objects that have moved.
+-- The lists in memory when their writes are translated to where objects have moved.
 use Rattle.std.proofs.Common.{◌≡◌, ℕ, Bool, true, false, cond, List, [], ◌∷◌, ◌++◌, map, reverse, refl, sym, ap, ◌∙◌, subst, arith}
 use Rattle.std.specs.Prelude.{T, ◌&&◌}
 use Rattle.std.specs.List.{list_all}
@@ -25,7 +25,7 @@ use Rattle.log_machine.specs.Collecting.{can_translate, can_translate_all, trans
 use Rattle.log_machine.proofs.Seen.{entries_seen}
 use Rattle.log_machine.proofs.FlipLaws.{get_translated, some_mapped, some_translated}
 
--- the entries of a transaction go along in either order
+-- the entries of a transaction are translated in either order
 reverse_translated : (pairs : List (ℕ × ℕ)) (us : List UndoEntry) → reverse (translated_list pairs us) ≡ translated_list pairs (reverse us)
 reverse_translated pairs [] = refl
 reverse_translated pairs (u ∷ us) =
@@ -85,7 +85,7 @@ in_order undo es is sorted =
 entries_translated : (pairs : List (ℕ × ℕ)) (undo : FinMap nat_cmp (List UndoEntry)) → entries (translated_undo pairs undo) ≡ map (translated_loser pairs) (entries undo)
 entries_translated pairs undo = in_order (translated_undo pairs undo) (map (translated_loser pairs) (entries undo)) refl (subst T (sym (sorted_along pairs (entries undo))) (entries_sorted undo))
 
--- the log's bytes that are kept are as many behind a flip
+-- the log's bytes that are kept are as many after a flip
 pub reserve-translated : (pairs : List (ℕ × ℕ)) (s n : State) → reserve (with_undo n (translated_undo pairs s.undo)) ≡ reserve s
 reserve-translated pairs s n = ap (λ es. sum_over undo_bytes es) (entries_translated pairs s.undo) ∙ sum_translated pairs (entries s.undo)
 
@@ -106,7 +106,7 @@ kept_translated pairs bytes es kept is sorted sorted' same =
       some = subst NoneEmpty (sym (seen_translated pairs es kept sorted same)) (some_each pairs (seen_undo es) is.some);
     }
 
--- Whether each goes along.
+-- Whether each can be translated.
 
 and_swap : (a b : Bool) → (a && (b && true)) ≡ (b && a)
 and_swap true true = refl

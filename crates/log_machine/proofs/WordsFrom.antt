@@ -18,7 +18,7 @@ below_at address end i words below lt =
     let here = AllByRecursion-at (λ (w : ℕ × ℕ). w.0 < end) (enumerate_from address words) i (0, 0) (omega (arith, length-enumerate_from address words)) below in
     subst (λ (w : ℕ × ℕ). w.0 < end) (get_or-enumerate_from address words i (0, 0) lt) here
 
--- one more stands behind those before it
+-- one more stands after those before it
 pub enumerate_from-push : (address : ℕ) (words : List ℕ) (w : ℕ) → enumerate_from address (words ++ w ∷ []) ≡ enumerate_from address words ++ (address + length words, w) ∷ []
 enumerate_from-push address [] w = let here : address ≡ address + 0 = omega arith in ap (λ (a : ℕ). (a, w) ∷ []) here
 enumerate_from-push address (v ∷ vs) w =
@@ -38,7 +38,7 @@ put_sets now address (w ∷ ws) =
     let there : address + 1 ≡ suc address = omega arith in
     ap (λ (a : ℕ). put_all (set now address w) (enumerate_from a ws)) there ∙ put_sets (set now address w) (suc address) ws
 
--- the words with these put from an address on: those before it, these, and those behind them
+-- the words with these put from an address on: those before it, these, and those after them
 pub put_from : (now : List ℕ) (address : ℕ) (words : List ℕ) → address + length words ≤ length now → put_all now (enumerate_from address words) ≡ take address now ++ words ++ drop (address + length words) now
 put_from now address words fits = put_sets now address words ∙ sets-eq words now address fits
 
@@ -61,7 +61,7 @@ put_from-at now address (suc i) (w ∷ ws) fits lt =
     let size = length-set now address w in
     ap (λ (a : ℕ). get_or (put_all (set now address w) (enumerate_from (address + 1) ws)) a 0) here ∙ put_from-at (set now address w) (address + 1) i ws (omega arith) (omega arith)
 
--- those behind them stay as they were
+-- those after them stay as they were
 pub put_from-behind : (now : List ℕ) (address i : ℕ) (words : List ℕ) → address + length words ≤ i → get_or (put_all now (enumerate_from address words)) i 0 ≡ get_or now i 0
 put_from-behind now address i [] le = refl
 put_from-behind now address i (w ∷ ws) le =

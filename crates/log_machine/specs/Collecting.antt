@@ -26,15 +26,15 @@ use Rattle.heap_words.specs.declared.TheConstants.{PAGE_WORDS}
 abbrev pub other_base : State → ℕ
 other_base s = space_words s.pages - s.base
 
--- so many words at an address lie in the used words of the from-space
+-- that many words at an address lie in the used words of the from-space
 abbrev pub lies_in_from : State → Collection → ℕ → ℕ → Bool
 lies_in_from s k from size = nat_le (other_base s) from && nat_le (from + size) (other_base s + k.used)
 
--- an object of so many words, at least a header and a birth, at an address of the from-space is left to be copied
+-- an object of that many words, at least a header and a birth, at an address of the from-space is left to be copied
 abbrev pub can_move : State → Collection → ℕ → ℕ → Bool
 can_move s k from size = nat_le 2 size && lies_in_from s k from size && nat_le (k.copied + size) k.used && not (contains k.moved from)
 
--- so many words from an address on are the next words of the current space that are not used
+-- that many words from an address on are the next words of the current space that are not used
 abbrev pub can_hold : State → ℕ → ℕ → Bool
 can_hold s to size = to == s.base + s.used && nat_le (s.used + size) (space_words s.pages)
 
@@ -88,11 +88,11 @@ follows_copies copies (Some (word.Int n)) = true
 follows_copies copies (Some (word.Stable address)) = is_some (copy_of copies address)
 follows_copies copies (Some (word.Volatile index)) = true
 
--- an entry goes along with the copies: its object is copied with that field, and so is what the word leads to that it would put back
+-- an entry can be translated by the copies: its object is copied with that field, and so is what the word leads to that it would put back
 abbrev pub can_translate : List ObjectCopy → UndoEntry → Bool
 can_translate copies u = has_field u.field (copy_of copies u.object) && follows_copies copies (meaning u.was)
 
--- so does each entry of each transaction
+-- so can each entry of each transaction
 abbrev pub can_translate_all : List ObjectCopy → FinMap nat_cmp (List UndoEntry) → Bool
 can_translate_all copies undo = list_all (λ e. list_all (can_translate copies) e.1) (finmap.entries undo)
 

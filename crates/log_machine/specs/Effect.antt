@@ -1,4 +1,4 @@
--- Where a record writes, and what it asks of memory.
+-- Where a record writes, and what memory it needs.
 use Rattle.std.specs.Prelude.{ℕ, ◌≡◌, ◌<◌, ◌++◌, List}
 use Rattle.std.specs.List.{AllByRecursion}
 use Rattle.log_records.specs.declared.Record.{Record}
@@ -59,6 +59,6 @@ TakesMemory (Copy from to words) = Unit {0}
 TakesMemory (Flip copies) = Unit {0}
 TakesMemory rec = ⊥
 
--- words with their addresses that go on from these
+-- words with their addresses that continue these
 abbrev pub GoesOn : List (ℕ × ℕ) → List (ℕ × ℕ) → Type 0
 GoesOn before writes = (more : List (ℕ × ℕ)) × (writes ≡ before ++ more)

@@ -52,7 +52,7 @@ effect before (Scan page writes) = writes
 effect before (Flip copies) = flat_map writes_of copies
 effect before Collected = []
 
--- the addresses that it writes, which the record alone tells
+-- the addresses that it writes, which the record alone determines
 abbrev pub addresses : Record → List ℕ
 addresses (Update t object field was word) = field_at object field ∷ []
 addresses (Base t address words) = map (λ w. w.0) (enumerate_from address words)
@@ -140,7 +140,7 @@ abbrev pub is_number_or_none : Option ℕ → Bool
 is_number_or_none None = true
 is_number_or_none (Some t) = is_number t
 
--- the next transaction's number behind a record of this one, or of none
+-- the next transaction's number after a record of this one, or of none
 abbrev pub next_with : ℕ → Option ℕ → ℕ
 next_with next None = next
 next_with next (Some t) = max next (t + 1)
@@ -149,7 +149,7 @@ next_with next (Some t) = max next (t + 1)
 abbrev pub lies_inside : State → ℕ → ℕ → Bool
 lies_inside s object field = nat_le s.base object && nat_lt (field_at object field) (s.base + s.used)
 
--- so many words from the address on are the next words of the current space that are not used, and none of them is owed to a collection
+-- that many words from the address on are the next words of the current space that are not used, and none of them is owed to a collection
 abbrev pub is_next_free : State → ℕ → ℕ → Bool
 is_next_free s address size = address == s.base + s.used && nat_le (s.used + size + owed s) (space_words s.pages)
 
@@ -191,11 +191,11 @@ commits records = count_by is_commit records
 abbrev pub turned : State → ℕ → FinMap nat_cmp (List UndoEntry) → ℕ → State
 turned s t undo more = record s { undo = undo; commits = s.commits + more; next = max s.next (t + 1) }
 
--- the state after a transaction's object has become stable, which has so many words
+-- the state after a transaction's object has become stable, which has that many words
 abbrev pub promoted : State → ℕ → ℕ → State
 promoted s t size = record s { used = s.used + size; next = max s.next (t + 1) }
 
--- the state after one record more, if it can follow, where a transaction's number is one
+-- the state after one more record, if it can follow, given whether its transaction's number is one
 abbrev pub row_after : State → Record → Option State
 row_after s (Update t object field was word) =
     if lies_inside s object field
@@ -214,7 +214,7 @@ row_after s (Scan page writes) = collecting_after s (Scan page writes)
 row_after s (Flip copies) = collecting_after s (Flip copies)
 row_after s Collected = collecting_after s Collected
 
--- the state after one record more, if it can follow
+-- the state after one more record, if it can follow
 abbrev pub after : State → Record → Option State
 after s rec = if is_number_or_none (number_of rec) then row_after s rec else None
 
@@ -257,7 +257,7 @@ abort_each entries = flat_map (λ e. abort_records e.0 e.1) entries
 abbrev pub rollback : State → List Record
 rollback s = abort_each (losing s)
 
--- the log's bytes that are kept to take so many writes of a transaction back: a batch, an End, and an Undo for each write
+-- the log's bytes that are kept to take that many writes of a transaction back: a batch, an End, and an Undo for each write
 abbrev pub end_bytes : ℕ → ℕ
 end_bytes writes = BATCH_BYTES + END_BYTES + PUT_BYTES * writes
 

@@ -14,11 +14,11 @@ pub record Origin : Type 0 where
 abbrev pub first_lsn : ℕ
 first_lsn = FIRST_LSN
 
--- The origin of each log, as long as none is truncated: a new heap with spaces of so many pages, whose first transaction has this number.
+-- The origin of each log, as long as none is truncated: a new heap with spaces of that many pages, whose first transaction has this number.
 abbrev pub heap_origin : ℕ → ℕ → Origin
 heap_origin pages first = record { lsn = first_lsn; state = start pages first; words = first_contents pages }
 
--- the LSN of a record behind these
+-- the LSN of a record after these
 abbrev pub next_lsn : Origin → List Record → ℕ
 next_lsn o records = length records + o.lsn
 
@@ -26,11 +26,11 @@ next_lsn o records = length records + o.lsn
 abbrev pub records_below : Origin → ℕ → List Record → List Record
 records_below o lsn records = take (lsn - o.lsn) records
 
--- the state behind these records, if each of them can follow
+-- the state after these records, if each of them can follow
 abbrev pub state_from : Origin → List Record → Option State
 state_from o records = after_all o.state records
 
--- the words behind them
+-- the words after them
 abbrev pub words_from : Origin → List Record → List ℕ
 words_from o records = fold put_record o.words records
 

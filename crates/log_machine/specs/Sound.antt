@@ -21,7 +21,7 @@ pub record IsLoser (s : State) (t : ℕ) (entries : List UndoEntry) : Type 0 whe
 abbrev pub NoneEmpty : FinMap nat_cmp (List UndoEntry) → Type 0
 NoneEmpty undo = EachKeyed (λ t entries. entries ≢ []) undo
 
--- each of the transactions whose writes may be taken back is such
+-- each of the transactions whose writes may be taken back is a loser
 abbrev pub AreLosers : State → Type 0
 AreLosers s = EachKeyed (IsLoser s) s.undo
 

@@ -1,4 +1,4 @@
--- What a list of records leaves behind, beside the words.
+-- What a list of records leaves, besides the words.
 use Rattle.std.specs.Prelude.{ℕ, List, Option}
 use Rattle.std.specs.Ordering.{nat_cmp}
 use Rattle.std.specs.FinMap.{FinMap}

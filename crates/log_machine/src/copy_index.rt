@@ -1,4 +1,4 @@
-//! The copies of a flip, found by where their objects stood.
+//! The copies of a flip, indexed by where their objects stood.
 ghost use Rattle.std.specs.Prelude.{◌≡◌, ◌<◌, IfOk, option_map};
 ghost use Rattle.std.specs.List.{list_all};
 ghost use Rattle.heap_words.specs.Word.{meaning};
@@ -24,7 +24,7 @@ pub(crate) struct CopyIndex<'a> {
 }
 
 impl<'a> CopyIndex<'a> {
-    /// Finds these copies, of which each stands in the words of a heap. It takes memory for their places.
+    /// Indexes these copies, each of which stands in the words of a heap. It allocates memory for their places.
     pub(crate) fn of(alloc: Global, copies: &'a [ObjectCopy]) -> Result<CopyIndex<'a>, AllocError>
         requires { StandInside copies.now }
         ensures { IfOk result (λ index. index.copies.now ≡ copies.now) }
@@ -45,7 +45,7 @@ impl<'a> CopyIndex<'a> {
         self.copies.get(*self.places.get(&from)?)
     }
 
-    /// Whether each entry goes along with the copies: its object is copied with that field, and so is what the word leads to that it would
+    /// Whether each entry can be translated by the copies: its object is copied with that field, and so is what the word leads to that it would
     /// put back.
     pub(crate) fn can_translate_each(&self, entries: &[UndoEntry]) -> bool
         ensures { result ≡ list_all (can_translate self.now.copies.now) entries.now }
@@ -53,7 +53,7 @@ impl<'a> CopyIndex<'a> {
         entries.iter().all(|entry| self.can_translate(*entry))
     }
 
-    // The entry goes along with the copies.
+    // The entry can be translated by the copies.
     fn can_translate(&self, entry: UndoEntry) -> bool
         ensures { result ≡ can_translate self.now.copies.now entry }
     {
@@ -80,8 +80,8 @@ impl<'a> CopyIndex<'a> {
         }
     }
 
-    /// The objects have moved: each entry names its object where that stands now, and a reference that it would put back leads to where its
-    /// object stands now. All else and the order stay. It takes no memory.
+    /// The objects have moved: each entry names its object by its new address, and a reference that it would put back leads to the object's
+    /// new address. All else, and the order, stay. Does not allocate.
     pub(crate) fn translate(&self, entries: &mut [UndoEntry])
         ensures { entries.new ≡ translated_list (pairs_of self.now.copies.now) entries.old }
     {
@@ -90,7 +90,7 @@ impl<'a> CopyIndex<'a> {
         }
     }
 
-    // The entry then.
+    // The entry after the move.
     fn translated(&self, entry: UndoEntry) -> UndoEntry
         ensures { result ≡ translated_entry (pairs_of self.now.copies.now) entry }
     {
@@ -101,7 +101,7 @@ impl<'a> CopyIndex<'a> {
         }
     }
 
-    // Where the object stands now that stood at an address.
+    // The new address of the object that stood at an address.
     fn moved_to(&self, from: u32) -> u32
         ensures to { result ≡ moved_to (pairs_of self.now.copies.now) from }
         ensures inside { from < 2097152 → result < 2097152 }
@@ -112,7 +112,7 @@ impl<'a> CopyIndex<'a> {
         }
     }
 
-    // A field's word then.
+    // A field's word after the move.
     fn translated_word(&self, word: u64) -> u64
         ensures { result ≡ translated_word (pairs_of self.now.copies.now) word }
     {

@@ -28,7 +28,7 @@ pub const LAST_NUMBER: u32 = 4_294_967_294;
 /// Why a record was not taken.
 #[derive(Clone, Copy, Debug, PartialEq, Eq)]
 pub enum AfterError {
-    /// There was no memory for another write that may be taken back.
+    /// An allocation failed for another write that may be taken back.
     NoMemory,
     /// The record can't follow those before it.
     Unshaped,
@@ -73,8 +73,8 @@ impl Model for LogState {
 }
 
 impl LogState {
-    /// Before the first record, in a heap of two spaces of so many pages whose first transaction has the number `first`. Each word
-    /// has an address of 32 bits. It takes no memory.
+    /// Before the first record, in a heap of two spaces of `pages` pages whose first transaction has the number `first`. Each word
+    /// has an address of 32 bits. Does not allocate.
     pub fn start(alloc: Global, pages: u32, first: u32) -> LogState
         requires some { 1 ≤ pages }
         requires addresses { words_in pages ≤ 2097152 }
@@ -155,7 +155,7 @@ impl LogState {
         }
     }
 
-    /// The collection that runs, where one does, from a state that is needed no more.
+    /// The collection that runs, if one does, from a state that is not needed any more.
     pub fn into_collection(self) -> Option<Collection>
         ensures { result ≡ self.collection }
     {
@@ -198,8 +198,8 @@ impl LogState {
         self.undo.abort_records()
     }
 
-    /// Takes one record more, or tells that it can't follow. After any error the state is as before. Only an `Update`, a `Copy` and a `Flip`
-    /// may lack memory; whether a `Flip` can follow is not reported then.
+    /// Takes one more record, or reports that it can't follow. After any error the state is as before. Only an `Update`, a `Copy` and a `Flip`
+    /// may run out of memory; whether a `Flip` can follow is not reported then.
     pub fn after(&mut self, alloc: Global, rec: &Record) -> Result<(), AfterError>
         requires commits { self.old.commits + 1 < 2 ^ 64 }
         requires room { reserve self.old + 29 < 2 ^ 64 }
@@ -223,8 +223,8 @@ impl LogState {
         }
     }
 
-    // Takes one record of a transaction more, or tells that it can't follow, as no other record can. After any error the state is as before.
-    // Only an `Update` may lack memory.
+    // Takes one more record of a transaction, or reports that it can't follow, as no other record can. After any error the state is as before.
+    // Only an `Update` may run out of memory.
     fn transaction_after(&mut self, rec: &Record) -> Result<(), AfterError>
         requires transaction { IsOfTransaction rec.now }
         requires commits { self.old.commits + 1 < 2 ^ 64 }
@@ -279,7 +279,7 @@ impl LogState {
         self.used += words.len() as u32;
     }
 
-    // Takes the newest write of transaction `t` off.
+    // Removes the newest write of transaction `t`.
     fn take_off(&mut self, t: u32)
         requires { is_number t ≡ true }
         ensures { self.new ≡ turned self.old t (with_entries self.old.undo t (drop 1 (undo_of self.old t))) 0 }

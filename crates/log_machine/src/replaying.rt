@@ -13,7 +13,7 @@ use std::alloc::{AllocError, Global};
 /// Why the records were not all taken.
 #[derive(Clone, Copy, Debug, PartialEq, Eq)]
 pub enum ReplayError {
-    /// Memory was refused.
+    /// Out of memory.
     NoMemory,
     /// The record with this LSN is the first that can't follow those before it.
     Unshaped { lsn: u64 },
@@ -30,7 +30,7 @@ impl From<AllocError> for ReplayError {
     }
 }
 
-/// The state after these records of a heap with two spaces of so many pages, whose first transaction has the number `first`.
+/// The state after these records of a heap with two spaces of `pages` pages, whose first transaction has the number `first`.
 pub fn replay(
     alloc: Global,
     pages: u32,
@@ -45,7 +45,7 @@ pub fn replay(
     // Each record writes words of these pages alone, so it can be redone on them.
     ensures inside { IfOk result (λ state. EachWritesBelow (words_in pages) records.now) }
     ensures few_writes { IfOk result (λ state. reserve state ≤ 29 * length records.now) }
-    // The record that is told is the first that can't follow.
+    // The record that is reported is the first that can't follow.
     ensures unshaped { IfErr result (λ e. (lsn : ℕ) → e ≡ Unshaped lsn → IsFirstUnshaped (heap_origin pages first) records.now lsn) }
 {
     let mut state = LogState::start(alloc, pages, first);

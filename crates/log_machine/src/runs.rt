@@ -8,7 +8,7 @@ use heap_words::FIELDS_AT;
 use log_records::{ObjectCopy, Record};
 use std::marker::Model;
 
-/// Words that are written one behind the other, from an address on.
+/// Words that are written one after the other, from an address on.
 #[derive(Debug, Drop)]
 pub struct Run<'a> {
     address: usize,
@@ -97,6 +97,8 @@ impl<'a> Iterator for Runs<'a> {
 
     ghost remaining = { item_count runs_left };
 
+    // Inlined, as is `run_of`: returned through memory, a run would take longer to make than its words to write.
+    #[inline(always)]
     fn next(&mut self) -> Option<Run<'a>> {
         let run = run_of(self.rec, self.given)?;
         self.given += 1;
@@ -105,6 +107,7 @@ impl<'a> Iterator for Runs<'a> {
 }
 
 // The `i`th of the runs that the record writes.
+#[inline(always)]
 fn run_of(rec: &Record, i: usize) -> Option<Run<'_>>
     ensures run { result ≡ slice_get (runs rec.now) i }
     ensures few { IfSome result (λ _. i < 2 ^ 34) }

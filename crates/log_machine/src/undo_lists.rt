@@ -49,7 +49,7 @@ impl Model for UndoLists {
 }
 
 impl UndoLists {
-    /// No writes. It takes no memory.
+    /// No writes. Does not allocate.
     pub(crate) fn new(alloc: Global) -> UndoLists
         ensures { result ≡ map.empty }
     {
@@ -107,7 +107,7 @@ impl UndoLists {
         Ok(())
     }
 
-    /// Takes off the newest write of transaction `t`.
+    /// Removes the newest write of transaction `t`.
     pub(crate) fn pop(&mut self, t: u32)
         ensures { self.new ≡ with_entries self.old t (drop 1 (undo_in self.old t)) }
     {
@@ -118,7 +118,7 @@ impl UndoLists {
         }
     }
 
-    // Takes off the newest write of transaction `t`, which has more.
+    // Removes the newest write of transaction `t`, which has more.
     fn shorten(&mut self, t: u32)
         requires { 1 < length (undo_in self.old t) }
         ensures { self.new ≡ map.insert self.old t (drop 1 (undo_in self.old t)) }
@@ -138,7 +138,7 @@ impl UndoLists {
         }
     }
 
-    /// Whether each write goes along with the copies of a flip.
+    /// Whether each write can be translated by the copies of a flip.
     pub(crate) fn can_translate(&self, index: &CopyIndex) -> bool
         ensures { result ≡ can_translate_all index.now.copies.now self.now }
     {
@@ -150,7 +150,7 @@ impl UndoLists {
         true
     }
 
-    /// The objects have moved, and each write goes along. It takes no memory.
+    /// The objects have moved, and each write is translated. Does not allocate.
     pub(crate) fn translate(&mut self, index: &CopyIndex)
         ensures { self.new ≡ translated_undo (pairs_of index.now.copies.now) self.old }
     {
@@ -189,7 +189,7 @@ impl UndoLists {
     }
 }
 
-/// The log's bytes that are kept to take so many writes of a transaction back: a batch, an `End`, and an `Undo` for each.
+/// The log's bytes that are kept to take `writes` writes of a transaction back: a batch, an `End`, and an `Undo` for each.
 pub fn end_bytes(writes: u64) -> u64
     requires { end_bytes writes < 2 ^ 64 }
     ensures { result ≡ end_bytes writes }

@@ -28,7 +28,7 @@ has_write write bytes rest good is = (
   ap (little_number 8) (take_rest bytes 4 ∙ ap (λ (l : List ℕ). drop 4 l) is) ∙ little_number-reads_back 8 write.1 rest (field_word_small write.1 good.1),
 )
 
--- where a copy is spelled its fields are read, and its words are spelled behind them
+-- where a copy is spelled its fields are read, and its words are spelled after them
 pub record HasCopy (bytes rest : List ℕ) (copy : ObjectCopy) : Type 0 where
   pub from_read : little_number 4 bytes ≡ copy.from
   pub to_read : little_number 4 (from_place 4 bytes) ≡ copy.to
@@ -52,7 +52,7 @@ pub copy_record : (rec : Record) (bytes rest : List ℕ) → IsRecord rec → 7 
 copy_record (Copy from to words) bytes rest good e = record { copy = record { from = from; to = to; words = words }; is = refl; good = good; here = ap (λ (l : List ℕ). drop 1 l) e }
 copy_record rec bytes rest good e = absurd (omega (arith, ap (λ (l : List ℕ). get_or l 0 0) e))
 
--- a record that begins with the kind of a scan: its fields are read, and its writes are spelled behind them
+-- a record that begins with the kind of a scan: its fields are read, and its writes are spelled after them
 pub record IsScanRecord (bytes rest : List ℕ) (rec : Record) : Type 0 where
   pub page : ℕ
   pub writes : List (ℕ × ℕ)
@@ -86,7 +86,7 @@ scan_read bytes rest page count writes fits large page_read count_read size behi
     ∙ ap (λ (l : List ℕ). to_le_bytes w32 page ++ l) (spelled_2 (drop 4 bytes) (length writes) (IsBytes-drop 4 bytes fits) (omega (arith, large, length-drop 4 bytes)) (sym size ∙ count_read ∙ ap (little_number 2) (take_rest bytes 4))
     ∙ ap (λ (l : List ℕ). to_le_bytes w16 (length writes) ++ l) (drop-drop 2 4 bytes ∙ behind))
 
--- a record that begins with the kind of a flip: its count is read, and its copies are spelled behind it
+-- a record that begins with the kind of a flip: its count is read, and its copies are spelled after it
 pub record IsFlipRecord (bytes rest : List ℕ) (rec : Record) : Type 0 where
   pub copies : List ObjectCopy
   pub is : rec ≡ Flip copies

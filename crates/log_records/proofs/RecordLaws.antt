@@ -1,4 +1,4 @@
--- Laws of the records' spelling: bytes begin with the spelling of one record at most.
+-- Laws of the records' spelling: bytes begin with the spelling of at most one record.
 use Rattle.std.specs.Prelude.{◌≡◌, ℕ, ◌+◌, ◌*◌, ◌^◌, ◌<◌, List, [], ◌∷◌, ◌++◌, length, drop, get_or, refl}
 use Rattle.std.proofs.Common.{sym, ap, ◌∙◌, arith, length-append, append_assoc}
 use Rattle.std.proofs.lemmas.List.{drop_at}
@@ -64,7 +64,7 @@ length-writes (w ∷ ws) = let more = length-writes ws in omega (arith, length-a
 pub length-copy_bytes : (copy : ObjectCopy) → length (copy_bytes copy) ≡ 8 + 8 * length copy.words
 length-copy_bytes copy = omega (arith, length-word_bytes copy.words)
 
--- bytes begin with one list of so many words
+-- bytes begin with one list of that many words
 pub one_words : (words words' more rest : List ℕ) → length words ≡ length words' → AllByRecursion (λ w. w < 2 ^ 64) words → AllByRecursion (λ w. w < 2 ^ 64) words' → word_bytes words ++ more ≡ word_bytes words' ++ rest → (words ≡ words') × (more ≡ rest)
 one_words [] [] more rest size small small' same = (refl, same)
 one_words [] (w' ∷ ws') more rest size small small' same = absurd (omega (arith, size))
@@ -126,7 +126,7 @@ one_put t t' object object' field field' word word' more rest good good' same =
     let d = one_number 8 word word' more rest (field_word_small word good.put_word) (field_word_small word' good'.put_word) c.1 in
     (a.0, b.0, c.0, d.0, d.1)
 
--- bytes begin with the spelling of one record, which is no first part of another's
+-- bytes begin with the spelling of one record, which is no prefix of another's
 pub one_record : (a b : Record) (more rest : List ℕ) → IsRecord a → IsRecord b → spelling a ++ more ≡ spelling b ++ rest → (a ≡ b) × (more ≡ rest)
 one_record (Update t object field was word) (Update t' object' field' was' word') more rest good good' same =
     let front : List ℕ → List ℕ = λ l. drop 1 l in

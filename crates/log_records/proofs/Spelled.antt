@@ -78,7 +78,7 @@ pub record HasUpdate (bytes : List ℕ) (rec : Record) : Type 0 where
   pub was_read : little_number 8 (from_place 10 bytes) ≡ was
   pub word_read : little_number 8 (from_place 18 bytes) ≡ word
 
--- a number stands at a place behind what has so many bytes
+-- a number stands at a place after what has that many bytes
 number_at : (at n x : ℕ) (bytes front rest : List ℕ) → length front ≡ at → x < 256 ^ n → bytes ≡ front ++ (bytes_low_first 0 n x ++ rest) → little_number n (from_place at bytes) ≡ x
 number_at at n x bytes front rest size small is =
     ap (little_number n) (take_rest bytes at ∙ ap (λ (l : List ℕ). drop at l) is ∙ drop_at front (bytes_low_first 0 n x ++ rest) at size) ∙ little_number-reads_back n x rest small

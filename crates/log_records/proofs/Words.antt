@@ -27,11 +27,11 @@ length_word_bytes words = length-word_bytes words
 pub length_writes : (writes : List (ℕ × ℕ)) → length (flat_map write_bytes writes) ≡ 12 * length writes
 length_writes writes = length-writes writes
 
--- one word more is spelled behind those before it
+-- one more word is spelled after those before it
 pub word_bytes-push : (words : List ℕ) (w : ℕ) → word_bytes (words ++ w ∷ []) ≡ word_bytes words ++ to_le_bytes w64 w
 word_bytes-push words w = flat_map-append (to_le_bytes w64) words (w ∷ []) ∙ ap (λ (l : List ℕ). word_bytes words ++ l) (append-nil (to_le_bytes w64 w))
 
--- one word more is read
+-- one more word is read
 pub words_on : (bytes words : List ℕ) (i w : ℕ) → IsBytes bytes → 8 * (i + 1) ≤ length bytes → bytes ≡ word_bytes words ++ drop (8 * i) bytes → w ≡ little_number 8 (take (length bytes - 8 * i) (drop (8 * i) bytes))
     → bytes ≡ word_bytes (words ++ w ∷ []) ++ drop (8 * (i + 1)) bytes
 words_on bytes words i w fits large so_far read =
@@ -51,7 +51,7 @@ header_read w fields found h read is length = bits-header w (Length fields) (sym
 pub header_stands : (w n : ℕ) (found : Option Header) → n < 511 → found ≡ header w → w ≡ header_bits (Length n) → found ≡ Some (Length n)
 header_stands w n found few read is = read ∙ ap header is ∙ header-header_bits (Length n) few
 
--- one word more fits
+-- one more word fits
 pub fit_push : (words : List ℕ) (w : ℕ) → AllByRecursion (λ w. w < 2 ^ 64) words → w < 2 ^ 64 → AllByRecursion (λ w. w < 2 ^ 64) (words ++ w ∷ [])
 fit_push [] w fit small = (small, tt)
 fit_push (v ∷ vs) w fit small = (fit.0, fit_push vs w fit.1 small)
@@ -99,7 +99,7 @@ object_fields [] good = absurd good
 object_fields (h ∷ []) good = absurd good
 object_fields (h ∷ birth ∷ fields) good = good.field_words
 
--- Where a base is spelled its fields are read, and its words are spelled behind them.
+-- Where a base is spelled its fields are read, and its words are spelled after them.
 pub record HasBase (bytes : List ℕ) (rec : Record) : Type 0 where
   pub t : ℕ
   pub address : ℕ
@@ -142,7 +142,7 @@ pub base_read : (bytes words rest : List ℕ) (t address : ℕ) → IsBytes byte
     → 2 ∷ bytes ≡ spelling (Base t address words) ++ rest
 base_read bytes words rest t address fits large t_read address_read behind = ap (λ (l : List ℕ). 2 ∷ l) (pair_read bytes words rest t address fits large t_read address_read behind)
 
--- and takes so many bytes
+-- and takes that many bytes
 pub base_front : (bytes words rest : List ℕ) (t address n : ℕ) → n ≡ length words → 2 ∷ bytes ≡ spelling (Base t address words) ++ rest → (take (9 + 8 * n) (2 ∷ bytes) ≡ spelling (Base t address words)) × (9 + 8 * n ≡ length (spelling (Base t address words)))
 base_front bytes words rest t address n size is =
     let long : 9 + 8 * n ≡ length (spelling (Base t address words)) = omega (arith, size, length-Base t address words) in

@@ -39,7 +39,7 @@ pub record IsUpdate (t object field was word : ℕ) : Type 0 where
   pub was_word : IsFieldWord was
   pub new_word : IsFieldWord word
 
--- an object's words: the header tells how many fields there are, and their words are those of fields
+-- an object's words: the header says how many fields there are, and their words are those of fields
 pub record IsObject (header birth : ℕ) (fields : List ℕ) : Type 0 where
   pub tells : header ≡ header_bits (Length (length fields))
   pub few : length fields < 511

@@ -21,7 +21,7 @@ pub struct ObjectCopy {
     pub words: ObjectWords,
 }
 
-/// Copies of objects, in their order: so few, and of so few words, that they have a spelling.
+/// Copies of objects, in their order: few and small enough to have a spelling.
 #[derive(Debug, Drop)]
 pub struct Copies {
     copies: Vec<ObjectCopy>,
@@ -43,7 +43,7 @@ impl Model for Copies {
 }
 
 impl Copies {
-    /// These copies. It takes no memory.
+    /// These copies. Does not allocate.
     pub fn new(copies: Vec<ObjectCopy>) -> Copies
         requires { AreFew copies.items }
         ensures { result ≡ copies.items }
@@ -59,7 +59,7 @@ impl Copies {
         &self.copies
     }
 
-    /// The copies, in the memory that they are in.
+    /// The copies, without copying them.
     pub fn into_vec(self) -> Vec<ObjectCopy>
         ensures { result.items ≡ self }
     {

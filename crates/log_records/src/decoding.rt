@@ -23,8 +23,8 @@ use std::alloc::{AllocError, Global};
 // The words of an object before its fields: its header and its birth.
 const FRONT_WORDS: usize = 2;
 
-/// The record whose spelling the bytes begin with, and how many bytes that is. Memory is taken for words, writes and copies
-/// that are there, and never for a count that more of them should follow.
+/// The record whose spelling the bytes begin with, and how many bytes that is. Memory is allocated for words, writes and copies
+/// that are there, and never for a count alone.
 pub fn decode(alloc: Global, bytes: &[u8]) -> Result<Option<(Record, usize)>, AllocError>
     ensures found { IfOk result (λ found. IfSome found (λ found. IsRecord found.0 × (take found.1 bytes.now ≡ spelling found.0) × (found.1 ≡ length (spelling found.0)))) }
     ensures only { (rec : Record) (rest : List ℕ) → IsRecord rec → bytes.now ≡ spelling rec ++ rest → IfOk result (λ found. found ≡ Some (rec, length (spelling rec))) }
@@ -61,7 +61,7 @@ fn small_at(bytes: &[u8]) -> Option<(Record, usize)>
     }
 }
 
-// The `Update` whose fields, behind its kind, the bytes begin with.
+// The `Update` whose fields, after its kind, the bytes begin with.
 fn update_at(bytes: &[u8]) -> Option<Record>
     ensures found { IfSome result (λ rec. IsRecord rec × Begins (1 ∷ bytes.now) rec) }
     ensures only { (rec : Record) → IsRecord rec → Begins (1 ∷ bytes.now) rec → result ≡ Some rec }
@@ -82,7 +82,7 @@ fn update_at(bytes: &[u8]) -> Option<Record>
     })
 }
 
-// The `Fix` whose fields, behind its kind, the bytes begin with.
+// The `Fix` whose fields, after its kind, the bytes begin with.
 fn fix_at(bytes: &[u8]) -> Option<Record>
     ensures found { IfSome result (λ rec. IsRecord rec × Begins (3 ∷ bytes.now) rec) }
     ensures only { (rec : Record) → IsRecord rec → Begins (3 ∷ bytes.now) rec → result ≡ Some rec }
@@ -100,7 +100,7 @@ fn fix_at(bytes: &[u8]) -> Option<Record>
     })
 }
 
-// The `Undo` whose fields, behind its kind, the bytes begin with.
+// The `Undo` whose fields, after its kind, the bytes begin with.
 fn undo_at(bytes: &[u8]) -> Option<Record>
     ensures found { IfSome result (λ rec. IsRecord rec × Begins (4 ∷ bytes.now) rec) }
     ensures only { (rec : Record) → IsRecord rec → Begins (4 ∷ bytes.now) rec → result ≡ Some rec }
@@ -118,7 +118,7 @@ fn undo_at(bytes: &[u8]) -> Option<Record>
     })
 }
 
-// The transaction number, all that is in a `Commit` or an `End` behind its kind.
+// The transaction number, all that follows the kind of a `Commit` or an `End`.
 fn number_at(bytes: &[u8]) -> Option<u32>
     ensures found { IfSome result (λ t. (t < 2 ^ 32) × ((rest : List ℕ) × (bytes.now ≡ to_le_bytes w32 t ++ rest))) }
     ensures only { (t : ℕ) (rest : List ℕ) → t < 2 ^ 32 → bytes.now ≡ to_le_bytes w32 t ++ rest → result ≡ Some t }
@@ -129,7 +129,7 @@ fn number_at(bytes: &[u8]) -> Option<u32>
     Some(LittleEndian::read_u32(bytes))
 }
 
-// The `Base` whose fields, behind its kind, the bytes begin with, and how many bytes it takes with its kind.
+// The `Base` whose fields, after its kind, the bytes begin with, and how many bytes it takes with its kind.
 fn base_at(alloc: Global, bytes: &[u8]) -> Result<Option<(Record, usize)>, AllocError>
     ensures found { IfOk result (λ found. IfSome found (λ found. IsRecord found.0 × (take found.1 (2 ∷ bytes.now) ≡ spelling found.0) × (found.1 ≡ length (spelling found.0)))) }
     ensures only { (rec : Record) (rest : List ℕ) → IsRecord rec → 2 ∷ bytes.now ≡ spelling rec ++ rest → IfOk result (λ found. found ≡ Some (rec, length (spelling rec))) }
@@ -147,7 +147,7 @@ fn base_at(alloc: Global, bytes: &[u8]) -> Result<Option<(Record, usize)>, Alloc
     Ok(Some((Record::Base { t, address, words }, size)))
 }
 
-// The `Copy` whose fields, behind its kind, the bytes begin with, and how many bytes it takes with its kind.
+// The `Copy` whose fields, after its kind, the bytes begin with, and how many bytes it takes with its kind.
 fn copy_at(alloc: Global, bytes: &[u8]) -> Result<Option<(Record, usize)>, AllocError>
     ensures found { IfOk result (λ found. IfSome found (λ found. IsRecord found.0 × (take found.1 (7 ∷ bytes.now) ≡ spelling found.0) × (found.1 ≡ length (spelling found.0)))) }
     ensures only { (rec : Record) (rest : List ℕ) → IsRecord rec → 7 ∷ bytes.now ≡ spelling rec ++ rest → IfOk result (λ found. found ≡ Some (rec, length (spelling rec))) }
@@ -160,7 +160,7 @@ fn copy_at(alloc: Global, bytes: &[u8]) -> Result<Option<(Record, usize)>, Alloc
     Ok(Some((Record::Copy { from, to, words }, size)))
 }
 
-// The `Scan` whose fields, behind its kind, the bytes begin with, and how many bytes it takes with its kind.
+// The `Scan` whose fields, after its kind, the bytes begin with, and how many bytes it takes with its kind.
 fn scan_at(alloc: Global, bytes: &[u8]) -> Result<Option<(Record, usize)>, AllocError>
     ensures found { IfOk result (λ found. IfSome found (λ found. IsRecord found.0 × (take found.1 (8 ∷ bytes.now) ≡ spelling found.0) × (found.1 ≡ length (spelling found.0)))) }
     ensures only { (rec : Record) (rest : List ℕ) → IsRecord rec → 8 ∷ bytes.now ≡ spelling rec ++ rest → IfOk result (λ found. found ≡ Some (rec, length (spelling rec))) }
@@ -178,7 +178,7 @@ fn scan_at(alloc: Global, bytes: &[u8]) -> Result<Option<(Record, usize)>, Alloc
     Ok(Some((Record::Scan { page, writes }, size)))
 }
 
-// So many writes that the bytes begin with.
+// The first `count` writes that the bytes begin with.
 fn writes_at(alloc: Global, bytes: &[u8], count: u16) -> Result<Option<Vec<(u32, u64)>>, AllocError>
     ensures found { IfOk result (λ found. IfSome found (λ writes. (length writes.items ≡ count) × AllByRecursion IsWrite writes.items × ((rest : List ℕ) × (bytes.now ≡ flat_map write_bytes writes.items ++ rest)))) }
     ensures only { (writes : List (ℕ × ℕ)) (rest : List ℕ) → length writes ≡ count → AllByRecursion IsWrite writes → bytes.now ≡ flat_map write_bytes writes ++ rest → IfOk result (λ found. IsSomeAnd found (λ found. found.items ≡ writes)) }
@@ -209,7 +209,7 @@ fn write_at(bytes: &[u8]) -> Option<(u32, u64)>
     Some((LittleEndian::read_u32(bytes), word))
 }
 
-// The `Flip` whose fields, behind its kind, the bytes begin with, and how many bytes it takes with its kind.
+// The `Flip` whose fields, after its kind, the bytes begin with, and how many bytes it takes with its kind.
 fn flip_at(alloc: Global, bytes: &[u8]) -> Result<Option<(Record, usize)>, AllocError>
     ensures found { IfOk result (λ found. IfSome found (λ found. IsRecord found.0 × (take found.1 (9 ∷ bytes.now) ≡ spelling found.0) × (found.1 ≡ length (spelling found.0)))) }
     ensures only { (rec : Record) (rest : List ℕ) → IsRecord rec → 9 ∷ bytes.now ≡ spelling rec ++ rest → IfOk result (λ found. found ≡ Some (rec, length (spelling rec))) }
@@ -226,7 +226,7 @@ fn flip_at(alloc: Global, bytes: &[u8]) -> Result<Option<(Record, usize)>, Alloc
     Ok(Some((Record::Flip { copies }, size)))
 }
 
-// So many copies that the bytes begin with.
+// The first `count` copies that the bytes begin with.
 fn copies_at(alloc: Global, bytes: &[u8], count: u32) -> Result<Option<Vec<ObjectCopy>>, AllocError>
     ensures found { IfOk result (λ found. IfSome found (λ copies. (length copies.items ≡ count) × AllByRecursion IsObjectCopy copies.items × ((rest : List ℕ) × (bytes.now ≡ flat_map copy_bytes copies.items ++ rest)))) }
     ensures only { (copies : List ObjectCopy) (rest : List ℕ) → length copies ≡ count → AllByRecursion IsObjectCopy copies → bytes.now ≡ flat_map copy_bytes copies ++ rest → IfOk result (λ found. IsSomeAnd found (λ found. found.items ≡ copies)) }
@@ -307,7 +307,7 @@ fn word_count(bytes: &[u8]) -> Option<usize>
     }
 }
 
-// So many words that the bytes begin with.
+// The first `count` words that the bytes begin with.
 fn read_words(alloc: Global, bytes: &[u8], count: usize) -> Result<Vec<u64>, AllocError>
     requires { 8 * count ≤ length bytes.now }
     ensures count { IfOk result (λ words. length words.items ≡ count) }

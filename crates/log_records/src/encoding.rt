@@ -13,7 +13,7 @@ use crate::{
 use byteorder::{ByteOrder, LittleEndian};
 use std::alloc::AllocError;
 
-/// Spells the record behind what is there. An `Err` changes nothing, and comes only where memory has to be taken.
+/// Appends the spelling of the record. An `Err` changes nothing, and comes only if memory has to be allocated.
 pub fn encode(rec: &Record, into: &mut Vec<u8>) -> Result<(), AllocError>
     ensures ok { OnOk result (into.new.items ≡ into.old.items ++ spelling rec.now) }
     ensures err { OnErr result (into.new.items ≡ into.old.items) }
@@ -54,8 +54,8 @@ pub fn encode(rec: &Record, into: &mut Vec<u8>) -> Result<(), AllocError>
     }
 }
 
-// Spells a record of an object, as a `Base` and a `Copy` are, behind what is there: its kind, two numbers, and the object's
-// words. An `Err` changes nothing, and comes only where memory has to be taken.
+// Appends the spelling of a record of an object, as a `Base` and a `Copy` are: its kind, two numbers, and the object's
+// words. An `Err` changes nothing, and comes only if memory has to be allocated.
 fn encode_object(
     kind: u8,
     first: u32,
@@ -70,13 +70,25 @@ fn encode_object(
 {
     into.reserve(BASE_HEAD_BYTES + WORD_BYTES * words.len())?;
     into.extend_from_slice(&object_head(kind, first, second))?;
-    for word in words {
-        into.extend_from_slice(&word.to_le_bytes())?;
-    }
+    add_words(words, into)
+}
+
+// Appends the bytes of words. An `Err` changes nothing, and comes only if memory has to be allocated. Room is made for all words at once:
+// looking for room at each word would take longer than the word.
+fn add_words(words: &[u64], into: &mut Vec<u8>) -> Result<(), AllocError>
+    ensures ok { OnOk result (into.new.items ≡ into.old.items ++ word_bytes words.now) }
+    ensures len { OnOk result (vec_len into.new ≡ vec_len into.old + 8 * length words.now) }
+    ensures err { OnErr result (into.new.items ≡ into.old.items) }
+    ensures in_room { vec_len into.old + 8 * length words.now ≤ vec_capacity into.old → IsOk result }
+    ensures capacity { vec_capacity into.old ≤ vec_capacity into.new }
+{
+    let before = into.len();
+    into.resize(before + WORD_BYTES * words.len(), 0)?;
+    LittleEndian::write_u64_into(words, &mut into[before..]);
     Ok(())
 }
 
-// Spells a `Scan` behind what is there. An `Err` changes nothing, and comes only where memory has to be taken.
+// Appends the spelling of a `Scan`. An `Err` changes nothing, and comes only if memory has to be allocated.
 fn encode_scan(page: u32, writes: &Writes, into: &mut Vec<u8>) -> Result<(), AllocError>
     ensures ok { OnOk result (into.new.items ≡ into.old.items ++ spelling (Scan page writes.now)) }
     ensures err { OnErr result (into.new.items ≡ into.old.items) }
@@ -92,7 +104,7 @@ fn encode_scan(page: u32, writes: &Writes, into: &mut Vec<u8>) -> Result<(), All
     Ok(())
 }
 
-// Spells a `Flip` behind what is there. An `Err` changes nothing, and comes only where memory has to be taken.
+// Appends the spelling of a `Flip`. An `Err` changes nothing, and comes only if memory has to be allocated.
 fn encode_flip(copies: &Copies, into: &mut Vec<u8>) -> Result<(), AllocError>
     ensures ok { OnOk result (into.new.items ≡ into.old.items ++ spelling (Flip copies.now)) }
     ensures err { OnErr result (into.new.items ≡ into.old.items) }
@@ -108,7 +120,7 @@ fn encode_flip(copies: &Copies, into: &mut Vec<u8>) -> Result<(), AllocError>
     Ok(())
 }
 
-// Spells a copy behind what is there, where there is room for it.
+// Appends the spelling of a copy, for which there is room.
 fn add_copy(copy: &ObjectCopy, into: &mut Vec<u8>) -> Result<(), AllocError>
     requires { vec_len into.old + (8 + 8 * length copy.now.words) ≤ vec_capacity into.old }
     ensures ok { IsOk result }
@@ -117,11 +129,7 @@ fn add_copy(copy: &ObjectCopy, into: &mut Vec<u8>) -> Result<(), AllocError>
     ensures capacity { vec_capacity into.old ≤ vec_capacity into.new }
 {
     into.extend_from_slice(&copy_head(copy.from, copy.to))?;
-    let words = copy.words.as_slice();
-    for word in words {
-        into.extend_from_slice(&word.to_le_bytes())?;
-    }
-    Ok(())
+    add_words(copy.words.as_slice(), into)
 }
 
 fn update_bytes(t: u32, object: u32, field: u16, was: u64, word: u64) -> [u8; UPDATE_BYTES]
@@ -137,7 +145,7 @@ fn update_bytes(t: u32, object: u32, field: u16, was: u64, word: u64) -> [u8; UP
     bytes
 }
 
-// What stands before the words of a `Base` or a `Copy`.
+// What precedes the words of a `Base` or a `Copy`.
 fn object_head(kind: u8, first: u32, second: u32) -> [u8; BASE_HEAD_BYTES]
     ensures { result ≡ kind ∷ to_le_bytes w32 first ++ to_le_bytes w32 second }
 {
@@ -148,7 +156,7 @@ fn object_head(kind: u8, first: u32, second: u32) -> [u8; BASE_HEAD_BYTES]
     bytes
 }
 
-// What stands before the words of a copy in a `Flip`.
+// What precedes the words of a copy in a `Flip`.
 fn copy_head(from: u32, to: u32) -> [u8; COPY_HEAD_BYTES]
     ensures { result ≡ to_le_bytes w32 from ++ to_le_bytes w32 to }
 {
@@ -158,7 +166,7 @@ fn copy_head(from: u32, to: u32) -> [u8; COPY_HEAD_BYTES]
     bytes
 }
 
-// What stands before the writes of a `Scan`.
+// What precedes the writes of a `Scan`.
 fn scan_head(page: u32, count: u16) -> [u8; SCAN_HEAD_BYTES]
     ensures { result ≡ 8 ∷ to_le_bytes w32 page ++ to_le_bytes w16 count }
 {
@@ -179,7 +187,7 @@ fn bytes_of_write(write: (u32, u64)) -> [u8; WRITE_BYTES]
     bytes
 }
 
-// What stands before the copies of a `Flip`.
+// What precedes the copies of a `Flip`.
 fn flip_head(count: u32) -> [u8; FLIP_HEAD_BYTES]
     ensures { result ≡ 9 ∷ to_le_bytes w32 count }
 {

@@ -74,10 +74,10 @@ pub const FLIP_HEAD_BYTES: usize = 5;
 /// The bytes of a `Collected` record.
 pub const COLLECTED_BYTES: usize = 1;
 
-/// The bytes that a batch of records takes in a log beside them: its gate and its length.
+/// The bytes that a batch of records takes in a log besides them: its gate and its length.
 pub const BATCH_BYTES: usize = 5;
 
-/// A record of the log. Its bytes are read again only where each of its words is one of a field, and those of a `Base`,
+/// A record of the log. Its bytes can be read back only if each of its words is one of a field, and those of a `Base`,
 /// a `Copy` or a `Flip` are the words of objects.
 #[derive(Debug, Drop, PartialEq, Eq)]
 pub enum Record {
@@ -96,7 +96,7 @@ pub enum Record {
         words: ObjectWords,
     },
     /// A field of the object at word address `object`, which transaction `t` had given a reference to an object that it made,
-    /// refers to that object where it is stable now: `word` stands in it.
+    /// refers to that object where it stands now that it is stable: `word` stands in it.
     Fix {
         t: u32,
         object: u32,
@@ -115,7 +115,7 @@ pub enum Record {
     Commit {
         t: u32,
     },
-    /// Transaction `t` has ended and has left nothing.
+    /// Transaction `t` has ended and left nothing.
     End {
         t: u32,
     },

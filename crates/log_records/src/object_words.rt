@@ -21,7 +21,7 @@ impl Model for ObjectWords {
 }
 
 impl ObjectWords {
-    /// These words. It takes no memory.
+    /// These words. Does not allocate.
     pub fn new(words: Vec<u64>) -> ObjectWords
         ensures { result ≡ words.items }
     {
@@ -35,7 +35,7 @@ impl ObjectWords {
         &self.words
     }
 
-    /// The words, in the memory that they are in.
+    /// The words, without copying them.
     pub fn into_vec(self) -> Vec<u64>
         ensures { result.items ≡ self }
     {

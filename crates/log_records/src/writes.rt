@@ -7,7 +7,7 @@ ghost use Rattle.std.specs.Ordering.{eq_of_both, on};
 
 use std::marker::Model;
 
-/// Words and the addresses at which they are put, in their order: so few that their count has 16 bits.
+/// Words and the addresses at which they are put, in their order: few enough that their count has 16 bits.
 #[derive(Debug, Drop)]
 pub struct Writes {
     writes: Vec<(u32, u64)>,
@@ -27,7 +27,7 @@ impl Model for Writes {
 }
 
 impl Writes {
-    /// These writes. It takes no memory.
+    /// These writes. Does not allocate.
     pub fn new(writes: Vec<(u32, u64)>) -> Writes
         requires { length writes.items < 2 ^ 16 }
         ensures { result ≡ writes.items }
@@ -43,7 +43,7 @@ impl Writes {
         &self.writes
     }
 
-    /// The writes, in the memory that they are in.
+    /// The writes, without copying them.
     pub fn into_vec(self) -> Vec<(u32, u64)>
         ensures { result.items ≡ self }
     {

@@ -7,7 +7,7 @@ use Rattle.page_redo.specs.Pages.{page_of}
 abbrev pub AreBelow : ℕ → List (ℕ × ℕ) → Type 0
 AreBelow end writes = AllByRecursion (λ w. w.0 < end) writes
 
--- those of these writes whose page has a lesser LSN than that one, where the pages have these LSNs
+-- those of these writes whose page has a lesser LSN than that one, if the pages have these LSNs
 abbrev pub lacking : List ℕ → ℕ → List (ℕ × ℕ) → List (ℕ × ℕ)
 lacking lsns lsn writes = filter (λ w. nat_lt (slice_index lsns (page_of w.0)) lsn) writes
 

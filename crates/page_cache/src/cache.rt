@@ -39,7 +39,7 @@ impl PageCache {
     ghost use Rattle.page_cache.specs.CacheState.{cached, cache_store, cache_pages, cache_size, cache_log, cached_page, cached_lsn, flushed_lsn, is_dirty, cache_failed, IsFirstPast, IsOriginOf, ArePresent, MayStandBeside};
     ghost use Rattle.log_machine.specs.Origin.{Origin, records_below};
 
-    /// Reads the pages that are stored behind the log of an image.
+    /// Reads the pages that are stored after the log of an image.
     pub fn open<D: Disk>(
         alloc: Global,
         disk: &mut D,
@@ -159,7 +159,7 @@ impl PageCache {
         ensures redone { cached self.new ≡ redo_record lsn (cached self.old) rec.now }
         ensures store { cache_store self.new ≡ cache_store self.old }
     {
-        self.redo(lsn, rec);
+        self.pages.apply(lsn, rec);
     }
 
     /// Puts new records on their pages in order, of which the first has that LSN.
@@ -171,7 +171,7 @@ impl PageCache {
         ensures redone { cached self.new ≡ redo_all first (cached self.old) records.now }
         ensures store { cache_store self.new ≡ cache_store self.old }
     {
-        self.redo_all(first, records);
+        self.pages.apply_all(first, records);
     }
 
     /// Stores page `p`, which is dirty, as it is now. The log's records up to the LSN `forced` are on the disk, and the page is not ahead

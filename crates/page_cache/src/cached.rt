@@ -4,6 +4,7 @@ ghost use Rattle.log_machine.specs.Effect.{WritesBelow, EachWritesBelow};
 ghost use Rattle.page_redo.specs.Pages.{page_words, lsn_of};
 ghost use Rattle.page_redo.specs.Redo.{EachLacks, redo_record, redo_all};
 
+use crate::applying::apply_record;
 use crate::putting::put_record;
 use crate::raising::raise_touched;
 use log_records::Record;
@@ -106,6 +107,27 @@ impl CachedPages {
     {
         for (i, rec) in records.iter().enumerate() {
             self.redo(first + i as u64, rec);
+        }
+    }
+
+    /// Puts a new record, of that LSN, on its pages, which all lack it, and raises the LSN of each page that it touches.
+    pub fn apply(&mut self, lsn: u64, rec: &Record)
+        requires new { EachLacks lsn self.old }
+        requires inside { WritesBelow (length self.old.words) rec.now }
+        ensures { self.new ≡ redo_record lsn self.old rec.now }
+    {
+        apply_record(&mut self.words, &mut self.lsns, lsn, rec);
+    }
+
+    /// Puts new records, in order, on their pages, which all lack them. The first of them has that LSN.
+    pub fn apply_all(&mut self, first: u64, records: &[Record])
+        requires new { EachLacks first self.old }
+        requires inside { EachWritesBelow (length self.old.words) records.now }
+        requires lsns { first + length records.now < 2 ^ 64 }
+        ensures { self.new ≡ redo_all first self.old records.now }
+    {
+        for (i, rec) in records.iter().enumerate() {
+            self.apply(first + i as u64, rec);
         }
     }
 }

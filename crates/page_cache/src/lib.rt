@@ -1,6 +1,7 @@
 //! The heap's pages in memory, with their LSNs, over those that are stored on a disk.
 #![tactic(auto)]
 
+mod applying;
 mod cache;
 mod cached;
 mod putting;

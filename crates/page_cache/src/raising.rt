@@ -22,8 +22,8 @@ pub(crate) fn raise_touched(lsns: &mut [u64], lsn: u64, rec: &Record)
     }
 }
 
-// Raises the LSN of each page of words from an address on.
-fn raise_from(lsns: &mut [u64], lsn: u64, address: usize, words: &[u64])
+/// Raises the LSN of each page of words from an address on.
+pub(crate) fn raise_from(lsns: &mut [u64], lsn: u64, address: usize, words: &[u64])
     requires inside { AreBelow (64 * length lsns.old) (enumerate_from address words.now) }
     requires fits { 64 * length lsns.old < 2 ^ 64 }
     ensures { lsns.new ≡ raised_to lsn lsns.old (pages_of (enumerate_from address words.now)) }

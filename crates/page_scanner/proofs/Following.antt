@@ -28,7 +28,7 @@ use Rattle.page_scanner.specs.Scan.{Planned, nothing, going, copied_to, in_from_
 use Rattle.page_scanner.specs.Passing.{collecting_after_all, IsScanned}
 use Rattle.page_scanner.proofs.Steps.{tested, planned_parts, IsKept, kept_scan}
 
--- where objects go with one copy more
+-- where objects go with one more copy
 pub going_more : (copies : List Record) (from to : ℕ) (words : List ℕ) (b : ℕ) → copied_to (copies ++ Copy from to words ∷ []) b ≡ (if from == b then Some to else copied_to copies b)
 going_more copies from to words b = fold-append (going b) None copies (Copy from to words ∷ [])
 
@@ -41,12 +41,12 @@ after_first : (xs : List Record) (r : Record) → ((n : State) → collecting_af
 after_first xs r later None = refl
 after_first xs r later (Some n) = later n
 
--- one record more behind these
+-- one more record after these
 after_more : (s : State) (rs : List Record) (r : Record) → collecting_after_all s (rs ++ r ∷ []) ≡ option_and_then (λ n. collecting_after n r) (collecting_after_all s rs)
 after_more s [] r = after_none (collecting_after s r)
 after_more s (x ∷ xs) r = after_first xs r (λ n. after_more n xs r) (collecting_after s x)
 
--- The copies of a plan follow one another, and its writes can follow behind them.
+-- The copies of a plan follow one another, and its writes can follow after them.
 record IsFollowing (s : State) (k : Collection) (q : Planned) : Type 0 where
   next : State
   now : Collection
@@ -75,7 +75,7 @@ at_first s k runs = record {
   puts = refl;
 }
 
--- a write of a plan passes its row
+-- a write of a plan passes its test
 put_passes : (s n : State) (q : Planned) (at to : ℕ) → n.base ≡ s.base → n.used ≡ s.used + q.size → can_write (spaces_of s) q at to ≡ true → can_put n (at, bits (word.Stable to)) ≡ true
 put_passes s n q at to base used can =
     let one = and_parts (is_taken (spaces_of s) q at) (is_taken (spaces_of s) q to && nat_lt to 2097152) can in
@@ -242,7 +242,7 @@ scanned_last s k page q current f =
       none_gray = λ at in_page. none_in_page f.now.gray page at in_page;
     }
 
--- the records of a scan follow one another, and nothing in the page is gray behind them
+-- the records of a scan follow one another, and nothing in the page is gray after them
 pub scans : (s : State) (k : Collection) (words : List ℕ) (page : ℕ) (records : List Record) → s.collection ≡ Some k → scan_records (spaces_of s) k words page ≡ Some records → IsScanned s page records
 scans s k words page records runs is =
     let plan = planned_parts page (scan (spaces_of s) k words page) records is in

@@ -1,4 +1,5 @@
 pub mod After
+mod Errors
 mod Fields
 mod Following
 mod Headers

@@ -1,9 +1,11 @@
--- What is left to be visited.
-use Rattle.std.proofs.Common.{◌≡◌, ℕ, zero, suc, ◌+◌, ◌-◌, ◌<◌, List, None, Some, refl, ap, ◌∙◌, arith}
+-- What is left to be visited, and to be followed.
+use Rattle.std.proofs.Common.{◌≡◌, ℕ, zero, suc, ◌+◌, ◌-◌, ◌<◌, List, length, take, drop, get_or, Option, None, Some, refl, ap, ◌∙◌, arith}
 use Rattle.std.specs.Prelude.{option_and_then}
 use Rattle.heap_spaces.specs.Collection.{Collection}
 use Rattle.heap_spaces.specs.Spaces.{SpacesState}
-use Rattle.page_scanner.specs.Scan.{Planned, visit, visit_all}
+use Rattle.heap_words.specs.Word.{meaning}
+use Rattle.page_scanner.specs.Scan.{Planned, follow, follow_all, visit, visit_all}
+use Rattle.page_scanner.proofs.Fields.{run_next}
 
 visit_next : (spaces : SpacesState) (k : Collection) (words : List ℕ) (q : Planned) (at count : ℕ) → 0 < count
     → visit_all spaces k words q at count ≡ option_and_then (λ next. visit_all spaces k words next (at + 1) (count - 1)) (visit spaces k words q at)
@@ -29,3 +31,35 @@ pub visit_end : (spaces : SpacesState) (k : Collection) (words : List ℕ) (q : 
 unfolding visit_all
 visit_end spaces k words q at zero none = refl
 visit_end spaces k words q at (suc count) none = absurd (omega (arith, none))
+
+follow_next : (spaces : SpacesState) (k : Collection) (words : List ℕ) (q : Planned) (at source field n w : ℕ) → field < n + 2 → source + field < length words
+    → w ≡ get_or words (source + field) 0
+    → follow_all spaces k words q (at + field) (take (n + 2 - field) (drop (source + field) words))
+    ≡ option_and_then (λ next. follow_all spaces k words next (at + (field + 1)) (take (n + 2 - (field + 1)) (drop (source + (field + 1)) words))) (follow spaces k words q (at + field) (meaning w))
+follow_next spaces k words q at source field n w before within is =
+    let left = n + 2 - (field + 1) in
+    let some : n + 2 - field ≡ suc left = omega (arith, before) in
+    let on : at + field + 1 ≡ at + (field + 1) = omega arith in
+    let from : source + field + 1 ≡ source + (field + 1) = omega arith in
+    let Rest : ℕ → ℕ → Option Planned = λ a s. option_and_then (λ next. follow_all spaces k words next a (take left (drop s words))) (follow spaces k words q (at + field) (meaning w)) in
+    ap (λ m. follow_all spaces k words q (at + field) (take m (drop (source + field) words))) some
+    ∙ ap (follow_all spaces k words q (at + field)) (run_next words (source + field) left w within is)
+    ∙ ap (λ a. Rest a (source + field + 1)) on
+    ∙ ap (Rest (at + (field + 1))) from
+
+-- a field was followed
+pub follow_on : (spaces : SpacesState) (k : Collection) (words : List ℕ) (q r : Planned) (at source field n w : ℕ) → field < n + 2 → source + field < length words
+    → w ≡ get_or words (source + field) 0 → follow spaces k words q (at + field) (meaning w) ≡ Some r
+    → follow_all spaces k words q (at + field) (take (n + 2 - field) (drop (source + field) words))
+    ≡ follow_all spaces k words r (at + (field + 1)) (take (n + 2 - (field + 1)) (drop (source + (field + 1)) words))
+follow_on spaces k words q r at source field n w before within is followed =
+    follow_next spaces k words q at source field n w before within is
+    ∙ ap (option_and_then (λ next. follow_all spaces k words next (at + (field + 1)) (take (n + 2 - (field + 1)) (drop (source + (field + 1)) words)))) followed
+
+-- and one could not be
+pub follow_stop : (spaces : SpacesState) (k : Collection) (words : List ℕ) (q : Planned) (at source field n w : ℕ) → field < n + 2 → source + field < length words
+    → w ≡ get_or words (source + field) 0 → follow spaces k words q (at + field) (meaning w) ≡ None
+    → follow_all spaces k words q (at + field) (take (n + 2 - field) (drop (source + field) words)) ≡ None
+follow_stop spaces k words q at source field n w before within is stops =
+    follow_next spaces k words q at source field n w before within is
+    ∙ ap (option_and_then (λ next. follow_all spaces k words next (at + (field + 1)) (take (n + 2 - (field + 1)) (drop (source + (field + 1)) words)))) stops

@@ -110,8 +110,8 @@ rising_follow_all spaces k words from q r at (w ∷ ws) f is =
 abbrev pub extent : List ℕ → Planned → ℕ → ℕ
 extent words q a = 2 + length (field_words words (source q a))
 
--- The gray objects of a plan are apart, and lie in the words that are taken; and where a plan goes on from one before, those that are
--- gray more stand behind what was taken then.
+-- The gray objects of a plan are apart, and lie in the words that are taken; and if a plan continues an earlier one, those that are
+-- newly gray stand after what was taken then.
 pub record IsApart (spaces : SpacesState) (k : Collection) (words : List ℕ) (first : ℕ) (before q : Planned) : Type 0 where
   pub inside : (a : ℕ) → is_gray k q a ≡ true → a + extent words q a ≤ next_free spaces q
   pub apart : (a b : ℕ) → is_gray k q a ≡ true → is_gray k q b ≡ true → a < b → a + extent words q a ≤ b
@@ -121,7 +121,7 @@ pub record IsApart (spaces : SpacesState) (k : Collection) (words : List ℕ) (f
 pub coming_more : (copies : List Record) (from to : ℕ) (words : List ℕ) (a : ℕ) → copied_from (copies ++ Copy from to words ∷ []) a ≡ (if to == a then Some from else copied_from copies a)
 coming_more copies from to words a = fold-append (coming a) None copies (Copy from to words ∷ [])
 
--- Where an address stands with one copy more: it is the copy's, or all is as it was.
+-- Where an address stands with one more copy: it is the copy's, or all is as it was.
 data IsCopyOr (k : Collection) (q r : Planned) (from to a : ℕ) : Type 0 where
   new : a ≡ to → source r a ≡ from → IsCopyOr k q r from to a
   kept : source r a ≡ source q a → is_gray k r a ≡ is_gray k q a → IsCopyOr k q r from to a
@@ -184,7 +184,7 @@ kept_apart spaces k words first before = record {
   copy = λ q b n p within none object can. apart_copy spaces k words first before q b n p object;
 }
 
--- a plan goes on from itself
+-- a plan continues itself
 from_here : (spaces : SpacesState) (k : Collection) (words : List ℕ) (first : ℕ) (before q : Planned) → IsApart spaces k words first before q → IsApart spaces k words (next_free spaces q) q q
 from_here spaces k words first before q p = record { inside = p.inside; apart = p.apart; old = omega arith; more = λ a gray. inl gray }
 

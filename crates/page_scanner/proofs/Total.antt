@@ -69,7 +69,7 @@ weighed_one p from (o ∷ os) end b size (at, some, rest) has none = elim (Conta
       (omega (arith, more.0, one, sum), omega (arith, more.1), more.2)
 ]
 
--- behind an address nothing changes
+-- after an address nothing changes
 weighed_same : (p r : ℕ → Bool) (from : ℕ) (olds : List (ℕ × ℕ)) (end : ℕ) → AreFilling from olds end → (b : ℕ) → b < from → ((x : ℕ) → (x ≡ b → ⊥) → r x ≡ p x) → weighed r olds ≡ weighed p olds
 weighed_same p r from [] end filled b before others = refl
 weighed_same p r from (o ∷ os) end (at, some, rest) b before others =
@@ -226,7 +226,7 @@ may_copy spaces k words h q b size n g has none whole =
     (le-leb (k.copied + (q.size + (2 + n))) k.used (omega (arith, sum, counted, whole)))
     (le-leb (spaces.used + (q.size + (2 + n))) (space_words spaces.pages) (omega (arith, sum, counted, whole, r))))
 
--- what goes on from a plan that goes on goes on from the first
+-- what continues a plan that continues the first continues the first
 goes_on : (spaces : SpacesState) (k : Collection) (words : List ℕ) (h : IsCollected spaces k words) (q : Planned) (o : Option Planned) (f : Planned → Option Planned)
     → (one : Goes spaces k words h q o) → Goes spaces k words h one.next (f one.next) → Goes spaces k words h q (option_and_then f o)
 goes_on spaces k words h q o f one two =
@@ -343,7 +343,7 @@ none_gone k (o ∷ os) =
     or_none true = refl
     or_none false = refl
 
--- all of a page is gone over
+-- all of a page is visited
 run : (spaces : SpacesState) (k : Collection) (words : List ℕ) (page : ℕ) (h : IsCollected spaces k words) → Goes spaces k words h nothing (visit_all spaces k words nothing (64 * page) 64)
 run spaces k words page h =
     let apart = apart_first spaces k words h.gray_apart in

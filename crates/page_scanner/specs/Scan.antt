@@ -1,4 +1,4 @@
--- The scan of a page: the fields of the gray objects that start in it are led to the current space, and what they lead to is copied.
+-- The scan of a page: the fields of the gray objects that start in it are redirected to the current space, and what they lead to is copied.
 use Rattle.std.specs.Prelude.{ℕ, zero, suc, ◌+◌, ◌-◌, ◌*◌, ◌==◌, nat_lt, nat_le, List, [], ◌∷◌, ◌++◌, Bool, not, ◌&&◌, ◌||◌, Option, None, Some, is_some, unwrap_or, option_and_then, fold, take, drop, slice_index, if◌then◌else◌}
 use Rattle.std.specs.Option.{option_map}
 use Rattle.std.specs.FinSet.{contains}
@@ -15,7 +15,7 @@ use Rattle.log_records.specs.declared.Record.TheVariants.{Update, Base, Fix, Und
 use Rattle.object_layout.specs.Layout.{whole_length, field_words}
 use Rattle.heap_words.specs.declared.TheConstants.{STABLE_WORDS, PAGE_WORDS}
 
--- The words are those before the scan: what a copy will write is told by its record.
+-- The words are those before the scan: what a copy will write is in its record.
 
 -- What a scan has planned so far.
 pub record Planned : Type 0 where
@@ -26,9 +26,9 @@ pub record Planned : Type 0 where
 abbrev pub nothing : Planned
 nothing = record { copies = []; writes = []; size = 0 }
 
--- What the copies tell.
+-- What the copies say.
 
--- where the object at an address went, if this record copies it, and else as was found before
+-- where the object at an address went, if this record copies it, and otherwise as was found before
 abbrev pub going : ℕ → Option ℕ → Record → Option ℕ
 going b found (Update t object field was word) = found
 going b found (Base t address words) = found
@@ -45,7 +45,7 @@ going b found Collected = found
 abbrev pub copied_to : List Record → ℕ → Option ℕ
 copied_to copies b = fold (going b) None copies
 
--- where the copy at an address comes from, if this record makes it, and else as was found before
+-- where the copy at an address comes from, if this record makes it, and otherwise as was found before
 abbrev pub coming : ℕ → Option ℕ → Record → Option ℕ
 coming at found (Update t object field was word) = found
 coming at found (Base t address words) = found
@@ -82,15 +82,15 @@ is_taken spaces q at = nat_le spaces.base at && nat_lt at (next_free spaces q)
 
 -- A copy.
 
--- the words of the object at an address that has so many fields
+-- the words of the object at an address that has that many fields
 abbrev pub object_words : List ℕ → ℕ → ℕ → List ℕ
 object_words words at n = take (2 + n) (drop at words)
 
--- an object of so many words at an address is one of those of the from-space that are left to be copied
+-- an object of that many words at an address is one of those of the from-space that are left to be copied
 abbrev pub is_left : SpacesState → Collection → ℕ → ℕ → Bool
 is_left spaces k b size = nat_le (b + size) (from_base spaces + k.used) && not (contains k.moved b)
 
--- there is room for a copy of so many words, and as many are still to be copied
+-- there is room for a copy of that many words, and as many are still to be copied
 abbrev pub has_room : SpacesState → Collection → Planned → ℕ → Bool
 has_room spaces k q size = nat_le (k.copied + (q.size + size)) k.used && nat_le (spaces.used + (q.size + size)) (space_words spaces.pages)
 
@@ -98,11 +98,11 @@ has_room spaces k q size = nat_le (k.copied + (q.size + size)) k.used && nat_le 
 abbrev pub can_copy : SpacesState → Collection → Planned → ℕ → ℕ → Bool
 can_copy spaces k q b size = is_left spaces k b size && has_room spaces k q size
 
--- with a copy of the object at an address that has so many fields
+-- with a copy of the object at an address that has that many fields
 abbrev pub with_copy : SpacesState → List ℕ → Planned → ℕ → ℕ → Planned
 with_copy spaces words q b n = record q { copies = q.copies ++ Copy b (next_free spaces q) (object_words words b n) ∷ []; size = q.size + (2 + n) }
 
--- the same, if an object of so many fields stands there and may be copied
+-- the same, if an object of that many fields stands there and may be copied
 abbrev pub copied : SpacesState → Collection → List ℕ → Planned → ℕ → Option ℕ → Option Planned
 copied spaces k words q b None = None
 copied spaces k words q b (Some n) = if can_copy spaces k q b (2 + n) then Some (with_copy spaces words q b n) else None
@@ -117,8 +117,8 @@ can_write spaces q at to = is_taken spaces q at && (is_taken spaces q to && nat_
 abbrev pub written : SpacesState → Planned → ℕ → ℕ → Option Planned
 written spaces q at to = if can_write spaces q at to then Some (record q { writes = q.writes ++ (at, bits (word.Stable to)) ∷ [] }) else None
 
--- the field at an address is led to the copy of the object at `b`, which has such a header and is not copied in this scan so far: to the
--- copy that was made before, or else to one that is planned now
+-- the field at an address is redirected to the copy of the object at `b`, which has such a header and is not copied in this scan so far: to the
+-- copy that was made before, or otherwise to one that is planned now
 abbrev pub led : SpacesState → Collection → List ℕ → Planned → ℕ → ℕ → Option Header → Option Planned
 led spaces k words q at b (Some (Forward to)) = written spaces q at to
 led spaces k words q at b h = option_and_then (λ next. written spaces next at (next_free spaces q)) (copied spaces k words q b (whole_length words b h))
@@ -128,7 +128,7 @@ abbrev pub led_on : SpacesState → Collection → List ℕ → Planned → ℕ 
 led_on spaces k words q at b (Some to) = written spaces q at to
 led_on spaces k words q at b None = led spaces k words q at b (header (slice_index words b))
 
--- a field of this meaning at an address: if it leads to the from-space, it is led on
+-- a field of this meaning at an address: if it leads to the from-space, it is updated to the copy
 abbrev pub follow : SpacesState → Collection → List ℕ → Planned → ℕ → Option Word → Option Planned
 follow spaces k words q at None = Some q
 follow spaces k words q at (Some word.Null) = Some q
@@ -147,7 +147,7 @@ follow_all spaces k words q at (w ∷ ws) = option_and_then (λ next. follow_all
 abbrev pub is_gray : Collection → Planned → ℕ → Bool
 is_gray k q at = contains k.gray at || is_some (copied_from q.copies at)
 
--- where the words of the object stand that is to stand at an address: there, or where it is copied from
+-- where the words of the object that is to stand at an address are: there, or where it is copied from
 abbrev pub source : Planned → ℕ → ℕ
 source q at = unwrap_or (copied_from q.copies at) at
 
@@ -155,7 +155,7 @@ source q at = unwrap_or (copied_from q.copies at) at
 abbrev pub visit : SpacesState → Collection → List ℕ → Planned → ℕ → Option Planned
 visit spaces k words q at = if is_gray k q at then follow_all spaces k words q (at + 2) (field_words words (source q at)) else Some q
 
--- so are those of the objects at so many addresses from one on, ascending: an object that is copied there is met too
+-- so are those of the objects at a number of addresses from one on, ascending: an object that is copied there is met too
 unfoldable pub visit_all : SpacesState → Collection → List ℕ → Planned → ℕ → ℕ → Option Planned
 visit_all spaces k words q at zero = Some q
 visit_all spaces k words q at (suc count) = option_and_then (λ next. visit_all spaces k words next (at + 1) count) (visit spaces k words q at)

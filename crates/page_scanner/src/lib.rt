@@ -1,4 +1,4 @@
-//! The scan of a page in a collection: which records lead the fields of its gray objects to the current space.
+//! The scan of a page in a collection: which records redirect the fields of its gray objects to the current space.
 #![tactic(auto)]
 
 mod plan;

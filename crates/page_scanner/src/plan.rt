@@ -1,5 +1,5 @@
 //! The plan of a scan, as it grows.
-ghost use Rattle.std.specs.Prelude.{◌≡◌, ◌+◌, ◌*◌, ◌≤◌, ◌<◌, ◌++◌, [], ◌∷◌, length, vec_len, IsTrue, IfOk, OnOk, Err, None, Some};
+ghost use Rattle.std.specs.Prelude.{◌≡◌, ◌+◌, ◌*◌, ◌≤◌, ◌<◌, ◌++◌, [], ◌∷◌, length, take, drop, vec_len, IsTrue, IfOk, OnOk, Err, None, Some};
 ghost use Rattle.heap_words.specs.Word.{meaning};
 ghost use Rattle.log_records.specs.declared.Record.TheVariants.{Copy as CopyOf};
 ghost use Rattle.object_layout.specs.Layout.{object_at as object_of};
@@ -8,15 +8,15 @@ ghost use Rattle.page_scanner.specs.declared.scan_error.ScanError.TheVariants.{D
 ghost use Rattle.page_scanner.specs.Scan as plans;
 ghost use Rattle.page_scanner.specs.ScanFailure.{scan_failure};
 
-use crate::reading::{fields_of, header_at, read_words};
+use crate::reading::{field_count, header_at, read_words};
 use crate::scan_error::ScanError;
 use crate::spaces::{is_in_from_space, is_left, space_words};
 use heap_spaces::{Collection, Spaces};
-use heap_words::{FIELDS_AT, Header, STABLE_WORDS, Word, decode, encode};
+use heap_words::{FIELDS_AT, Header, PAGE_WORDS, STABLE_WORDS, Word, decode, encode};
 use log_records::{ObjectWords, Record};
 use object_layout::{Words, object_at};
 use std::alloc::Global;
-use std::collections::BTreeMap;
+use std::collections::HashMap;
 
 /// What a scan has planned so far.
 #[derive(Drop)]
@@ -24,23 +24,26 @@ pub(crate) struct Plan {
     pub(crate) alloc: Global,
     /// The copies, in their order.
     pub(crate) copies: Vec<Record>,
-    /// The fields that are led to the current space, each by its address and its new word.
+    /// The fields that are redirected to the current space, each by its address and its new word.
     pub(crate) writes: Vec<(u32, u64)>,
     /// How many words the copies have.
     pub(crate) size: u32,
     /// Where each object that is copied goes.
-    pub(crate) destinations: BTreeMap<u32, u32>,
-    /// Where each copy comes from.
-    pub(crate) sources: BTreeMap<u32, u32>,
+    pub(crate) destinations: HashMap<u32, u32>,
+    /// The address of the page's first word.
+    pub(crate) first: u32,
+    /// Where each copy comes from that stands in the page, by its place there.
+    pub(crate) sources: [Option<u32>; PAGE_WORDS as usize],
 }
 
 impl Plan {
-    ghost use Rattle.page_scanner.specs.Plan.{planned, IsPlan};
+    ghost use Rattle.page_scanner.specs.Plan.{planned, with_source, IsPlan};
 
-    /// Nothing is planned. It takes no memory.
-    pub(crate) fn new(alloc: Global) -> Plan
+    /// Nothing is planned yet for the page that begins at the address `first`. Does not allocate.
+    pub(crate) fn new(alloc: Global, first: u32) -> Plan
         ensures nothing { planned result ≡ plans.nothing }
         ensures empty { vec_len result.writes ≡ 0 }
+        ensures first { result.first ≡ first }
         ensures plan { IsPlan result }
     {
         Plan {
@@ -48,12 +51,13 @@ impl Plan {
             copies: Vec::new(alloc),
             writes: Vec::new(alloc),
             size: 0,
-            destinations: BTreeMap::new(alloc),
-            sources: BTreeMap::new(alloc),
+            destinations: HashMap::new(alloc),
+            first,
+            sources: [None; PAGE_WORDS as usize],
         }
     }
 
-    /// Follows the fields of the object at an address, if it is gray.
+    /// Follows the fields of the object at an address of the page, if it is gray.
     pub(crate) fn visit<W: Words>(
         &mut self,
         words: &mut W,
@@ -63,9 +67,12 @@ impl Plan {
     ) -> Result<(), ScanError>
         requires plan { IsPlan self.old }
         requires low { at < 2147483648 }
+        requires from { self.old.first ≤ at }
+        requires before { at < self.old.first + 64 }
         ensures visited { IsTrue W.tells → OnOk result (plans.visit spaces.now collection.now (W.content words.old) (planned self.old) at ≡ Some (planned self.new)) }
         ensures damaged { IsTrue W.tells → result ≡ Err Damaged → plans.visit spaces.now collection.now (W.content words.old) (planned self.old) at ≡ None }
         ensures plan { OnOk result (IsPlan self.new) }
+        ensures first { OnOk result (self.new.first ≡ self.old.first) }
         ensures few { OnOk result (vec_len self.new.writes ≤ vec_len self.old.writes + 510) }
         ensures read { IsRead W.tells W.extent W.content W.keeps W.faults W.stops words.old words.new (scan_failure result) }
     {
@@ -73,52 +80,71 @@ impl Plan {
             return Ok(());
         }
         let source = self.source(at);
-        let fields = fields_of(self.alloc, words, source)?;
-        self.follow_all(words, spaces, collection, at + FIELDS_AT, &fields)
+        let n = field_count(words, source)?;
+        self.follow_all(words, spaces, collection, at, source, n)
     }
 
     // Whether a gray object stands at an address, or one that is copied there.
     fn is_gray(&self, collection: &Collection, at: u32) -> bool
-        requires { IsPlan self.now }
+        requires plan { IsPlan self.now }
+        requires from { self.now.first ≤ at }
+        requires before { at < self.now.first + 64 }
         ensures { result ≡ plans.is_gray collection.now (planned self.now) at }
     {
-        collection.is_gray(at) || self.sources.contains_key(&at)
+        collection.is_gray(at) || self.copied_from(at).is_some()
     }
 
-    // Where the words of the object stand that is to stand at an address.
+    // Where the words of the object that is to stand at an address are.
     fn source(&self, at: u32) -> u32
-        requires { IsPlan self.now }
+        requires plan { IsPlan self.now }
+        requires from { self.now.first ≤ at }
+        requires before { at < self.now.first + 64 }
         ensures { result ≡ plans.source (planned self.now) at }
     {
-        self.sources.get(&at).copied().unwrap_or(at)
+        self.copied_from(at).unwrap_or(at)
     }
 
-    // Follows fields of these words, from an address on.
+    // Where the copy comes from that is to stand at an address of the page, if one is.
+    fn copied_from(&self, at: u32) -> Option<u32>
+        requires plan { IsPlan self.now }
+        requires from { self.now.first ≤ at }
+        requires before { at < self.now.first + 64 }
+        ensures { result ≡ plans.copied_from (planned self.now).copies at }
+    {
+        self.sources[(at - self.first) as usize]
+    }
+
+    // Follows the `n` fields of the object at an address, whose words stand at the source.
     fn follow_all<W: Words>(
         &mut self,
         words: &mut W,
         spaces: &Spaces,
         collection: &Collection,
-        from: u32,
-        fields: &[u64],
+        at: u32,
+        source: u32,
+        n: u32,
     ) -> Result<(), ScanError>
         requires plan { IsPlan self.old }
-        requires low { from + length fields.now < 4294967296 }
-        ensures followed { IsTrue W.tells → OnOk result (plans.follow_all spaces.now collection.now (W.content words.old) (planned self.old) from fields.now ≡ Some (planned self.new)) }
-        ensures damaged { IsTrue W.tells → result ≡ Err Damaged → plans.follow_all spaces.now collection.now (W.content words.old) (planned self.old) from fields.now ≡ None }
+        requires low { at < 2147483648 }
+        requires few { n ≤ 510 }
+        requires within { 0 < n → source + 2 + n ≤ W.extent words.old }
+        ensures followed { IsTrue W.tells → OnOk result (plans.follow_all spaces.now collection.now (W.content words.old) (planned self.old) (at + 2) (take n (drop (source + 2) (W.content words.old))) ≡ Some (planned self.new)) }
+        ensures damaged { IsTrue W.tells → result ≡ Err Damaged → plans.follow_all spaces.now collection.now (W.content words.old) (planned self.old) (at + 2) (take n (drop (source + 2) (W.content words.old))) ≡ None }
         ensures plan { OnOk result (IsPlan self.new) }
-        ensures few { OnOk result (vec_len self.new.writes ≤ vec_len self.old.writes + length fields.now) }
+        ensures first { OnOk result (self.new.first ≡ self.old.first) }
+        ensures few { OnOk result (vec_len self.new.writes ≤ vec_len self.old.writes + n) }
         ensures read { IsRead W.tells W.extent W.content W.keeps W.faults W.stops words.old words.new (scan_failure result) }
     {
-        let mut at = from;
-        for word in fields {
-            self.follow(words, spaces, collection, at, *word)?;
-            at += 1;
+        // Fields end within the words, so that an end has 32 bits.
+        let _end = words.size();
+        for field in FIELDS_AT..FIELDS_AT + n {
+            let word = words.word(source + field)?;
+            self.follow(words, spaces, collection, at + field, word)?;
         }
         Ok(())
     }
 
-    // Leads a field with that word on, if it leads to the from-space.
+    // Updates a field with that word to the copy, if it leads to the from-space.
     fn follow<W: Words>(
         &mut self,
         words: &mut W,
@@ -131,6 +157,7 @@ impl Plan {
         ensures followed { IsTrue W.tells → OnOk result (plans.follow spaces.now collection.now (W.content words.old) (planned self.old) at (meaning word) ≡ Some (planned self.new)) }
         ensures damaged { IsTrue W.tells → result ≡ Err Damaged → plans.follow spaces.now collection.now (W.content words.old) (planned self.old) at (meaning word) ≡ None }
         ensures plan { OnOk result (IsPlan self.new) }
+        ensures first { OnOk result (self.new.first ≡ self.old.first) }
         ensures few { OnOk result (vec_len self.new.writes ≤ vec_len self.old.writes + 1) }
         ensures read { IsRead W.tells W.extent W.content W.keeps W.faults W.stops words.old words.new (scan_failure result) }
     {
@@ -142,7 +169,7 @@ impl Plan {
         }
     }
 
-    // Leads a field to the copy of an object of the from-space, which is made here or was made before.
+    // Redirects a field to the copy of an object of the from-space, which is made here or was made before.
     fn lead<W: Words>(
         &mut self,
         words: &mut W,
@@ -155,6 +182,7 @@ impl Plan {
         ensures led { IsTrue W.tells → OnOk result (plans.led_on spaces.now collection.now (W.content words.old) (planned self.old) at object (plans.copied_to (planned self.old).copies object) ≡ Some (planned self.new)) }
         ensures damaged { IsTrue W.tells → result ≡ Err Damaged → plans.led_on spaces.now collection.now (W.content words.old) (planned self.old) at object (plans.copied_to (planned self.old).copies object) ≡ None }
         ensures plan { OnOk result (IsPlan self.new) }
+        ensures first { OnOk result (self.new.first ≡ self.old.first) }
         ensures few { OnOk result (vec_len self.new.writes ≤ vec_len self.old.writes + 1) }
         ensures read { IsRead W.tells W.extent W.content W.keeps W.faults W.stops words.old words.new (scan_failure result) }
     {
@@ -168,7 +196,7 @@ impl Plan {
         self.write(spaces, at, to)
     }
 
-    // Where an object is copied, if it is so far.
+    // Where an object is copied to, if it is so far.
     fn destination(&self, object: u32) -> Option<u32>
         requires { IsPlan self.now }
         ensures { result ≡ plans.copied_to (planned self.now).copies object }
@@ -176,7 +204,7 @@ impl Plan {
         self.destinations.get(&object).copied()
     }
 
-    // Copies an object to the next words of the current space, and tells where that is.
+    // Copies an object to the next words of the current space, and returns where that is.
     fn copy<W: Words>(
         &mut self,
         words: &mut W,
@@ -189,6 +217,7 @@ impl Plan {
         ensures place { IfOk result (λ to. to ≡ plans.next_free spaces.now (planned self.old)) }
         ensures damaged { IsTrue W.tells → result ≡ Err Damaged → plans.copied spaces.now collection.now (W.content words.old) (planned self.old) object (object_of (W.content words.old) object) ≡ None }
         ensures plan { OnOk result (IsPlan self.new) }
+        ensures first { OnOk result (self.new.first ≡ self.old.first) }
         ensures writes { OnOk result (self.new.writes.items ≡ self.old.writes.items) }
         ensures read { IsRead W.tells W.extent W.content W.keeps W.faults W.stops words.old words.new (scan_failure result) }
     {
@@ -207,7 +236,7 @@ impl Plan {
         Ok(to)
     }
 
-    // Whether an object of so many words is left to be copied, and there is room for it.
+    // Whether an object of `size` words is left to be copied, and there is room for it.
     fn can_copy(&self, spaces: &Spaces, collection: &Collection, object: u32, size: u32) -> bool
         ensures can { result ≡ plans.can_copy spaces.now collection.now (planned self.now) object size }
         ensures small { IsTrue result → self.now.size + size ≤ 1048576 }
@@ -215,7 +244,7 @@ impl Plan {
         is_left(spaces, collection, object, size) && self.has_room(spaces, collection, size)
     }
 
-    // Whether there is room for a copy of so many words, and as many are still to be copied.
+    // Whether there is room for a copy of `size` words, and as many are still to be copied.
     fn has_room(&self, spaces: &Spaces, collection: &Collection, size: u32) -> bool
         ensures has { result ≡ plans.has_room spaces.now collection.now (planned self.now) size }
         ensures small { IsTrue result → self.now.size + size ≤ 1048576 }
@@ -241,14 +270,25 @@ impl Plan {
         ensures writes { OnOk result (self.new.writes.items ≡ self.old.writes.items) }
         ensures size { OnOk result (self.new.size ≡ self.old.size + size) }
         ensures plan { OnOk result (IsPlan self.new) }
+        ensures first { OnOk result (self.new.first ≡ self.old.first) }
         ensures failure { (result ≡ Err Damaged → ⊥) × (scan_failure result ≡ None) }
     {
         let words = ObjectWords::new(run);
         self.copies.push(Record::Copy { from, to, words })?;
         self.destinations.insert(from, to)?;
-        self.sources.insert(to, from)?;
+        self.note_source(from, to);
         self.size += size;
         Ok(())
+    }
+
+    // Notes where a copy comes from, if it stands in the page.
+    fn note_source(&mut self, from: u32, to: u32)
+        requires { length self.old.sources ≡ 64 }
+        ensures { self.new ≡ record self.old { sources = with_source self.old.sources self.old.first from to } }
+    {
+        if self.first <= to && to - self.first < PAGE_WORDS {
+            self.sources[(to - self.first) as usize] = Some(from);
+        }
     }
 
     // Puts a reference to a word address into the field at another.
@@ -257,6 +297,7 @@ impl Plan {
         ensures written { OnOk result (plans.written spaces.now (planned self.old) at to ≡ Some (planned self.new)) }
         ensures damaged { result ≡ Err Damaged → plans.written spaces.now (planned self.old) at to ≡ None }
         ensures plan { OnOk result (IsPlan self.new) }
+        ensures first { OnOk result (self.new.first ≡ self.old.first) }
         ensures few { OnOk result (vec_len self.new.writes ≤ vec_len self.old.writes + 1) }
         ensures failure { scan_failure result ≡ None }
     {

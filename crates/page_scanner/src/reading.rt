@@ -1,5 +1,5 @@
 //! What a scan reads.
-ghost use Rattle.std.specs.Prelude.{◌≡◌, ◌≤◌, ◌-◌, IsTrue, IfOk, take, drop, slice_index, vec_len};
+ghost use Rattle.std.specs.Prelude.{◌≡◌, ◌≤◌, ◌<◌, ◌+◌, ◌-◌, IsTrue, IfOk, take, drop, slice_index};
 ghost use Rattle.object_layout.specs.Layout.{field_words};
 ghost use Rattle.heap_words.specs.Header.{header as header_of_word};
 ghost use Rattle.object_layout.specs.Read.{IsRead, disk_failure};
@@ -7,7 +7,7 @@ ghost use Rattle.object_layout.specs.ReadFailure.{read_failure};
 
 use disk_model::DiskError;
 use heap_words::{Header, MOST_FIELDS, header_of};
-use object_layout::{ReadError, Words, fields};
+use object_layout::{ReadError, Words, object_at};
 use std::alloc::Global;
 
 /// The header at an address, if one stands there.
@@ -23,24 +23,21 @@ pub(crate) fn header_at<W: Words>(words: &mut W, at: u32) -> Result<Option<Heade
     Ok(header_of(word))
 }
 
-/// The words of the fields of the object that stands at an address, and none where no object does.
-#[tactic(auto, using(crate::proofs::Fields::fields_some, crate::proofs::Fields::fields_none, crate::proofs::Fields::fields_over))]
-pub(crate) fn fields_of<W: Words>(
-    alloc: Global,
-    words: &mut W,
-    at: u32,
-) -> Result<Vec<u64>, ReadError>
-    ensures fields { IsTrue W.tells → IfOk result (λ fields. fields.items ≡ field_words (W.content words.old) at) }
-    ensures few { IfOk result (λ fields. vec_len fields ≤ 510) }
-    ensures read { IsRead W.tells W.extent W.content W.keeps W.faults W.stops words.old words.new (read_failure result) }
+/// How many fields the object at an address has; 0 if no object stands there.
+#[tactic(auto, using(crate::proofs::Fields::fields_none))]
+pub(crate) fn field_count<W: Words>(words: &mut W, at: u32) -> Result<u32, DiskError>
+    ensures fields { IsTrue W.tells → IfOk result (λ n. take n (drop (at + 2) (W.content words.old)) ≡ field_words (W.content words.old) at) }
+    ensures few { IfOk result (λ n. n ≤ 510) }
+    ensures within { IfOk result (λ n. 0 < n → at + 2 + n ≤ W.extent words.old) }
+    ensures read { IsRead W.tells W.extent W.content W.keeps W.faults W.stops words.old words.new (disk_failure result) }
 {
-    let Some(fields) = fields(alloc, words, at)? else {
-        return Ok(Vec::new(alloc));
+    let Some(n) = object_at(words, at)? else {
+        return Ok(0);
     };
-    if fields.len() > MOST_FIELDS as usize {
-        return Ok(Vec::new(alloc));
+    if n > MOST_FIELDS {
+        return Ok(0);
     }
-    Ok(fields)
+    Ok(n)
 }
 
 /// The words from an address up to an end.
@@ -55,7 +52,7 @@ pub(crate) fn read_words<W: Words>(
     ensures run { IsTrue W.tells → IfOk result (λ run. run.items ≡ take (end - from) (drop from (W.content words.old))) }
     ensures read { IsRead W.tells W.extent W.content W.keeps W.faults W.stops words.old words.new (read_failure result) }
 {
-    let mut run = Vec::new(alloc);
+    let mut run = Vec::with_capacity(alloc, (end - from) as usize)?;
     for at in from..end {
         let word = words.word(at)?;
         run.push(word)?;

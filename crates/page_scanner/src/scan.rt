@@ -32,8 +32,8 @@ pub fn next_gray_page(collection: &Collection) -> Option<u32>
 }
 
 /// The records of the scan of a page of the current space: copies of the objects of the from-space to which its gray objects lead, also
-/// those that are copied into it, each copied once; and behind them the scan, with the new word of each field that led there. It only
-/// reads; its time is that of what it reads, times a logarithm.
+/// those that are copied into it, each copied once; and after them the scan, with the new word of each field that led there. It only
+/// reads; it takes time proportional to what it reads and copies, if the hashes of these objects differ.
 pub fn plan_scan<W: Words>(
     alloc: Global,
     words: &mut W,
@@ -74,7 +74,7 @@ fn plan_records<W: Words>(
     Ok(records)
 }
 
-// The plan when all gray objects of the page that begins at an address were visited.
+// The plan after all gray objects of the page that begins at an address were visited.
 fn visit_page<W: Words>(
     alloc: Global,
     words: &mut W,
@@ -88,7 +88,7 @@ fn visit_page<W: Words>(
     ensures few { IfOk result (λ plan. vec_len plan.writes ≤ 64 * 510) }
     ensures read { IsRead W.tells W.extent W.content W.keeps W.faults W.stops words.old words.new (scan_failure result) }
 {
-    let mut plan = Plan::new(alloc);
+    let mut plan = Plan::new(alloc, first);
     for at in first..first + PAGE_WORDS {
         plan.visit(words, spaces, collection, at)?;
     }

@@ -12,7 +12,7 @@ pub enum ScanError {
     Damaged,
     /// The disk failed, or had stopped.
     Disk(DiskError),
-    /// Memory was refused.
+    /// Out of memory.
     NoMemory,
 }
 

@@ -30,7 +30,7 @@ pub(crate) fn is_in_from_space(spaces: &Spaces, at: u32) -> bool
     base <= at && at < base + space_words(spaces)
 }
 
-/// Whether an object of so many words at an address is one of those of the from-space that are left to be copied.
+/// Whether an object of `size` words at an address is one of those of the from-space that are left to be copied.
 pub(crate) fn is_left(spaces: &Spaces, collection: &Collection, object: u32, size: u32) -> bool
     ensures { result ≡ is_object_left spaces.now collection.now object size }
 {

@@ -19,8 +19,8 @@ use std::alloc::{AllocError, Global};
 const FRONT_WORDS: usize = FIELDS_AT as usize;
 
 impl LogState {
-    /// Takes one record of a collection more, or tells that it can't follow, as no other record can. After any error the state is as before.
-    /// Only a `Copy` and a `Flip` may lack memory; whether a `Flip` can follow is not reported then.
+    /// Takes one more record of a collection, or reports that it can't follow, as no other record can. After any error the state is as before.
+    /// Only a `Copy` and a `Flip` may run out of memory; whether a `Flip` can follow is not reported then.
     pub fn collecting_after(&mut self, alloc: Global, rec: &Record) -> Result<(), AfterError>
         ensures ok { OnOk result (collecting_after self.old rec.now ≡ Some self.new) }
         ensures inside { OnOk result (WritesBelow (words_in self.old.pages) rec.now) }
@@ -93,7 +93,7 @@ impl LogState {
         u64::from(to) == end && taken <= u64::from(PAGE_WORDS) * u64::from(self.pages)
     }
 
-    /// The collection that runs, where one does.
+    /// The collection that runs, if one does.
     pub fn collection(&self) -> Option<&Collection>
         ensures value { option_map (λ c. c.now) result ≡ self.now.collection }
         ensures fits { IfSome result (λ c. other_base self.now + c.now.used ≤ words_in self.now.pages) }
@@ -175,7 +175,7 @@ impl LogState {
         }
     }
 
-    // Takes the flip: the spaces change their roles, the objects are copied, and what may be taken back goes along.
+    // Takes the flip: the spaces change their roles, the objects are copied, and the undo entries are translated.
     fn flip(&mut self, alloc: Global, copies: &[ObjectCopy]) -> Result<(), AfterError>
         ensures ok { OnOk result (flipped_in self.old copies.now self.old.collection ≡ Some self.new) }
         ensures unshaped { result ≡ Err AfterError.Unshaped → flipped_in self.old copies.now self.old.collection ≡ None }
@@ -203,7 +203,7 @@ impl LogState {
         self.collection.is_some()
     }
 
-    // The state when the spaces have changed their roles and these objects are copied, where nothing may be taken back.
+    // The state after the spaces have changed their roles and these objects are copied, if nothing may be taken back.
     fn to_space(&self, alloc: Global, copies: &[ObjectCopy]) -> Result<LogState, AfterError>
         ensures ok { IfOk result (λ (next : State). copies_after (settled (with_roles_changed self.now)) copies.now ≡ Some next) }
         ensures unshaped { result ≡ Err AfterError.Unshaped → copies_after (settled (with_roles_changed self.now)) copies.now ≡ None }
@@ -215,7 +215,7 @@ impl LogState {
         Ok(next)
     }
 
-    // The state when the spaces have changed their roles, where nothing is copied yet and nothing may be taken back.
+    // The state after the spaces have changed their roles, if nothing is copied yet and nothing may be taken back.
     fn with_roles_changed(&self, alloc: Global) -> LogState
         ensures { result ≡ settled (with_roles_changed self.now) }
     {
@@ -255,7 +255,7 @@ impl LogState {
     }
 }
 
-// The page is scanned, where a collection runs.
+// The page is scanned, if a collection runs.
 fn scan_page(collection: &mut Option<Collection>, page: u32)
     requires { page < 2 ^ 26 }
     ensures { collection.new ≡ option_map (λ k. with_scanned k page) collection.old }

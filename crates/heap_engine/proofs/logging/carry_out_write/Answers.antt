@@ -15,7 +15,7 @@ use Rattle.heap_engine.proofs.Applied.{still_lacking}
 use Rattle.heap_engine.proofs.Spare.{size_with, size_after}
 use Rattle.heap_engine.proofs.logging.carry_out_write.Goals as goal
 
--- the pages when records and one behind them were put on them
+-- the pages after records and one more were put on them
 pages_are : (first lsn later : ℕ) (old mid new : Pages) (scan : List Record) (write : Record) → lsn ≡ first → later ≡ first + length scan → mid ≡ redo_all lsn old scan → new ≡ redo_record later mid write
     → new ≡ redo_all first old (scan ++ write ∷ [])
 pages_are first lsn later old mid new scan write begins ends are is =

@@ -1,22 +1,18 @@
 -- One address after another is visited.
-use Rattle.std.proofs.Common.{◌≡◌, ℕ, ◌+◌, ◌-◌, ◌<◌, List, Some, None, Result, Ok, Err, sym, ap, ◌∙◌, subst, arith}
-use Rattle.std.specs.Prelude.{IsErrAnd}
-use Rattle.page_scanner.specs.declared.scan_error.ScanError.{ScanError}
-use Rattle.page_scanner.specs.declared.scan_error.ScanError.TheVariants.{Damaged}
+use Rattle.std.proofs.Common.{◌≡◌, ℕ, ◌+◌, ◌-◌, ◌<◌, List, Some, None, Err, sym, ap, ◌∙◌, subst, arith}
+use Rattle.object_layout.specs.Read.{IsRead}
 use Rattle.page_scanner.specs.Plan.{planned}
 use Rattle.page_scanner.specs.Scan.{visit, visit_all}
 use Rattle.object_layout.proofs.ReadLaws.{not_read, read_on}
+use Rattle.page_scanner.proofs.Errors.{failure_on, handed_on}
 use Rattle.page_scanner.proofs.Loops.{visit_on, visit_stop, visit_end}
 use Rattle.page_scanner.proofs.scan.visit_page.Goals as goal
-
-handed_on : {X : Type 0} (r : Result X ScanError) (e : ScanError) → IsErrAnd r (λ y. y ≡ e) → r ≡ Err Damaged → e ≡ Damaged
-handed_on (Ok done) e at is = cc
-handed_on (Err y) e at is = cc
 
 pub loop-at-init : goal.loop-at-init
 loop-at-init g c = record {
   read = not_read _ _ _ _ _ _ _ g.met.W.Words.keeps_itself;
   plan = c.new-plan.ensures.plan;
+  first = c.new-plan.ensures.first;
   few = let none = c.new-plan.ensures.empty in omega (arith, none);
   visited = λ told.
       let words = g.W.Words.content c.args.words.now in
@@ -35,6 +31,12 @@ returns-in_err-visit-clause-damaged g c told is =
     subst Damages (c.loop-at.invariant.read.same_words told) (c.in_err-visit.ensures.damaged told (ap Err (handed_on c.from_residual.result _ c.from_residual.ensures.1 is))) in
     c.loop-at.invariant.visited told ∙ visit_stop c.args.spaces.now c.args.collection.now words (planned c.loop-at.plan) c.loop-at.at left some stop
 
+pub returns-in_err-visit-clause-read : goal.returns-in_err-visit-clause-read
+returns-in_err-visit-clause-read g c =
+    subst (IsRead g.W.Words.tells g.W.Words.extent g.W.Words.content g.W.Words.keeps g.W.Words.faults g.W.Words.stops c.args.words.now c.visit.new.words)
+    (failure_on c.from_residual.result _ c.from_residual.ensures.1)
+    (read_on _ _ _ _ _ _ _ _ _ _ g.met.W.Words.keeps_on c.loop-at.invariant.read c.in_err-visit.ensures.read)
+
 pub returns-clause-visited : goal.returns-clause-visited
 returns-clause-visited g c told =
     let words = g.W.Words.content c.args.words.now in
@@ -46,6 +48,7 @@ pub loop-at-preserved : goal.loop-at-preserved
 loop-at-preserved g c = record {
   read = read_on _ _ _ _ _ _ _ _ _ _ g.met.W.Words.keeps_on c.loop-at.invariant.read c.in_ok-visit.ensures.read;
   plan = c.in_ok-visit.ensures.plan;
+  first = c.in_ok-visit.ensures.first ∙ c.loop-at.invariant.first;
   few = let more = c.in_ok-visit.ensures.few in let before = c.loop-at.invariant.few in omega (arith, more, before);
   visited = λ told.
       let words = g.W.Words.content c.args.words.now in

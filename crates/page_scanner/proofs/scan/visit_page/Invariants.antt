@@ -9,6 +9,7 @@ abbrev pub invariant-loop-at : goal.invariant-loop-at
 invariant-loop-at g l = record {
   read : IsRead g.W.Words.tells g.W.Words.extent g.W.Words.content g.W.Words.keeps g.W.Words.faults g.W.Words.stops l.initial.words l.words None;
   plan : IsPlan l.plan;
+  first : l.plan.first ≡ l.first;
   few : vec_len l.plan.writes ≤ (l.at - l.first) * 510;
   visited : IsTrue g.W.Words.tells
       → visit_all l.spaces l.collection (g.W.Words.content l.initial.words) nothing l.first 64

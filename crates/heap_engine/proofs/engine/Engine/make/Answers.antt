@@ -15,7 +15,7 @@ use Rattle.heap_engine.proofs.Made.{area_room, can_refer_made, new_granted, new_
 use Rattle.heap_engine.proofs.Tables.{there, told, turned, granted, still_active, sound_area, sound_handle}
 use Rattle.heap_engine.proofs.engine.Engine.make.Goals as goal
 
--- the transaction with an object more
+-- the transaction with one more object
 abbrev with_new : ℕ → TransactionState → TransactionState
 with_new len t = record t { area = with_object t.area len }
 

@@ -10,7 +10,7 @@ use Rattle.heap_engine.proofs.ScanReady.{IsKnown, Passes, page_ready}
 use Rattle.heap_engine.proofs.ScanRecords.{scan_shaped}
 use Rattle.heap_engine.proofs.engine.Engine.plan_page.Goals as goal
 
--- what holds of a value holds of it behind another error
+-- what holds of a value holds of it after another error
 still_ok : {V E F : Type 0} (r : Result V E) (m : Result V F) (x : V) (R : E → F → Type 0) (P : V → Type 0) → MatchResult r (λ v. m ≡ Ok v) (λ e. IsErrAnd m (R e)) → m ≡ Ok x → IfOk r P → P x
 still_ok (Ok v) m x R P same is holds = let one : v ≡ x = cc (same, is) in subst P one holds
 still_ok (Err e) m x R P other is holds = absurd (subst (λ n. IsErrAnd n (R e)) is other)

@@ -9,7 +9,7 @@ use Rattle.heap_engine.specs.Reserve.{AreSound}
 use Rattle.heap_engine.proofs.Tables.{there, told, say, kept_own}
 use Rattle.heap_engine.proofs.engine.Engine.reserved_without.Goals as goal
 
--- the transaction has as many writes as are told, and enough is kept for its end
+-- the transaction has as many writes as its list, and enough is kept for its end
 kept : (table : TableState) (size bytes sealed s : ℕ) (us : List UndoEntry) → AreSound table size bytes sealed → IsSome (transaction_of table s) → IfSome (transaction_of table s) (λ t. reverse us ≡ t.undo)
     → (t : TransactionState) × (transaction_of table s ≡ Some t) × (length us ≡ length t.undo) × (end_bytes (length t.undo) ≤ bytes)
 kept table size bytes sealed s us sound some is =

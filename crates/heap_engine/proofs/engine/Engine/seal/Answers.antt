@@ -17,37 +17,21 @@ use Rattle.heap_engine.specs.Seal.{IsSealOf}
 use Rattle.heap_engine.specs.EngineState.{memory}
 use Rattle.heap_engine.proofs.Alone.{alone_need, alone_room, alone_spare, alone_granted}
 use Rattle.heap_engine.proofs.Tables.{there, told, say}
-use Rattle.heap_engine.proofs.Room.{need_little, used_with_need}
 use Rattle.heap_engine.proofs.engine.Engine.seal.Goals as goal
 
 pub bytes_of-bytes-requires : goal.bytes_of-bytes-requires
 bytes_of-bytes-requires c = omega (arith, c.in_ok-records.ensures.few, ap (λ (rs : List Record). length (spellings rs)) c.deref.ensures.value)
 
-pub need_of-requires : goal.need_of-requires
-need_of-requires c = omega (arith, c.bytes_of-bytes.ensures, c.in_ok-records.ensures.few, ap (λ (rs : List Record). length (spellings rs)) c.deref.ensures.value)
+pub reserve_room-requires-clause-few : goal.reserve_room-requires-clause-few
+reserve_room-requires-clause-few c = omega (arith, c.bytes_of-bytes.ensures, c.in_ok-records.ensures.few, ap (λ (rs : List Record). length (spellings rs)) c.deref.ensures.value)
 
-pub log_refusal-requires-clause-need : goal.log_refusal-requires-clause-need
-log_refusal-requires-clause-need c =
-    let few : length (spellings c.in_ok-records.records.items) < 2 ^ 32 + 2 ^ 24 = c.in_ok-records.ensures.few in
-    let same = ap (λ (rs : List Record). length (spellings rs)) c.deref.ensures.value in
-    let little = need_little c.args.self.now.log (length (spellings c.deref.result.now)) in
-    let need = c.need_of.ensures ∙ ap (log_need c.args.self.now.log) c.bytes_of-bytes.ensures in
-    omega (arith, few, same, little, need)
-
-pub log_refusal-requires-clause-reserved : goal.log_refusal-requires-clause-reserved
-log_refusal-requires-clause-reserved c =
+pub reserve_room-requires-clause-kept : goal.reserve_room-requires-clause-kept
+reserve_room-requires-clause-kept c =
     let s = c.args.self.now in
     let o = transaction_of s.table c.args.session in
     let t = there o (c.active.ensures.0 c.if-not-active.false) in
     let kept = told o t.0 (λ v. c.reserved_without-others.result + end_bytes (length v.undo) ≡ s.reserved) t.1 c.reserved_without-others.ensures.kept in
     omega (arith, kept, s.room, s.log.small)
-
--- the log has room for the records and for what is kept
-fits : (log : Log) (bytes need others : ℕ) (records : List Record) → bytes ≡ length (spellings records) → need ≡ log_need log bytes → log_used log + need + others ≤ log_room log
-    → log_used_with log (length (spellings records)) + others ≤ log_room log
-fits log bytes need others records long is left =
-    let more = used_with_need log (length (spellings records)) in
-    omega (arith, left, more, is ∙ ap (log_need log) long)
 
 -- A seal that promotes nothing.
 

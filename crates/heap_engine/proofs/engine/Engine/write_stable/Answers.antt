@@ -1,5 +1,5 @@
-use Rattle.std.proofs.Common.{rules, ◌≡◌, ◌+◌, ◌++◌, [], ◌∷◌, List, length, true, refl, sym, ap, ◌∙◌, subst, arith}
-use Rattle.gated_log.specs.LogState.{log_used, log_need, log_used_with}
+use Rattle.std.proofs.Common.{rules, ◌≡◌, ◌+◌, ◌≤◌, ◌++◌, [], ◌∷◌, List, length, true, refl, sym, ap, ◌∙◌, subst, arith}
+use Rattle.gated_log.specs.LogState.{log_room, log_used_with, HasSpare}
 use Rattle.heap_spaces.specs.Spaces.{SpacesState}
 use Rattle.log_machine.specs.declared.UndoEntry.{UndoEntry}
 use Rattle.log_machine.specs.Machine.{field_at, words_in}
@@ -15,8 +15,6 @@ use Rattle.heap_memory.specs.Memory.{Memory}
 use Rattle.heap_engine.specs.Barrier.{is_scan_of, word_after, CanScan}
 use Rattle.heap_engine.specs.EngineState.{memory}
 use Rattle.heap_engine.proofs.ObjectFields.{field_within}
-use Rattle.heap_engine.proofs.Reserved.{used_after}
-use Rattle.heap_engine.proofs.Room.{room_left, used_with_need, need_more}
 use Rattle.heap_engine.proofs.Scanned.{noted, noted_owes, noted_sound, update_bytes, wrote_at}
 use Rattle.heap_engine.proofs.Tables.{sound_same, sound_write}
 use Rattle.heap_engine.proofs.engine.Engine.write_stable.Goals as goal
@@ -38,16 +36,16 @@ invariant_of-self-2-clause-gray c =
 pub invariant_of-self-2-clause-room : goal.invariant_of-self-2-clause-room
 invariant_of-self-2-clause-room c =
     let s = c.args.self.now in
+    let mid = c.reserve_room.new.log in
     let n = length (spellings c.in_ok-scan.scan.records.items) in
     let records = c.records.result.now in
     let written = Update c.number-t.result c.args.object c.args.field c.word_behind-was.result c.args.word in
-    let left = room_left s.log c.need_of.result (s.reserved + 19) (sym c.log_refusal.ensures ∙ c.in_default-log_refusal.is) in
-    let need : c.need_of.result ≡ log_need s.log (n + 27) = c.need_of.ensures ∙ ap (λ k. log_need s.log (k + 27)) c.bytes.ensures in
-    let size : length (spellings (records ++ written ∷ [])) ≡ n + 27 =
-    update_bytes records c.number-t.result c.args.object c.args.field c.word_behind-was.result c.args.word ∙ ap (λ (rs : List Record). length (spellings rs) + 27) c.records.ensures in
-    let used : log_used c.carry_out_write.new.log ≡ log_used_with s.log (n + 27) =
-    c.carry_out_write.ensures.used ∙ used_after s.log c.reserve.new.self c.reserve.ensures.same (length (spellings (records ++ written ∷ []))) ∙ ap (log_used_with s.log) size in
-    omega (arith, used, left, need, used_with_need s.log (n + 27), c.carry_out_write.ensures.log.place.room, c.reserve.ensures.same.place.room)
+    let room : log_used_with mid (c.bytes.result + 27) + (s.reserved + 19) ≤ log_room mid = search rules in
+    let size : length (spellings (records ++ written ∷ [])) ≡ c.bytes.result + 27 =
+    update_bytes records c.number-t.result c.args.object c.args.field c.word_behind-was.result c.args.word
+    ∙ ap (λ (rs : List Record). length (spellings rs) + 27) c.records.ensures
+    ∙ ap (λ k. k + 27) (sym c.bytes.ensures) in
+    omega (arith, c.carry_out_write.ensures.used ∙ ap (log_used_with mid) size, room, c.carry_out_write.ensures.log.place.room)
 
 pub invariant_of-self-2-clause-sound : goal.invariant_of-self-2-clause-sound
 invariant_of-self-2-clause-sound c =
@@ -67,9 +65,9 @@ returns-clause-done c was =
     let plan = c.in_ok-scan.scan in
     let records = c.records.result.now in
     let at = field_at c.args.object c.args.field in
-    let mid : Memory = record (memory s) { log = c.reserve.new.self } in
+    let mid : Memory = record (memory s) { log = c.reserve_room.new.log } in
     let same : IsAsItWas (memory s) mid =
-    record { log = c.reserve.ensures.same; words = refl; lsns = refl; store = refl; table = refl; locks = refl; spaces = refl; collection = refl; sealed = refl } in
+    record { log = c.reserve_room.ensures.same; words = refl; lsns = refl; store = refl; table = refl; locks = refl; spaces = refl; collection = refl; sealed = refl } in
     let is = noted plan s.spaces c.note_scan.new.spaces s.collection c.keep_copies.new.collection c.note_scan.new.collection c.copies.result.now c.copies.ensures c.in_ok-keep_copies.ensures.ok c.note_scan.ensures.spaces c.note_scan.ensures.collection in
     let scans = subst (λ rs. is_scan_of plan.page rs ≡ true) (sym c.records.ensures) plan.scans in
     let ready = subst (CanScan (memory s)) (sym c.records.ensures) c.in_ok-scan.ensures.ready in
@@ -89,20 +87,14 @@ returns-clause-done c was =
     })
     c.requires.active c.number-t.ensures c.in_default-keep_write.ensures.kept
 
-pub reserve-requires : goal.reserve-requires
-reserve-requires c =
-    let s = c.args.self.now in
-    let n = length (spellings c.in_ok-scan.scan.records.items) in
-    let left = room_left s.log c.need_of.result (s.reserved + 19) (sym c.log_refusal.ensures ∙ c.in_default-log_refusal.is) in
-    let need : c.need_of.result ≡ log_need s.log (n + 27) = c.need_of.ensures ∙ ap (λ k. log_need s.log (k + 27)) c.bytes.ensures in
-    omega (arith, left, need, c.bytes.ensures, need_more s.log (n + 27), s.log.small)
-
 pub invariant_of-self-2-clause-spare : goal.invariant_of-self-2-clause-spare
 invariant_of-self-2-clause-spare c =
     let s = c.args.self.now in
-    let n = length (spellings c.in_ok-scan.scan.records.items) in
     let records = c.records.result.now in
     let written = Update c.number-t.result c.args.object c.args.field c.word_behind-was.result c.args.word in
-    let size : length (spellings (records ++ written ∷ [])) ≡ n + 27 =
-    update_bytes records c.number-t.result c.args.object c.args.field c.word_behind-was.result c.args.word ∙ ap (λ (rs : List Record). length (spellings rs) + 27) c.records.ensures in
-    c.carry_out_write.ensures.spare (s.reserved + 19) (omega (arith, size, c.bytes.ensures, c.in_ok-reserve.ensures.spare))
+    let spare : HasSpare c.reserve_room.new.log (c.bytes.result + 27 + (s.reserved + 19)) = search rules in
+    let size : length (spellings (records ++ written ∷ [])) ≡ c.bytes.result + 27 =
+    update_bytes records c.number-t.result c.args.object c.args.field c.word_behind-was.result c.args.word
+    ∙ ap (λ (rs : List Record). length (spellings rs) + 27) c.records.ensures
+    ∙ ap (λ k. k + 27) (sym c.bytes.ensures) in
+    c.carry_out_write.ensures.spare (s.reserved + 19) (omega (arith, size, spare))

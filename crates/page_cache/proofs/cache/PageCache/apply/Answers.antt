@@ -1,7 +1,15 @@
-use Rattle.std.proofs.Common.{ap, ◌∙◌}
-use Rattle.page_redo.specs.Pages.{Pages}
-use Rattle.page_redo.proofs.RedoLaws.{redo_record-words}
+use Rattle.std.proofs.Common.{length, ap, ◌∙◌, arith}
+use Rattle.page_redo.specs.Pages.{Pages, lsn_of}
+use Rattle.page_redo.proofs.RedoLaws.{lsns-redo_record, lsn-rises, redo_record-words}
 use Rattle.page_cache.proofs.cache.PageCache.apply.Goals as goal
 
+pub invariant_of-self : goal.invariant_of-self
+invariant_of-self c =
+    let before = c.args.self.now in
+    record {
+      whole = ap (λ (at : Pages). length at.lsns) c.apply.ensures ∙ lsns-redo_record c.args.lsn before.pages c.args.rec.now ∙ before.whole;
+      ahead = λ p lt. omega (arith, ap (λ (at : Pages). lsn_of at p) c.apply.ensures, lsn-rises c.args.lsn before.pages c.args.rec.now p (omega (arith, before.whole)), before.ahead p lt);
+    }
+
 pub returns-clause-words : goal.returns-clause-words
-returns-clause-words c = ap (λ (at : Pages). at.words) c.redo.ensures.redone ∙ redo_record-words c.args.lsn c.args.self.now.pages c.args.rec.now c.requires.new
+returns-clause-words c = ap (λ (at : Pages). at.words) c.apply.ensures ∙ redo_record-words c.args.lsn c.args.self.now.pages c.args.rec.now c.requires.new

@@ -1,0 +1,37 @@
+//! Puts what a new record writes on its pages. No page has it yet, so no page's LSN is compared.
+ghost use Rattle.std.specs.Prelude.{◌≡◌, ℕ, ◌*◌, ◌<◌, ◌^◌, length, slice_index};
+ghost use Rattle.std.specs.List.{enumerate_from};
+ghost use Rattle.log_machine.specs.Machine.{effect, put_all};
+ghost use Rattle.log_machine.specs.Effect.{WritesBelow};
+ghost use Rattle.page_redo.specs.Pages.{touched};
+ghost use Rattle.page_redo.specs.Redo.{raised_to};
+ghost use Rattle.page_cache.specs.Writing.{AreBelow, lacking};
+
+use crate::raising::raise_from;
+use log_machine::Runs;
+use log_records::Record;
+
+/// Puts what the record of that LSN writes, and raises the LSN of each page that it touches.
+pub(crate) fn apply_record(words: &mut [u64], lsns: &mut [u64], lsn: u64, rec: &Record)
+    requires inside { WritesBelow (length words.old) rec.now }
+    requires whole { length words.old ≡ 64 * length lsns.old }
+    requires fits { 64 * length lsns.old < 2 ^ 64 }
+    requires new { (p : ℕ) → slice_index lsns.old p < lsn }
+    ensures words { words.new ≡ put_all words.old (lacking lsns.old lsn (effect words.old rec.now)) }
+    ensures lsns { lsns.new ≡ raised_to lsn lsns.old (touched rec.now) }
+{
+    for run in Runs::of(rec) {
+        put_words(words, run.address(), run.words());
+        raise_from(lsns, lsn, run.address(), run.words());
+    }
+}
+
+// Puts words from an address on.
+fn put_words(words: &mut [u64], address: usize, new: &[u64])
+    requires { AreBelow (length words.old) (enumerate_from address new.now) }
+    ensures { words.new ≡ put_all words.old (enumerate_from address new.now) }
+{
+    for (i, word) in new.iter().enumerate() {
+        words[address + i] = *word;
+    }
+}
