@@ -1,4 +1,4 @@
--- Over a whole run each byte behind the plan stays as it was.
+-- Over a whole run each byte past the plan stays as it was.
 use Rattle.std.proofs.Common.{◌≡◌, inl, inr, ⊎_elim, ℕ, ◌+◌, ◌≤◌, List, [], ◌∷◌, Option, refl, sym, subst, arith}
 use Rattle.disk_model.specs.declared.disk.Disk.{Ghosts}
 use Rattle.disk_model.specs.Moments.{LeavesOnly}
@@ -27,7 +27,7 @@ pub behind_back : (c d : Core) (base image : List ℕ) → SameOpening c d → S
 behind_back c d base image same behind = outside_within 0 (image_size d.pages d.room) 0 (image_size c.pages c.room) base image (omega arith) (omega (arith, same.pages, same.room)) behind
 
 module _ {D : Type 0} (g : Ghosts D) where
-  -- what a disk that tells says of its images
+  -- what a modelled disk says of its images
   pub record HasImages : Type 0 where
     pub counts : (disk : D) (t : ℕ) (image : List ℕ) → t ≤ g.moment disk → g.may_leave disk image → g.left_since disk t image
     pub now : (disk : D) (image : List ℕ) → g.left_since disk (g.moment disk) image → g.may_leave disk image
@@ -47,7 +47,7 @@ module _ {D : Type 0} (g : Ghosts D) where
       weaker g.moment g.left_since old new (IsLogLeft s batches base) (SameBehind c base) moments
       (λ image left. outside_within log_offset (log_offset + s.log_bytes) 0 (image_size c.pages c.room) base image (omega arith) (omega (arith, of.pages, of.room)) left.1)
 
-  -- Behind a restart openings leave first commits, and the bytes behind the plan of an image that the crash left.
+  -- After a restart openings leave commit prefixes, and the bytes past the plan of an image that the crash left.
   pub first_leaves : (c : Core) (k : ℕ) (base : List ℕ) (old new : D) → SameBehind c base (g.bytes old) → KeepsFirst g c k old new → LeavesOnly g.moment g.left_since old new (IsLeftByStep c base)
   first_leaves c k base old new same keeps =
       weaker g.moment g.left_since old new (λ image. StandsForFirst c k image × SameBehind c (g.bytes old) image) (IsLeftByStep c base)
@@ -75,14 +75,14 @@ module _ {D : Type 0} (g : Ghosts D) where
         opening_then g.moment g.left_since old between new (SameBehind c base) (SameBehind c base) first
         (weaker g.moment g.left_since between new (SameBehind mid base) (SameBehind c base) rest (λ image. behind_back c mid base image same)) (λ image behind. behind)
 
-    -- So do an opening and the steps behind it.
+    -- So do an opening and the steps after it.
     pub played_behind : (stop : Option ℕ) (start : D) (c d : Core) (first old new : D) (events : List Event) → LeavesOnly g.moment g.left_since first old (SameBehind c base) → AreSteps (Step g stop start) c old events d new
         → LeavesOnly g.moment g.left_since first new (SameBehind c base)
     played_behind stop start c d first old new events opening steps =
         opening_then g.moment g.left_since first old new (SameBehind c base) (SameBehind c base) opening
         (steps_behind stop start c d old new events (leaves_now first old (SameBehind c base) opening) steps) (λ image behind. behind)
 
-    -- What a crash leaves then are first commits with those bytes,
+    -- What a crash leaves then is a commit prefix with those bytes,
     pub leaves_both : (c d : Core) (first new : D) → SameOpening c d → LeavesOnly g.moment g.left_since first new (SameBehind c base) → ((image : List ℕ) → g.may_leave new image → IsCommitPrefix d image)
         → (image : List ℕ) → g.may_leave new image → IsLeftByStep d base image
     leaves_both c d first new same behind keeps image may = record { commits = keeps image may; outside = behind_on c d base image same (leaves_now first new (SameBehind c base) behind image may) }

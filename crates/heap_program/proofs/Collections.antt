@@ -115,7 +115,7 @@ scan_room : (g : Ground) (g0 : Graph) (a : Account) (o : Option Transaction) →
 scan_room g g0 a None = refl
 scan_room g g0 a (Some t) = refl
 
--- a scan is refused where the disk failed before, or for want of room in the log
+-- a scan is refused where the disk failed before, or for lack of room in the log
 scan_refusal : (c : Core) → core_refusal c Scan ≡ refusal_of (account c.history).failed (log_refusal c Scan)
 scan_refusal c =
     let a = account c.history in

@@ -42,7 +42,7 @@ pub command_not_done : (e : CommandError) → command_status e ≡ status.Done �
 command_not_done asking.Usage is = cc
 command_not_done asking.NoMemory is = cc
 
--- Memory was refused while the words were read: nothing was done.
+-- Memory ran out while the words were read: nothing was done.
 pub graph_unread : {D : Type 0} (g : Ghosts D) (disk : D) (e : CommandError) (words : Option Command) → words ≡ Some asked.Graph → (e ≡ asking.Usage → words ≡ None) → (by : Status) → by ≡ command_status e
     → ((image : List ℕ) → g.left_since disk (g.moment disk) image → g.may_leave disk image) → Only (g.bytes disk) (g.may_leave disk) → (s : Super) (batches : List (List Record)) (stored : Pages) (graph : Graph) → Holds s batches stored (g.bytes disk)
     → (told : Bool) (before : List ℕ) → PrintsGraph g s batches stored graph disk disk by told before before

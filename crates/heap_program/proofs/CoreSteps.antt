@@ -30,7 +30,7 @@ use Rattle.heap_program.proofs.Ready.{AreReady}
 use Rattle.heap_program.specs.Playable.{IsScript}
 use Rattle.heap_program.proofs.Playable.{IsPlayable}
 
--- the numbers of a new heap with so many pages are good
+-- the numbers of a new heap with that many pages are good
 pub made_limits : (pages : ℕ) → 1 ≤ pages → pages ≤ 16384 → IsSuper (made_super pages)
 made_limits pages some few = record { some_pages = some; few_pages = few; some_log = omega arith; small_log = omega arith; some_first = omega arith; small_first = omega arith }
 
@@ -42,14 +42,14 @@ made_reached pages image limits = opened_reached (made_super pages) [] (first_pa
 pub ready_front : (c : Core) (before behind : List Event) → AreReady c (before ++ behind) → AreReady c before
 ready_front c before behind ready = record { running = ready.running; sessions = of_session_front before behind ready.sessions }
 
--- it runs on behind events that the disk did
+-- it runs on after events that the disk did
 pub running_after : (c : Core) (events : List Event) → AreReady c events → IsRunning (after_events c events)
 running_after c events ready = record {
   reached = reached_events c events ready.running.reached ready.sessions;
   unfailed = unfailed_events c events ready.running.reached ready.running.unfailed ready.sessions;
 }
 
--- behind the first events the core may be asked the others
+-- after the first events the core may be asked the others
 pub ready_behind : (c : Core) (before behind : List Event) → AreReady c (before ++ behind) → AreReady (after_events c before) behind
 ready_behind c before behind ready = record {
   running = running_after c before (ready_front c before behind ready);

@@ -27,7 +27,7 @@ counted_most (suc m) n =
     (λ (full : greatest ≤ counted m n). let still = raised_full (counted m n) full in omega arith)
     (cases_lt (counted m n) greatest)
 
--- so many more, and then as many as that count says, are as many as that count says and then so many more
+-- counting k more than p, all at once, is counting p and then k more
 pub counted-counted : (k p n : ℕ) → counted (counted k p) n ≡ counted k (counted p n)
 counted-counted zero p n = refl
 counted-counted (suc k) p n =

@@ -30,5 +30,6 @@ pub mod Reopened
 pub mod RunLaws
 pub mod Statuses
 pub mod StepsLaws
+pub mod Unfaulted
 pub mod WordFaults
 pub mod Written

@@ -90,7 +90,7 @@ module _ (first : Core) (reached : IsReached first) (nothing : first.history ≡
       (λ cut. ⊎_elim (λ is. absurd (cc is)) (λ is. absurd (cc is)) cut.0.told)
       one.step
 
-  -- The collection that is under way, as a step tells of it.
+  -- The collection that is under way, as a step describes it.
   module _ (c d : Core) (events : List Event) (own : AllByRecursion IsOfSession events) (way : IsUnderWayIn first events c d) where
     both : AllByRecursion IsOfSession (way.before ++ Flip ∷ way.since)
     both = subst (AllByRecursion IsOfSession) way.parts own

@@ -1,4 +1,4 @@
--- What is written of the lines of a history, and of the text behind them.
+-- What is written of the lines of a history, and of the text after them.
 use Rattle.std.proofs.Common.{◌≡◌, ◌⊎◌, inl, inr, ℕ, List, [], ◌∷◌, ◌++◌, Result, Ok, Err, refl, sym, ap, ◌∙◌, subst, arith, append_assoc}
 use Rattle.std.proofs.lemmas.Grind.{flat_map-append}
 use Rattle.std.proofs.lemmas.List.{append-nil}
@@ -19,7 +19,7 @@ use Rattle.heap_program.specs.Play.{lines_text, ended_by, Wrote, WroteFront, Wro
 use Rattle.heap_program.specs.StatusOf.{halt_status, write_halt}
 use Rattle.heap_program.proofs.Written.{front_more, then_front, whole_front}
 
--- What a play wrote since another state of the history: the lines of the entries that came behind it.
+-- What a play wrote since another state of the history: the lines of the entries that came after it.
 abbrev pub WroteSince : Result (Unit {0}) Halt → List Entry → List Entry → List ℕ → List ℕ → Type 0
 WroteSince result old now before after = (heard : List Entry) × (now ≡ old ++ heard) × Wrote result before heard after
 
@@ -27,7 +27,7 @@ WroteSince result old now before after = (heard : List Entry) × (now ≡ old ++
 pub none_since : (history : List Entry) (before : List ℕ) → WroteSince (Ok tt) history history before before
 none_since history before = ([], sym (append-nil history), sym (append-nil before))
 
--- and memory was refused
+-- and memory ran out
 pub nothing_since : (history : List Entry) (before : List ℕ) → WroteSince (Err halt.NoMemory) history history before before
 nothing_since history before =
     let front : WroteFront before [] before = ([], [], refl, sym (append-nil before)) in
@@ -55,14 +55,14 @@ module _ (old now : List Entry) (event : Event) (reply : Reply) (before after : 
   some_line writing.NoMemory some = some
   some_line writing.SinkFailed some = some
 
-  -- or a first part of it
+  -- or a prefix of it
   pub part_since : (e : WriteError) → WroteFront before (line entry) after → WroteSince (Err (write_halt e)) old now before after
   part_since e part =
       let front : WroteFront before (lines_text (entry ∷ [])) after = (part.0, part.1, one_text ∙ part.2, part.3) in
       let lines : WroteLines before (entry ∷ []) after = ([], entry ∷ [], part.0, refl, omega arith, part.3 ∙ ap (λ (l : List ℕ). l ++ part.0) (sym (append-nil before))) in
       (entry ∷ [], made, some_line e (front, lines))
 
--- More was written behind the lines of a play that ended well.
+-- More was written after the lines of a play that ended well.
 module _ (first second : List Entry) (before between after : List ℕ) (out : between ≡ before ++ lines_text first) where
   both_text : lines_text (first ++ second) ≡ lines_text first ++ lines_text second
   both_text = flat_map-append line first second
@@ -109,7 +109,7 @@ all_since result old now before after none wrote =
     subst (λ (l : List Entry). Wrote result before l after) same wrote.2
 
 module _ (history : List Entry) (before after : List ℕ) where
-  -- all lines, and what was written behind them
+  -- all lines, and what was written after them
   pub lines_more : (after' rest : List ℕ) → after ≡ before ++ lines_text history → after' ≡ after ++ rest → WroteLines before history after'
   lines_more after' rest out more = (history, [], rest, sym (append-nil history), omega arith, more ∙ ap (λ (l : List ℕ). l ++ rest) out)
 
@@ -130,7 +130,7 @@ module _ (history : List Entry) (before after : List ℕ) where
   halt_lines halt.DiskFault wrote fault = wrote
   halt_lines halt.Stopped wrote fault = wrote
 
-  -- or if it went on
+  -- or if it continued
   pub stopped_lines : (r : Result (Unit {0}) Halt) → (r ≡ Ok tt) ⊎ (r ≡ Err halt.Stopped) → Wrote r before history after → after ≡ before ++ lines_text history
   stopped_lines (Ok done) ended wrote = wrote
   stopped_lines (Err halt.Stopped) ended wrote = wrote
@@ -140,7 +140,7 @@ module _ (history : List Entry) (before after : List ℕ) where
   stopped_lines (Err halt.WriteFault) (inl is) wrote = cc
   stopped_lines (Err halt.WriteFault) (inr is) wrote = cc
 
-  -- what was written of lines alone, as a first part of the output
+  -- what was written of lines alone, as a prefix of the output
   pub some_writes : (by : Status) (text after' : List ℕ) → (by ≡ status.Done → ⊥) → WroteFront before (lines_text history) after' → WroteLines before history after' → (IsOfDisk by → after' ≡ before ++ lines_text history)
       → Writes by history text before after'
   some_writes by text after' not_done front lines whole = record {
@@ -150,7 +150,7 @@ module _ (history : List Entry) (before after : List ℕ) where
     whole = λ is. absurd (not_done is);
   }
 
-  -- all lines were written, and of the text behind them all or a first part
+  -- all lines were written, and of the text after them all or a prefix
   pub all_writes : (by : Status) (text after' : List ℕ) → (IsOfDisk by → ⊥) → after ≡ before ++ lines_text history → WroteFront after text after' → (by ≡ status.Done → after' ≡ after ++ text) → Writes by history text before after'
   all_writes by text after' sound out front whole = record {
     front = then_front before (lines_text history) text after after' out front;

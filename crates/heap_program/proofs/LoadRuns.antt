@@ -76,7 +76,7 @@ module _ {D : Type 0} {g : Ghosts D} (c : Core) (seed count : ℕ) (heap : Heap 
       let same : all ≡ plays.made = plays.parts ∙ ap (λ (l : List Event). plays.made ++ l) plays.ends.0 ∙ append-nil plays.made in
       subst (λ (l : List Event). IsRun c l plays.core) (sym same) plays.run
 
--- On any disk its summary was written, or a first part of it.
+-- On any disk its summary was written, or a prefix of it.
 pub summarizes : {D : Type 0} {g : Ghosts D} (c : Core) → IsRunning c → c.history ≡ [] → IsOpened c → (seed count : ℕ) → count ≤ 100000 → (heap : Heap D g) (told : Bool) (before after : List ℕ) (plays : PlaysCore c (all_events None c (events (load_lines seed count))) heap told before after (Ok tt))
     (r : Result (Unit {0}) WriteError) (from to : List ℕ) → WroteText r from (summary_text (core_summary seed count plays.core)) to → SummarizesSome seed count (status_after r) from to
 summarizes c running nothing opened seed count few heap told before after plays r from to wrote = inr (record {

@@ -53,7 +53,7 @@ module _ {D : Type 0} (g : Ghosts D) (stop : Option Stop) (at_opening : ℕ) (c 
         before = commits_are stands.super stands.batches stands.stored says.legal.shaped ∙ says.count;
       }
 
-  -- What the next run promises of a told disk on which nothing is unsynced, it promises of this one, with the heap that was left.
+  -- What the next run promises of a modelled disk on which nothing is unsynced, it promises of this one, with the heap that was left.
   pub next_run : IsTrue g.tells → (stop' : Option Stop) (is_script : List Line → Type 0) (new : D) (by : Status) (told' : Bool) (first last : List ℕ)
       → OfTold g.tells (g.bytes mid) (g.may_leave mid) (Runs g None stop' is_script mid new by told' first last)
       → IsNotBegun g mid new by told' first last ⊎ PlaysNext g played.run.core stop' is_script mid new by told' first last

@@ -1,4 +1,4 @@
--- The aborts that end a run go on session by session.
+-- The aborts that end a run continue session by session.
 use Rattle.std.proofs.Common.{◌≡◌, ℕ, ◌+◌, ◌≤◌, Bool, List, ◌++◌, Result, Ok, sym, subst}
 use Rattle.std.specs.List.{AllByRecursion}
 use Rattle.disk_model.specs.declared.disk.Disk.{Ghosts}
@@ -55,7 +55,7 @@ module _ (c : Core) (running : IsRunning c) (n s : ℕ) (next : n + 1 ≡ s) (la
     module _ (of : Super) (old : Heap D g) (so_far : Plays of c (aborting_until n c) old mid told before between (Ok tt))
         (one : (d : Core) → IsHeap of d mid → IsRunning d → Plays of d (abort_of s (active_in d s)) mid new told between after result)
         (faults : g.faults old.disk ≤ g.faults mid.disk) (stops : g.stops old.disk ≤ g.stops mid.disk) where
-      -- so on a disk that tells
+      -- so on a modelled disk
       pub plays_aborts : Plays of c (aborting_until s c) old new told before after result
       plays_aborts =
           subst (λ (l : List Event). Plays of c l old new told before after result) (sym until_own)

@@ -1,4 +1,4 @@
--- How plays go on, on every disk.
+-- How plays continue, on every disk.
 use Rattle.std.proofs.Common.{◌≡◌, ◌⊎◌, inl, inr, ⊎_elim, ℕ, ◌+◌, ◌<◌, Bool, List, [], ◌∷◌, ◌++◌, length, get_or, take, drop, Result, Ok, Err, refl, sym, ap, ◌∙◌, subst, append_assoc}
 use Rattle.std.specs.Prelude.{IsTrue}
 use Rattle.std.proofs.lemmas.List.{append-nil}
@@ -106,7 +106,7 @@ module _ {D : Type 0} {g : Ghosts D} where
   pub core_none : (c : Core) (heap : Heap D g) (told : Bool) (before : List ℕ) → IsCore c heap → PlaysCore c [] heap told before before (Ok tt)
   core_none c heap told before is = record { made = []; behind = []; parts = refl; core = c; run = refl; ends = (refl, refl); is = is; written = λ tells. none_since c.history before }
 
-  -- memory was refused: nothing was made
+  -- memory ran out: nothing was made
   pub core_nothing : (c : Core) (events : List Event) (new : Heap D g) (told : Bool) (before : List ℕ) → IsCore c new → PlaysCore c events new told before before (Err halt.NoMemory)
   core_nothing c events new told before is = record {
     made = [];
@@ -176,7 +176,7 @@ module _ {D : Type 0} {g : Ghosts D} where
       written = λ t. part_since c.history d.history event reply before after (step_history c d event reply step) e (wrote t);
     }
 
-  -- A play goes on line by line.
+  -- A play continues line by line.
   module _ (c : Core) (lines : List Line) (i : ℕ) (d : Line) (lt : i < length lines) (ready : AreReady c (events lines)) (mid new : Heap D g) (told : Bool) (before between after : List ℕ) (result : Result (Unit {0}) Halt)
       (so_far : PlaysCore c (events (take i lines)) mid told before between (Ok tt))
       (next : (core : Core) → IsCore core mid → AreReady core (line_events (get_or lines i d)) → PlaysCore core (line_events (get_or lines i d)) new told between after result) where

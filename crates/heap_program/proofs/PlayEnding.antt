@@ -16,7 +16,7 @@ pub abort_of-some : (s : ℕ) (o : Option Transaction) → is_some o ≡ true �
 abort_of-some s None is = cc
 abort_of-some s (Some t) is = refl
 
--- nothing waits
+-- nothing is pending
 pub force_of-none : (waiting : List Record) (b : Bool) → (IsTrue b ↔ (waiting ≢ [])) → b ≡ false → force_of waiting ≡ []
 force_of-none [] b said is = refl
 force_of-none (r ∷ rs) b said is = let waits : b ≡ true = said.1 (λ e. cc) in cc

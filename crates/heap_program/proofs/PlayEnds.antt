@@ -1,4 +1,4 @@
--- How a play tells what a run promises.
+-- How a play gives what a run promises.
 use Rattle.std.proofs.Common.{◌≡◌, ◌≢◌, ◌⊎◌, inl, inr, ⊎_elim, ℕ, ◌+◌, ◌-◌, ◌≤◌, min, Bool, List, [], ◌++◌, ◌∷◌, length, take, Option, Some, None, Result, Ok, Err, refl, sym, ap, ◌∙◌, subst, arith, length-append}
 use Rattle.std.specs.Prelude.{IsTrue}
 use Rattle.std.proofs.lemmas.List.{append-nil, take_all}
@@ -21,7 +21,7 @@ use Rattle.heap_program.specs.declared.play.Halt.{Halt}
 use Rattle.heap_program.specs.declared.play.Halt.TheVariants as halt
 use Rattle.heap_program.specs.declared.status.Status.{Status}
 use Rattle.heap_program.specs.declared.status.Status.TheVariants as status
-use Rattle.heap_program.specs.Causes.{DiskRose, Unharmed}
+use Rattle.heap_program.specs.Causes.{DiskRose, CountsStay, Unharmed}
 use Rattle.heap_core.specs.Causes.{reply_device}
 use Rattle.heap_core.specs.Refinement.{SameBehind}
 use Rattle.heap_model.specs.Core.{Core, commits_on_disk, with_entry, IsRun}
@@ -43,7 +43,7 @@ use Rattle.heap_program.specs.Output.{WroteText, Recovers, WroteRecovered, Wrote
 use Rattle.heap_program.specs.Play.{IsRunning, MadeAll, IsCutBy, MakesAll, MakesShort, Makes, Ends, Plays, Wrote, lines_text, WroteFront, WroteLines}
 use Rattle.heap_program.proofs.Ready.{AreReady}
 use Rattle.heap_program.specs.StatusOf.{halt_status}
-use Rattle.heap_program.proofs.Causes.{reply_rose}
+use Rattle.heap_program.proofs.Causes.{disk_rose}
 use Rattle.heap_program.proofs.Counts.{counted-sum, counted_mono}
 use Rattle.heap_program.proofs.Limits.{limits_law}
 use Rattle.heap_program.specs.Limits.{KeepsLimits}
@@ -125,7 +125,7 @@ module _ {D : Type 0} {g : Ghosts D} (s : Super) (c : Core) (running : IsRunning
   pub halt_lines : (h : Halt) → result ≡ Err h → IsTrue told → IsOfDisk (halt_status h) → after ≡ before ++ lines_text core.history
   halt_lines h is t fault = lines.halt_lines core.history before after h (lines_wrote (Err h) is t) fault
 
-  -- or if it went on
+  -- or if it continued
   pub stopped_lines : (result ≡ Ok tt) ⊎ (result ≡ Err halt.Stopped) → IsTrue told → after ≡ before ++ lines_text core.history
   stopped_lines ended t = lines.stopped_lines core.history before after result ended (lines_wrote result refl t)
 
@@ -139,14 +139,15 @@ module _ {D : Type 0} {g : Ghosts D} (s : Super) (c : Core) (running : IsRunning
 
   -- What a crash leaves of the heap's own disk since it was opened.
   abbrev pub keeps_own : IsTrue g.tells → (at_opening : ℕ) (start : D) → HasImages g → LeavesOnly g.moment g.left_since start old.disk (IsCommitPrefix c) → LeavesOnly g.moment g.left_since start old.disk (SameBehind c (g.bytes start))
-      → ((image : List ℕ) → g.may_leave old.disk image → IsCommitPrefix c image) → g.passed old.disk ≡ counted at_opening (g.passed start) → g.restarts old.disk ≡ g.restarts start → KeepsThroughout g None at_opening c made core start new.disk
-  keeps_own tells at_opening start has opening behind here passed restarts = record {
+      → ((image : List ℕ) → g.may_leave old.disk image → IsCommitPrefix c image) → g.passed old.disk ≡ counted at_opening (g.passed start) → g.restarts old.disk ≡ g.restarts start → CountsStay g start old.disk → KeepsThroughout g None at_opening c made core start new.disk
+  keeps_own tells at_opening start has opening behind here passed restarts counts = record {
     opened = old.disk;
     opening = opening;
     here = here;
     passed = λ u some. passed;
     few = omega (arith, passed);
     restarts = restarts;
+    still = λ some. counts;
     stopped = new.disk;
     steps = own_steps g start tells c core old.disk new.disk made plays.steps;
     rest = begins g.moment g.left_since new.disk (IsCommitPrefix core) (λ image since. kept image (has.now new.disk image since));
@@ -154,7 +155,7 @@ module _ {D : Type 0} {g : Ghosts D} (s : Super) (c : Core) (running : IsRunning
     outside = played_behind g has (g.bytes start) None start c core start old.disk new.disk made behind (own_steps g start tells c core old.disk new.disk made plays.steps);
   }
 
-  -- the events that were made, as a run tells them
+  -- the events that were made, as a run states them
   abbrev pub events_made : (stop : Option ℕ) (at_opening : ℕ) (by : Status) → (by ≡ status.Done → HasMade stop c made plays.behind core) → StopsInPlace stop at_opening c made core → MakesEvents stop at_opening c events by
   events_made stop at_opening by done stops = record { made = made; behind = plays.behind; parts = plays.parts; core = core; last = last_made; limits = limits; done = λ is. inl (done is); in_place = stops }
 
@@ -226,7 +227,7 @@ module _ {D : Type 0} {g : Ghosts D} (s : Super) (c : Core) (running : IsRunning
         end = written_end output;
       }
 
-  -- it tells of the core that was reached
+  -- it is about the core that was reached
   pub ends_whole_at : {B : Type 0} (h : Ghosts B) (start final : B) (at_opening : ℕ) (keeps : KeepsThroughout h None at_opening c made core start final) (output : Result (Unit {0}) WriteError) (after' : List ℕ) → plays.behind ≡ [] → MadeAll c made core
       → (IsTrue told → after ≡ before ++ lines_text core.history) → (IsTrue told → WroteText output after (graph_text (serial core.g0 (sealed core.history))) after') → final ≡ keeps.stopped
       → h.passed keeps.stopped ≡ counted (at_opening + total_calls c made) (h.passed start) → Only (h.bytes final) (h.may_leave final)
@@ -268,7 +269,7 @@ module _ {D : Type 0} {g : Ghosts D} (s : Super) (c : Core) (running : IsRunning
                 (lines.lines_more core.history before after after' [] (out t) (nothing.nothing t ∙ sym (append-nil after))) (λ is. out_after t);
           }
 
-      -- it went on, so the disk had not failed
+      -- it continued, so the disk had not failed
       went_on : HasMade (Some stop.after) c made plays.behind core → IsCutBy (Refused DiskFault) c made core → ⊥
       went_on has cut = ⊎_elim
           (λ (whole : (plays.behind ≡ []) × MadeAll c made core). fault_not_whole c core made cut whole.1)
@@ -320,8 +321,8 @@ module _ {D : Type 0} {g : Ghosts D} (s : Super) (c : Core) (running : IsRunning
   module _ (unharmed : DiskRose (g.faults old.disk) (g.stops old.disk) (g.faults new.disk) (g.stops new.disk) → ⊥) where
     short_harm : (reply : Reply) → MakesShort c made core old new reply → DiskRose (g.faults old.disk) (g.stops old.disk) (g.faults new.disk) (g.stops new.disk)
     short_harm reply short = ⊎_elim
-        (λ (is : reply ≡ Refused DiskFault). reply_rose g old.disk new.disk reply device.Failed short.cause (ap reply_device is))
-        (λ (is : reply ≡ Refused Stopped). reply_rose g old.disk new.disk reply device.Stopped short.cause (ap reply_device is))
+        (λ (is : reply ≡ Refused DiskFault). disk_rose _ _ _ _ (reply_device reply) device.Failed short.cause (ap reply_device is))
+        (λ (is : reply ≡ Refused Stopped). disk_rose _ _ _ _ (reply_device reply) device.Stopped short.cause (ap reply_device is))
         short.cut.told
 
     pub exact_none : MadeAll c made core
@@ -344,7 +345,7 @@ module _ {D : Type 0} {g : Ghosts D} (s : Super) (c : Core) (running : IsRunning
       let sum = counted-sum (total_calls c made) p (omega (arith, few, few_before)) in
       omega (arith, all, sum, within)
 
-  -- The disk stops behind a limit.
+  -- The disk stops after a limit.
   module _ (n p : ℕ) (few_before : p ≤ 4) (begun : g.passed old.disk ≡ p) (within : g.passed new.disk ≤ n) (at : g.stops new.disk ≢ 0 → g.passed new.disk ≡ n) where
     passes_all : MakesAll c made core old new → g.passed new.disk ≡ p + total_calls c made
     passes_all all =

@@ -31,11 +31,12 @@ use Rattle.heap_program.proofs.Ready.{AreReady}
 use Rattle.heap_program.specs.Play.{MakesAll, MakesShort, Makes, Ends, Plays, ended_by, WroteFront}
 use Rattle.heap_program.specs.StatusOf.{write_halt}
 use Rattle.heap_program.specs.declared.output.WriteError.TheVariants as writing
-use Rattle.heap_core.proofs.CausesLaws.{caused_once}
+use Rattle.disk_model.specs.declared.disk.DiskError.{DiskError}
+use Rattle.heap_program.proofs.Unfaulted.{keeps_counts}
 use Rattle.heap_core.proofs.StepsLaws.{one_steps}
 use Rattle.heap_program.proofs.Lines.{nothing_since, one_since, part_since}
 
--- a reply that tells no fault of the disk
+-- a reply that reports no fault of the disk
 pub sound_device : (reply : Reply) → IsSoundReply reply → (reply_device reply ≡ Ok tt) × (ended_by reply ≡ Ok tt)
 sound_device (Refused DiskFault) sound = absurd sound
 sound_device (Refused Stopped) sound = absurd sound
@@ -68,7 +69,7 @@ granted_by_sound c event = granted_sound (next_number c) c.g0 (account c.history
 pub answer_sound : (c : Core) (event : Event) → IsSoundReply (answer c event)
 answer_sound c event = sound_either _ _ (core_refusal-HasNoFault c event) (granted_by_sound c event)
 
--- the reply of a disk that did what it was asked lets a play go on
+-- the reply of a disk that did what it was asked lets a play continue
 pub whole_reply : (c : Core) (event : Event) (reply : Reply) → reply ≡ answer c event → ended_by reply ≡ Ok tt
 whole_reply c event reply is = (sound_device reply (subst IsSoundReply (sym is) (answer_sound c event))).1
 
@@ -88,7 +89,7 @@ module _ {D : Type 0} {g : Ghosts D} (s : Super) (c d : Core) (event : Event) (r
   whole_ends replied reached =
       let sound = sound_device reply (subst IsSoundReply (sym replied) (answer_sound c event)) in
       let P : Result (Unit {0}) _ → Type 0 = λ r. Passes (calls c event) (g.passed old.disk) (g.passed new.disk) r in
-      (sound.1, record { reached = reached; passes = one_call _ (calls c event) _ (subst P sound.0 passes).ok })
+      (sound.1, record { reached = reached; passes = one_call _ (calls c event) _ (subst P sound.0 passes).ok; still = keeps_counts g old.disk new.disk tt (subst (λ (r : Result (Unit {0}) DiskError). KeepsDisk g old.disk new.disk r) sound.0 keeps) })
 
   short_ends : IsCutShort c event reply → d ≡ with_entry c event reply → MakesShort c one d old new reply
   short_ends cut reached = record {
@@ -97,7 +98,7 @@ module _ {D : Type 0} {g : Ghosts D} (s : Super) (c d : Core) (event : Event) (r
     parts = refl;
     cut = cut;
     reached = reached;
-    cause = caused_once g old.disk new.disk reply keeps.cause;
+    cause = keeps.cause;
     passes = λ stopped.
         let short = passes.stopped (ap reply_device stopped) cut.some in
         let same : short.0 ≡ 0 + short.0 = omega arith in (short.0, short.1, short.2 ∙ ap (λ (i : ℕ). counted i (g.passed old.disk)) same);
@@ -114,7 +115,7 @@ module _ {D : Type 0} {g : Ghosts D} (s : Super) (c d : Core) (event : Event) (r
       subst P (sym is) (λ m. m) short)
       cut.told
 
-  -- the event's reply says how the play goes on
+  -- the event's reply says how the play continues
   pub one_ends : Ends c one [] d old new (ended_by reply)
   one_ends = ⊎_elim
       (λ (whole : (reply ≡ answer c event) × (d ≡ after c event)).
@@ -159,7 +160,7 @@ module _ {D : Type 0} {g : Ghosts D} (s : Super) (c d : Core) (event : Event) (r
     written = λ t. part_since c.history d.history event reply before after (step_history c d event reply step) e (wrote t);
   }
 
--- memory was refused: nothing was made
+-- memory ran out: nothing was made
 pub plays_nothing : {D : Type 0} {g : Ghosts D} (s : Super) (c : Core) (events : List Event) (old new : Heap D g) (told : Bool) (before : List ℕ) → IsHeap s c old → IsCore c new → new.disk ≡ old.disk
     → Plays s c events old new told before before (Err halt.NoMemory)
 plays_nothing {g = g} s c events old new told before heap core same = record {
@@ -168,7 +169,7 @@ plays_nothing {g = g} s c events old new told before heap core same = record {
   parts = refl;
   core = c;
   steps = (refl, same);
-  ends = inl (record { reached = refl; passes = ap g.passed same });
+  ends = inl (record { reached = refl; passes = ap g.passed same; still = record { faults = ap g.faults same; stops = ap g.stops same } });
   heap = record { core = core; disk = subst (λ x. DiskHolds s c (g.bytes x) (g.may_leave x)) (sym same) heap.disk };
   written = λ t. nothing_since c.history before;
 }

@@ -1,4 +1,4 @@
--- A play on a disk, and one behind a fuse, as steps on the disk that was handed in.
+-- A play on a disk, and one through a fuse, as steps on the disk that was handed in.
 use Rattle.std.proofs.Common.{◌≡◌, ◌≢◌, inl, inr, ℕ, ◌+◌, ◌≤◌, List, [], ◌∷◌, Some, None, Result, Ok, Err, ap, refl, sym, ◌∙◌, subst, arith}
 use Rattle.std.specs.Prelude.{IsTrue, OnOk}
 use Rattle.counts.specs.Count.{Rose, counted}
@@ -36,7 +36,7 @@ pub rose_some : (a b : ℕ) → a ≤ b → Rose a b → b ≢ 0
 rose_some a b kept (inl up) none = omega arith
 rose_some a b kept (inr full) none = omega arith
 
--- a reply that tells a failure of the disk is `diskfault`
+-- a reply that reports a failure of the disk is `diskfault`
 told_fault : (reply : Reply) → reply_device reply ≡ Err Failed → reply ≡ Refused DiskFault
 told_fault (Refused DiskFault) told = refl
 told_fault (Refused Stopped) told = cc
@@ -53,7 +53,7 @@ own_steps g start tells c d old new (event ∷ events) steps =
     (steps.0, steps.1, one, own_steps g start tells steps.0 d steps.1 new events steps.3)
 
 module _ {D : Type 0} {g : Ghosts D} where
-  -- what a crash leaves of the disk behind a fuse
+  -- what a crash leaves of the disk inside a fuse
   pub fuse_since : (old new : FuseDisk D g) (P : List ℕ → Type 0) → LeavesOnly (λ fuse. g.moment (fuse_inner fuse)) (λ fuse. g.left_since (fuse_inner fuse)) old new P
       → LeavesOnly g.moment g.left_since (fuse_inner old) (fuse_inner new) P
   fuse_since old new P run = record { later = run.later; each = run.each; before = run.before }
@@ -116,7 +116,7 @@ module _ {D : Type 0} {g : Ghosts D} where
           ok_inside (Ok done) more = on m more
           ok_inside (Err e) more = tt
 
-      -- A step that the fuse cut short was cut short behind n writes and syncs.
+      -- A step that the fuse cut short was cut short after n writes and syncs.
       cause_inside : (a b : FuseDisk D g) (reply : Reply) → (fuse_origin b).disk ≡ began → (fuse_origin b).limit ≡ n → HasCause {T = Unit {0}} (h.faults a) (h.faults b) (h.stops a) (h.stops b) (reply_device reply)
           → StopCause g n began (fuse_inner a) (fuse_inner b) reply
       cause_inside a b reply same limit cause = record {
@@ -158,7 +158,7 @@ module _ {D : Type 0} {g : Ghosts D} where
           (steps.0, fuse_inner mid, one, fuse_steps steps.0 d mid new events same_mid limit_mid steps.3)
 
   -- the same, by what the fuse keeps
-  pub fuse_steps_of : {h : Ghosts (FuseDisk D g)} {x y : FuseDisk D g} {r : Result (Unit {0}) DiskError} → PlaysDisk h x y r → IsFuse h → (n : ℕ) (began : D) → IsTrue g.tells
+  pub fuse_steps_of : {h : Ghosts (FuseDisk D g)} {x y : FuseDisk D g} {r : Result (Unit {0}) DiskError} {done : Type 0} → PlaysDisk h x y r done → IsFuse h → (n : ℕ) (began : D) → IsTrue g.tells
       → (c d : Core) (old new : FuseDisk D g) (events : List Event) → (fuse_origin old).disk ≡ began → (fuse_origin old).limit ≡ n
       → AreSteps (HeapStep h) c old events d new → AreSteps (Step g (Some n) began) c (fuse_inner old) events d (fuse_inner new)
   fuse_steps_of {h} keeps is n began tells c d old new events same limit steps = fuse_steps h is n began tells c d old new events same limit steps

@@ -1,4 +1,4 @@
--- How plays go on.
+-- How plays continue.
 use Rattle.std.proofs.Common.{◌≡◌, inl, inr, ℕ, ◌+◌, ◌≤◌, ◌<◌, Bool, List, [], ◌∷◌, ◌++◌, Result, Ok, Err, refl, sym, ap, ◌∙◌, subst, arith, append_assoc}
 use Rattle.std.proofs.lemmas.List.{append-nil}
 use Rattle.counts.specs.Count.{counted}
@@ -21,7 +21,8 @@ use Rattle.heap_core.specs.Refinement.{IsHeap}
 use Rattle.heap_program.proofs.Ready.{AreReady}
 use Rattle.heap_program.specs.Play.{MakesAll, MakesShort, Makes, Ends, Plays}
 use Rattle.heap_core.specs.Steps.{HeapStep, AreSteps}
-use Rattle.heap_core.proofs.CausesLaws.{caused_since}
+use Rattle.heap_core.specs.Causes.{reply_device}
+use Rattle.heap_program.proofs.Unfaulted.{counts_none, counts_on, cause_since}
 use Rattle.heap_core.proofs.StepsLaws.{steps_append}
 
 -- the passes of two runs, one after the other
@@ -69,6 +70,7 @@ module _ {D : Type 0} {g : Ghosts D} where
     all_then made d second = record {
       reached = second.reached ∙ sym (same_core made);
       passes = counted_then (total_calls m made) (total_calls c events) (total_calls c (events ++ made)) (g.passed old.disk) (g.passed mid.disk) (g.passed new.disk) (same_calls made) first.passes second.passes;
+      still = counts_on g old.disk mid.disk new.disk first.still second.still;
     }
 
     module _ (faults_kept : g.faults old.disk ≤ g.faults mid.disk) (stops_kept : g.stops old.disk ≤ g.stops mid.disk) where
@@ -79,7 +81,7 @@ module _ {D : Type 0} {g : Ghosts D} where
         parts = ap (λ (l : List Event). events ++ l) second.parts ∙ sym (append_assoc events second.before (second.event ∷ []));
         cut = subst (λ (x : Core). IsCutShort x second.event reply) (sym (same_core second.before)) second.cut;
         reached = second.reached ∙ ap (λ (x : Core). with_entry x second.event reply) (sym (same_core second.before));
-        cause = caused_since g old.disk mid.disk new.disk reply faults_kept stops_kept second.cause;
+        cause = cause_since g old.disk mid.disk new.disk (reply_device reply) first.still second.cause;
         passes = λ is. let short = second.passes is in let sum = same_calls second.before in (
           short.0,
           subst (λ (x : Core). short.0 < calls x second.event) (sym (same_core second.before)) short.1,
@@ -144,7 +146,7 @@ module _ {D : Type 0} {g : Ghosts D} where
     parts = refl;
     core = c;
     steps = (refl, refl);
-    ends = (refl, record { reached = refl; passes = refl });
+    ends = (refl, record { reached = refl; passes = refl; still = counts_none g heap.disk });
     heap = is;
     written = λ tells. none_since c.history before;
   }

@@ -61,7 +61,7 @@ use Rattle.heap_program.specs.StatusOf.{open_status}
 use Rattle.heap_program.proofs.Statuses.{open_end, open_not_done}
 use Rattle.heap_program.proofs.Written.{none_written, whole_front}
 
--- A new heap, as one that is there.
+-- A new heap, as an existing one.
 abbrev pub new_stored : (pages : ℕ) (image : List ℕ) → IsLegal (made_super pages) [] (first_pages pages) image → IsStored image
 new_stored pages image legal =
     let limits = legal.log.shaped.limits in
@@ -93,7 +93,7 @@ pub opening_then : {D : Type 0} (moment : D → ℕ) (left_since : D → ℕ →
 opening_then moment left_since old mid new first all before behind implies =
     weaker moment left_since old new (λ image. first image ⊎ all image) all (joined moment left_since old mid new first all before behind) (λ image either. ⊎_elim (implies image) (λ p. p) either)
 
--- An opening that makes no event is exact: the disk stopped in it, or was to stop behind it.
+-- An opening that makes no event is exact: the disk stopped in it, or was to stop after it.
 exact_unopened : (stop : Option ℕ) (at_opening : ℕ) (c : Core) → IsExact stop at_opening c [] c
 exact_unopened None at_opening c = refl
 exact_unopened (Some n) at_opening c = ⊎_elim
@@ -120,7 +120,7 @@ none_through : (stop : Option ℕ) → let_through stop 0 ≡ 0
 none_through None = refl
 none_through (Some n) = omega arith
 
--- The calls of an opening that failed: none where memory was refused, and else the disk failed in it.
+-- The calls of an opening that failed: none if memory ran out, and otherwise the disk failed in it.
 pub unopened_calls : (stop : Option ℕ) (at_opening before now : ℕ) (unharmed : Type 0) (e : OpenError) (by : Status) → by ≡ open_status e → IsFromOutside e → (e ≡ opening.NoMemory → now ≡ before) → (e ≢ opening.NoMemory → unharmed → ⊥)
     → (counts : ℕ) × CountsOpening at_opening by [] counts × (unharmed → now ≡ counted (let_through stop (counts + 0)) before)
 unopened_calls stop at_opening before now unharmed opening.NoMemory by is outside same harm = (0, inr (is, refl, refl), λ u. same refl ∙ ap (λ (n : ℕ). counted n before) (sym (none_through stop)))
@@ -139,7 +139,7 @@ module _ {D : Type 0} (g : Ghosts D) {bytes : List ℕ} (stored : IsStored bytes
   abbrev gates : ℕ → ℕ
   gates = open_gates stored.super.log_bytes bytes
 
-  -- a heap that is there runs when it is opened
+  -- an existing heap runs when it is opened
   pub stored_running : IsRunning c
   stored_running = record { reached = opened_reached stored.super stored.batches stored.pages stored.legal.log.shaped gates true stored.places stored.graph stored.found; unfailed = refl }
 
@@ -175,6 +175,7 @@ module _ {D : Type 0} (g : Ghosts D) {bytes : List ℕ} (stored : IsStored bytes
           passed = λ u some. absurd (some refl);
           few = few;
           restarts = restarts;
+          still = λ some. absurd (some refl);
           stopped = final;
           steps = (refl, refl);
           rest = begins g.moment g.left_since final (IsCommitPrefix c) (λ image since. left image (now image since));
@@ -205,7 +206,7 @@ module _ {D : Type 0} (g : Ghosts D) {bytes : List ℕ} (stored : IsStored bytes
         end = subst IsEndOfPlay (sym is) (open_end e outside);
       }
 
-  -- The disk behind the last event was started again, and what came back printed, or nothing was.
+  -- The disk after the last event was restarted, and what came back printed, or nothing was.
   module _ (stop : Stop) (stopped final : D) (k : ℕ) (by : Status) (told : Bool) (before after : List ℕ) where
     abbrev opens : Type 0
     opens = StartsAgain g stop.again c k (Reopens g c k) stopped final
@@ -255,6 +256,7 @@ module _ {D : Type 0} (g : Ghosts D) {bytes : List ℕ} (stored : IsStored bytes
             passed = λ u some. absurd (some refl);
             few = omega (arith, most, more);
             restarts = restarts;
+            still = λ some. absurd (some refl);
             stopped = stopped;
             steps = (refl, refl);
             rest = rest;
@@ -303,7 +305,7 @@ opened_core false bytes heap is own = opened_as (IsOfImage false bytes) heap is.
 pub opened_unfailed : {D : Type 0} {g : Ghosts D} (heap : Heap D g) {from : Super → List (List Record) → Pages → (ℕ → ℕ) → Type 0} (c : Core) → IsNew from c → IsCore c heap → failed_at heap ≡ None
 opened_unfailed heap c new is = is.memory.failure ∙ new.running.unfailed
 
--- nor has it behind a play that made all events
+-- nor has it after a play that made all events
 pub played_unfailed : {D : Type 0} {g : Ghosts D} (c : Core) (lines : List Line) (heap : Heap D g) (told : Bool) (before after : List ℕ) → IsRunning c → IsScript lines
     → PlaysCore c (all_events None c (events lines)) heap told before after (Ok tt) → failed_at heap ≡ None
 played_unfailed c lines heap told before after running is plays =

@@ -1,4 +1,4 @@
--- How the end of a stopped run comes out: the heap is opened again, and what came back is printed.
+-- How a stopped run ends: the heap is opened again, and what came back is printed.
 use Rattle.std.proofs.Common.{◌≡◌, ◌≢◌, inl, inr, ⊎_elim, ℕ, ◌+◌, ◌≤◌, ◌<◌, min, List, [], ◌∷◌, ◌++◌, length, take, Bool, Option, Some, None, Result, refl, sym, ap, ◌∙◌, subst, arith, length-append}
 use Rattle.std.specs.Int.{w32, to_le_bytes}
 use Rattle.std.specs.Prelude.{◌⊎◌, IsTrue}
@@ -83,7 +83,7 @@ few_commits s bs stored legal =
     let small = legal.shaped.limits.small_log in
     omega arith
 
--- The commits since a core's opening: what was told of those before leaves k of them.
+-- The commits since a core's opening: leaving out those before leaves k of them.
 pub since_before : (before : Option ℕ) (c : Core) (n k : ℕ) → IsBefore before c → n ≡ c.before + k → k ≤ length (history.commits c.history) → n ≤ 1073741824 → commits_since before (min (n + 0) greatest) ≡ k
 since_before None c n k same count most few =
     let none : length (history.commits c.history) ≡ 0 = ap (λ (h : List Entry). length (history.commits h)) same in
@@ -249,7 +249,7 @@ stops_before n now few any e is passes =
     let same = counted-sum short.0 0 (omega (arith, short.1)) in
     omega (arith, same, short.1, short.2)
 
--- How many calls a disk lets through that stops behind m, in an opening of n that succeeds, and in one that does not.
+-- How many calls a disk lets through that stops after m, in an opening of n that succeeds, and in one that does not.
 pub whole_passes : (m n now : ℕ) → n ≤ 4 → now ≤ m → now ≡ counted n 0 → now ≡ min m n
 whole_passes m n now few within all = let same = counted-sum n 0 (omega arith) in omega (arith, same, all)
 
@@ -275,6 +275,6 @@ module _ {D : Type 0} (g : Ghosts D) (P : List ℕ → Type 0) where
   pub restart_keeps : (old new : D) → Restarts g old new → ((image : List ℕ) → g.may_leave old image → P image) → LeavesOnly g.moment g.left_since old new P
   restart_keeps old new started leaves = weaker g.moment g.left_since old new (g.may_leave old) P started.moments leaves
 
-  -- and so does what comes behind it, where an opening keeps that.
+  -- and so does what follows it, if an opening keeps that.
   pub keeps_then : (old mid new : D) → LeavesOnly g.moment g.left_since old mid P → LeavesOnly g.moment g.left_since mid new P → LeavesOnly g.moment g.left_since old new P
   keeps_then old mid new before behind = opening_then g.moment g.left_since old mid new P P before behind (λ image keep. keep)

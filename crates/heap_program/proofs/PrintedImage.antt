@@ -56,13 +56,13 @@ ended_core c d made behind asked reached unfailed sessions parts none all =
     ap (λ (x : Core). x.pending) is ∙ (ending_ends mid (reached_events c asked reached sessions) (unfailed_events c asked reached unfailed sessions)).settled
 
 module _ {D : Type 0} (g : Ghosts D) (at_opening : ℕ) (c : Core) (asked : List Event) (start final : D) (result : Status) (told : Bool) (before after : List ℕ) (reached : IsReached c) (unfailed : IsUnfailed c) (sessions : AllByRecursion IsOfSession asked) where
-  -- so does each image behind a restart, where the heap was opened again
+  -- so does each image after a restart, if the heap was opened again
   followed_image : (stop : Stop) (d : Core) (k : ℕ) (stopped : D) (only_lines : Type 0) → IsFollowed g (Some stop) d k stopped final result only_lines → result ≡ status.Done
       → (image : List ℕ) → g.may_leave final image → StandsFor (serial d.g0 (take k (commits d.history))) (d.before + k) image
   followed_image stop d k stopped only_lines (inl again) done image leaves = (again.0.outcome.keeps.still image leaves).stands
   followed_image stop d k stopped only_lines (inr unopened) done image leaves = absurd (unopened.1 done)
 
-  -- Each image that a crash leaves of the disk behind a run that is done stands for the commits whose graph was printed.
+  -- Each image that a crash leaves of the disk after a run that is done stands for the commits whose graph was printed.
   pub printed_image : (stop : Option Stop) → (played : IsPlayed g stop at_opening c (all_events (stop_after stop) c asked) start final result told before after) → IsReached played.run.core → result ≡ status.Done
       → (image : List ℕ) → g.may_leave final image → StandsFor (serial played.run.core.g0 (take played.prints.count (commits played.run.core.history))) (played.run.core.before + played.prints.count) image
   printed_image None played at_end done image leaves =

@@ -1,5 +1,5 @@
--- How what an opening tells of an image goes on to the status of a run.
-use Rattle.std.proofs.Common.{◌≡◌, ⊎_elim, ℕ, ◌+◌, ◌≤◌, List, Result, refl, subst, sym}
+-- How what an opening says of an image becomes the status of a run.
+use Rattle.std.proofs.Common.{◌≡◌, ⊎_elim, ℕ, ◌+◌, ◌≤◌, List, Result, refl, subst, sym, arith}
 use Rattle.std.specs.Prelude.{IsTrue}
 use Rattle.disk_model.specs.declared.disk.Disk.{Ghosts}
 use Rattle.disk_model.specs.declared.disk.DiskError.{DiskError}
@@ -24,13 +24,15 @@ use Rattle.heap_program.specs.declared.status.Status.{Status}
 use Rattle.heap_program.specs.declared.status.Status.TheVariants as status
 use Rattle.heap_program.specs.Causes.{IsInputError}
 use Rattle.heap_program.specs.Headline.{IsEndOfPlay}
-use Rattle.heap_program.specs.Refusals.{IsFault, IsWordFault, CallsOfOneOpening, fault_calls, IsToldOf, IsToldOfEach, EndsRefused, IsLeftAlone, LeavesAlone}
+use Rattle.heap_program.specs.Refusals.{IsFault, IsWordFault, CallsOfOneOpening, CallsAtMostOneOpening, fault_calls, IsToldOf, IsToldOfEach, EndsRefused, IsLeftAlone, LeavesAlone}
 use Rattle.command_words.specs.declared.commands.CommandError.{CommandError}
 use Rattle.command_words.specs.declared.commands.CommandError.TheVariants as asking
 use Rattle.heap_model.specs.Opening.{opening_calls}
+use Rattle.counts.specs.Count.{counted}
+use Rattle.heap_program.proofs.Counts.{counted_mono}
 use Rattle.heap_program.specs.StatusOf.{command_status, open_status}
 
--- what the error of an opening tells, its status tells
+-- what the error of an opening says, its status says
 pub told_status : (e : OpenError) (image : List ℕ) → opening_refusals.IsToldOf e image → IsToldOf (open_status e) image
 told_status opening.NoMemory image told = tt
 told_status opening.NotHeap image told = told
@@ -115,7 +117,7 @@ module _ {D : Type 0} (g : Ghosts D) where
   pub alone_read : {T : Type 0} (old new : D) (result : Result T DiskError) → IsTrue g.tells → OnlyReads g old new result → LeavesAlone g old new
   alone_read old new result tells reads = record { contents = reads.contents tells; restarts = reads.disk.restarts tells }
 
-  -- as does a run that did not come to the disk
+  -- as does a run that did not reach the disk
   pub alone_untouched : (disk : D) → ((image : List ℕ) → g.left_since disk (g.moment disk) image → g.may_leave disk image) → LeavesAlone g disk disk
   alone_untouched disk now = record { contents = same_none g disk now; restarts = refl }
 
@@ -156,7 +158,7 @@ module _ {D : Type 0} (g : Ghosts D) where
       → (image : List ℕ) → g.may_leave new image → P image
   at_end old new P moments counts image may = moments.each image (counts (g.moment old) image moments.later may)
 
-  -- what an opening's error tells of the image that it read, its status tells of each image that a crash may leave behind it
+  -- what an opening's error says of the image that it read, its status says of each image that a crash may leave afterwards
   pub told_each : (e : OpenError) (by : Status) (old new : D) → by ≡ open_status e → opening_refusals.IsToldOf e (g.bytes old) → (IsNoHeap (g.bytes old) → LeavesOnly g.moment g.left_since old new IsNoHeap)
       → ((at : At) → IsFaultAt at (g.bytes old) → LeavesOnly g.moment g.left_since old new (IsFaultAt at))
       → ((t : ℕ) (image : List ℕ) → t ≤ g.moment new → g.may_leave new image → g.left_since new t image) → IsToldOfEach by (g.may_leave new)
@@ -206,6 +208,28 @@ input_once n k (status.TooSmall size need) input = refl
 pub command_once : (n k : ℕ) (e : CommandError) → CallsOfOneOpening n k k (command_status e)
 command_once n k asking.NoMemory = refl
 command_once n k asking.Usage = refl
+
+-- The calls of one opening are no more than it makes.
+pub once_few : (n before now : ℕ) (s : Status) → CallsOfOneOpening n before now s → CallsAtMostOneOpening n before now s
+once_few n before now status.Done once = once
+once_few n before now status.NoMemory once = once
+once_few n before now status.Usage once = once
+once_few n before now (status.Script line) once = once
+once_few n before now status.ReadFault once = once
+once_few n before now status.WriteFault once = once
+once_few n before now status.DiskFault once = let more = counted_mono once.0 n before once.1 in omega (arith, more, once.2)
+once_few n before now status.NotHeap once = once
+once_few n before now (status.Damaged at) once = omega (arith, once)
+once_few n before now (status.TooSmall size need) once = once
+
+-- So are those of an opening that may be stopped, and it makes none if memory runs out.
+pub opens_few : (n before now : ℕ) (image : List ℕ) (e : OpenError) → IsWordFault image → opening_refusals.IsToldOf e image → (open_status e ≡ status.NoMemory → now ≡ before) → now ≤ counted n before
+    → CallsAtMostOneOpening n before now (open_status e)
+opens_few n before now image opening.NoMemory fault told none few = none refl
+opens_few n before now image opening.NotHeap fault told none few = absurd (told fault.1.0 fault.1.3.roomy.replayed.log.super)
+opens_few n before now image (opening.Damaged at) fault told none few = few
+opens_few n before now image opening.DiskFault fault told none few = few
+opens_few n before now image opening.Stopped fault told none few = few
 
 -- What an opening of an image that is damaged at an address passed, by the status of its error.
 pub opens_once : (image : List ℕ) (before now : ℕ) (e : OpenError) (fault : IsWordFault image) → opening_refusals.IsToldOf e image

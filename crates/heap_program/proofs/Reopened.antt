@@ -1,4 +1,4 @@
--- An opening that fails for want of memory, and a heap that was opened again, leave nothing unsynced.
+-- An opening that fails for lack of memory, and a heap that was opened again, leave nothing unsynced.
 use Rattle.std.proofs.Common.{◌≡◌, ◌≢◌, inl, inr, ℕ, List, Bool, Option, refl, sym, ◌∙◌}
 use Rattle.std.specs.Prelude.{◌⊎◌}
 use Rattle.disk_model.specs.declared.disk.Disk.{Ghosts}

@@ -1,4 +1,4 @@
--- A load goes on round by round.
+-- A load continues round by round.
 use Rattle.std.proofs.Common.{◌≡◌, ℕ, ◌≤◌, Bool, List, ◌++◌, Result, Ok, Err, refl, sym, ap, ◌∙◌, subst, append_assoc}
 use Rattle.std.proofs.lemmas.Grind.{flat_map-append}
 use Rattle.std.specs.List.{AllByRecursion}
@@ -22,7 +22,7 @@ use Rattle.heap_program.proofs.Ready.{AreReady}
 use Rattle.script_text.specs.declared.line.Line.{Line}
 use Rattle.script_text.specs.Line.{line_events, events}
 
--- with a round behind those that were made, as many lines are left as before without it
+-- with a round after those that were made, as many lines are left as before without it
 pub parts_more : (all done left round rest : List Line) → all ≡ done ++ left → left ≡ round ++ rest → all ≡ (done ++ round) ++ rest
 parts_more all done left round rest parts next = parts ∙ ap (λ (l : List Line). done ++ l) next ∙ sym (append_assoc done round rest)
 
@@ -33,7 +33,7 @@ module _ (done round rest all : List Line) (parts : all ≡ (done ++ round) ++ r
   pub parts_events : events all ≡ (events done ++ events round) ++ events rest
   parts_events = ap events parts ∙ flat_map-append line_events (done ++ round) rest ∙ ap (λ (l : List Event). l ++ events rest) made_events
 
-  -- the events of the round are of sessions where all are
+  -- the events of the round are of sessions if all are
   pub round_sessions : AllByRecursion IsOfSession (events all) → AllByRecursion IsOfSession (events round)
   round_sessions sessions =
       AllByRecursion-behind IsOfSession (events done) (events round) (of_session_front (events done ++ events round) (events rest) (subst (AllByRecursion IsOfSession) parts_events sessions))
@@ -71,7 +71,7 @@ module _ (done round rest all : List Line) (parts : all ≡ (done ++ round) ++ r
           subst (λ (l : List Event). Plays s c l old new told before after result) (sym parts_events)
           (plays_on s c (events done ++ events round) (events rest) old new told before after result early plays_here)
 
--- Memory was refused to the next round: the play ends with those that were made.
+-- Memory ran out for the next round: the play ends with those that were made.
 module _ (done rest all : List Line) (parts : all ≡ done ++ rest) (c : Core) (ready : AreReady c (events all)) where
   left_events : events all ≡ events done ++ events rest
   left_events = ap events parts ∙ flat_map-append line_events done rest

@@ -53,7 +53,7 @@ end_sound status.NotHeap h = absurd h
 end_sound (status.Damaged at) h = absurd h
 end_sound (status.TooSmall size need) h = absurd h
 
--- without a fault it is done, or memory was refused
+-- without a fault it is done, or memory ran out
 pub end_done : (disk sink : Type 0) (result : Status) → IsEndOfPlay result → (result ≡ status.DiskFault → disk) → (result ≡ status.WriteFault → sink) → (disk → ⊥) → (sink → ⊥) → (result ≡ status.Done) ⊎ (result ≡ status.NoMemory)
 end_done disk sink status.Done h by_disk by_sink no_disk no_sink = inl refl
 end_done disk sink status.NoMemory h by_disk by_sink no_disk no_sink = inr refl
@@ -78,7 +78,7 @@ module _ {D : Type 0} (g : Ghosts D) (s : Super) (old new : D) where
   fits : (e : FormatError) → (g.extent old < need → (e ≡ format.TooSmall (g.extent old) need) × (new ≡ old)) → ((size full : ℕ) → e ≡ format.TooSmall size full → ⊥) → need ≤ g.extent old
   fits e small other = ⊎_elim (λ (less : g.extent old < need). absurd (other (g.extent old) need (small less).0)) (λ (large : need ≤ g.extent old). large) (cases_lt (g.extent old) need)
 
--- A run that ended before it did anything with the disk, since its script was bad or could not be read, or memory was refused.
+-- A run that ended before it did anything with the disk, since its script was bad or could not be read, or memory ran out.
 module _ {D : Type 0} (g : Ghosts D) (disk : D) (only : Only (g.bytes disk) (g.may_leave disk)) (now : (image : List ℕ) → g.left_since disk (g.moment disk) image → g.may_leave disk image) where
   still : (P : List ℕ → Type 0) → P (g.bytes disk) → LeavesOnly g.moment g.left_since disk disk P
   still P here = begins g.moment g.left_since disk P (λ image since. subst P (sym (only image (now image since))) here)
@@ -150,7 +150,7 @@ module _ {D : Type 0} (g : Ghosts D) (now : (disk : D) (image : List ℕ) → g.
         printed = λ done t. (played.prints.count, played.prints.least, played.prints.most, (played.prints.written t).whole done, printed_image g at_opening c (events script) start final result told before after reached unfailed own stop played at_end done);
       }
 
--- So it says in short of a play on a new heap and on one that was there, once the script is read.
+-- So it says in short of a play on a new heap and on an existing one, once the script is read.
 module _ {D : Type 0} (g : Ghosts D) (now : (disk : D) (image : List ℕ) → g.left_since disk (g.moment disk) image → g.may_leave disk image) (reads : Bool) (left : List ℕ) where
   script_safe : (start final : D) (stop : Option Stop) (at_opening : ℕ) (c : Core) (result : Status) (told : Bool) (before after : List ℕ) → IsReached c → IsUnfailed c
       → PlaysScript g stop (IsReadFrom reads left) at_opening c start final result told before after → IsCrashSafe g (stop_after stop) (IsReadFrom reads left) at_opening c start final result told before after

@@ -1,4 +1,4 @@
--- How the ways in which a play may end go on.
+-- How the ways in which a play may end become those of a run.
 use Rattle.std.proofs.Common.{◌≡◌, ◌≢◌, ◌⊎◌, inl, inr, ℕ, List, ◌++◌, None, Some, Result, Ok, Err, refl}
 use Rattle.counts.specs.Count.{Rose}
 use Rattle.heap_program.specs.declared.output.WriteError.{WriteError}
@@ -27,7 +27,7 @@ write_not_done : (e : WriteError) → write_status e ≡ Done → ⊥
 write_not_done writing.NoMemory is = cc
 write_not_done writing.SinkFailed is = cc
 
--- a play ends behind its output, whether it was written or not
+-- a play ends after its output, whether it was written or not
 pub written_end : (r : Result (Unit {0}) WriteError) → IsEndOfPlay (status_after r)
 written_end (Ok done) = tt
 written_end (Err e) = write_end e
@@ -56,7 +56,7 @@ halt_not_done halt.WriteFault is = cc
 halt_not_done halt.DiskFault is = cc
 halt_not_done halt.Stopped is = cc
 
--- a run that is to stop goes on where all was played or the disk stopped
+-- a run that is to stop continues if all was played or the disk stopped
 pub early_none : (r : Result (Unit {0}) Halt) → early_end r ≡ None → (r ≡ Ok tt) ⊎ (r ≡ Err halt.Stopped)
 early_none (Ok done) is = inl refl
 early_none (Err halt.Stopped) is = inr refl

@@ -18,12 +18,18 @@ played_device (Err halt.Stopped) = Err device.Stopped
 played_device (Err halt.DiskFault) = Err device.Failed
 played_device result = Ok tt
 
--- What a play keeps of a disk: its size, what it was made of, and that it was not restarted. It ends in the disk's error only where that error's count
--- rose; behind an event that the disk cut short it may end for want of memory, or in the sink's failure.
-pub record PlaysDisk {D T : Type 0} (g : Ghosts D) (old new : D) (result : Result T DiskError) : Type 0 where
+-- A disk's counts of faults and of stops are as they were.
+pub record CountsStay {D : Type 0} (g : Ghosts D) (old new : D) : Type 0 where
+  pub faults : g.faults new ≡ g.faults old
+  pub stops : g.stops new ≡ g.stops old
+
+-- What a play keeps of a disk: its size, what it was made of, and that it was not restarted. It ends in the disk's error only if that error's count
+-- rose, and is done only if neither did; after an event that the disk cut short it may end for lack of memory, or in the sink's failure.
+pub record PlaysDisk {D T : Type 0} (g : Ghosts D) (old new : D) (result : Result T DiskError) (done : Type 0) : Type 0 where
   pub extent : g.extent new ≡ g.extent old
   pub origin : g.origin new ≡ g.origin old
   pub cause : WasCaused (g.faults old) (g.faults new) (g.stops old) (g.stops new) result
+  pub still : done → CountsStay g old new
   pub restarts : IsTrue g.tells → g.restarts new ≡ g.restarts old
 
 -- The disk's faults and stops together rose.
@@ -39,7 +45,7 @@ pub record StreamCause (before now : ℕ) (failed : Type 0) : Type 0 where
 abbrev pub Unharmed : {D : Type 0} (g : Ghosts D) → D → D → Type 0
 Unharmed g old new = ¬ DiskRose (g.faults old) (g.stops old) (g.faults new) (g.stops new)
 
--- What a run keeps of a disk that it may start again: its size, and what it was made of. Its faults and stops together didn't fall, and
+-- What a run keeps of a disk that it may restart: its size, and what it was made of. Its faults and stops together didn't fall, and
 -- they rose if the run ended in the disk's fault.
 pub record RunsDisk {D : Type 0} (g : Ghosts D) (old new : D) (failed : Type 0) : Type 0 where
   pub extent : g.extent new ≡ g.extent old
@@ -47,12 +53,27 @@ pub record RunsDisk {D : Type 0} (g : Ghosts D) (old new : D) (failed : Type 0) 
   pub kept : g.faults old + g.stops old ≤ g.faults new + g.stops new
   pub cause : failed → DiskRose (g.faults old) (g.stops old) (g.faults new) (g.stops new)
 
--- Memory was refused, the script is bad, or the source failed.
+-- Memory ran out, the script is bad, or the source failed.
 abbrev pub IsInputError : Status → Type 0
 IsInputError (status.Script line) = Unit {0}
 IsInputError status.NoMemory = Unit {0}
 IsInputError status.ReadFault = Unit {0}
 IsInputError s = ⊥
+
+-- The statuses that leave no room for a fault of the disk: all was done; the words, the script or the size was refused, before the disk was called; the
+-- source failed, which is not read after an event that the disk cut short; or the image was refused, by an opening that met none. After such an event
+-- memory may run out, or the output fail; and the disk's own fault is one.
+abbrev pub IsFaultless : Status → Type 0
+IsFaultless status.Done = Unit {0}
+IsFaultless status.NoMemory = ⊥
+IsFaultless status.Usage = Unit {0}
+IsFaultless (status.Script line) = Unit {0}
+IsFaultless status.ReadFault = Unit {0}
+IsFaultless status.WriteFault = ⊥
+IsFaultless status.DiskFault = ⊥
+IsFaultless status.NotHeap = Unit {0}
+IsFaultless (status.Damaged at) = Unit {0}
+IsFaultless (status.TooSmall size need) = Unit {0}
 
 -- The statuses of a run that has opened a disk, or could not.
 abbrev pub IsOpenedEnd : Status → Type 0
@@ -64,7 +85,7 @@ IsOpenedEnd status.NotHeap = Unit {0}
 IsOpenedEnd (status.Damaged at) = Unit {0}
 IsOpenedEnd s = ⊥
 
--- Where a script is bad, reading it tells its first bad line.
+-- If a script is bad, reading it reports its first bad line.
 abbrev pub FailsByScript : List ℕ → Status → Type 0
 FailsByScript bytes (status.Script line) = script bytes ≡ Err (Fault line)
 FailsByScript bytes s = Unit {0}

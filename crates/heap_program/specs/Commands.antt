@@ -18,7 +18,7 @@ use Rattle.command_words.specs.declared.commands.Command.TheVariants as asked
 use Rattle.command_words.specs.declared.commands.Numbers.{Numbers}
 use Rattle.heap_program.specs.declared.status.Status.{Status}
 use Rattle.heap_program.specs.declared.status.Status.TheVariants as status
-use Rattle.heap_program.specs.Causes.{IsOpenedEnd}
+use Rattle.heap_program.specs.Causes.{IsFaultless, IsOpenedEnd}
 use Rattle.heap_program.specs.Headline.{made_super, graph_text, restarts_asked, CanPlay, IsEndOfPlay, IsFormatted, IsNotMade}
 use Rattle.heap_program.specs.Play.{WroteFront}
 
@@ -37,7 +37,7 @@ makes (asked.Load seed count (Some pages)) = Some (made_super pages)
 abbrev pub superblock_numbers : Super → Numbers
 superblock_numbers s = record { pages = s.pages; log_bytes = s.log_bytes; first = s.first }
 
--- how often a command starts the disk again
+-- how often a command restarts the disk
 abbrev pub restarts_of : Command → ℕ
 restarts_of (asked.Format n) = 0
 restarts_of (asked.Play fresh stop) = restarts_asked stop
@@ -71,16 +71,24 @@ IsEndOf asked.Graph s = IsOpenedEnd s
 IsEndOf (asked.Load seed count fresh) (status.TooSmall size need) = Unit {0}
 IsEndOf (asked.Load seed count fresh) s = IsOpenedEnd s
 
+-- The statuses with which a command that starts no disk again met no fault of the disk: where it makes no event, all but the disk's own fault.
+abbrev pub MeetsNoFault : Command → Status → Type 0
+MeetsNoFault (asked.Format n) s = s ≢ status.DiskFault
+MeetsNoFault (asked.Play fresh stop) s = IsFaultless s
+MeetsNoFault (asked.Threads fresh tries) s = IsFaultless s
+MeetsNoFault asked.Graph s = s ≢ status.DiskFault
+MeetsNoFault (asked.Load seed count fresh) s = IsFaultless s
+
 -- the line of a format, with the size of the image in bytes
 abbrev pub formatted_line : Super → List ℕ
 formatted_line s = codes "formatted " ++ decimal (image_size s.pages s.log_bytes) ++ 10 ∷ []
 
--- A text was written, all of it where the run is done, and else a first part.
+-- A text was written, all of it if the run is done, and otherwise a prefix.
 pub record WritesText (result : Status) (text before after : List ℕ) : Type 0 where
   pub front : WroteFront before text after
   pub whole : result ≡ status.Done → after ≡ before ++ text
 
--- How often the disk was called in an opening of n writes and syncs: so often where the run is done, and else no more often.
+-- How often the disk was called in an opening of n writes and syncs: n times if the run is done, and otherwise no more often.
 pub record CallsOpening (n : ℕ) (result : Status) (before now : ℕ) : Type 0 where
   pub times : ℕ
   pub most : times ≤ n
@@ -98,11 +106,12 @@ module _ {D : Type 0} (g : Ghosts D) where
   abbrev pub RunsFormat : Super → D → D → Status → Bool → List ℕ → List ℕ → Type 0
   RunsFormat s old new result told before after = IsNotMade g s old new result told before after ⊎ MakesHeap s old new result told before after
 
-  -- The graph of a heap was written, whose log holds these batches and whose pages are stored so. At each moment a crash left the image as it was, or with its log rolled back.
+  -- The graph of a heap was written, whose log holds these batches and whose pages are stored so. At each moment a crash left the image as it was, or with
+  -- its log rolled back.
   pub record PrintsGraph (s : Super) (batches : List (List Record)) (stored : Pages) (graph : Graph) (old new : D) (result : Status) (told : Bool) (before after : List ℕ) : Type 0 where
     pub moments : LeavesOnly g.moment g.left_since old new (IsLeftByOpening s batches stored)
     pub left : (image : List ℕ) → g.may_leave new image → IsLeftByOpening s batches stored image
-    -- each byte outside of the log is as it was, those behind the plan among them, and so it was at each moment
+    -- each byte outside of the log is as it was, those past the plan among them, and so it was at each moment
     pub outside : LeavesOnly g.moment g.left_since old new (SameOutside log_offset (log_offset + s.log_bytes) (g.bytes old))
     pub calls : CallsOpening (opening_calls s batches) result (g.passed old) (g.passed new)
     pub restarts : g.restarts new ≡ g.restarts old

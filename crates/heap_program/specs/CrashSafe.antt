@@ -28,7 +28,7 @@ module _ {D : Type 0} (g : Ghosts D) where
     pub made : Step g stop start c before event d after
     pub lasts : LeavesOnly g.moment g.left_since after final (HasAtLeast last (lasting d))
 
-  -- A heap was opened as the core c on a disk, with so many calls at the opening, and events of a script were made.
+  -- A heap was opened as the core c on a disk, with `at_opening` calls at the opening, and events of a script were made.
   pub record IsCrashSafe (stop : Option ℕ) (is_script : List Line → Type 0) (at_opening : ℕ) (c : Core) (start final : D) (result : Status) (told : Bool) (before after : List ℕ) : Type 0 where
     pub script : List Line
     pub read : is_script script
@@ -46,18 +46,18 @@ module _ {D : Type 0} (g : Ghosts D) where
     pub few : g.passed opened ≤ counted at_opening (g.passed start)
     pub stopped : D
     pub steps : AreSteps (LastingStep stop core start final) c opened made core stopped
-    -- Each commit had the replies that the commits have one after another.
+    -- Each commit had the replies that it has when the commits are run one after another.
     pub replies : replies_of_commits core.history ≡ serial_replies core.g0 (commits core.history)
     -- The lines of all events but perhaps the last one are printed, however the run ends.
     pub lines : IsTrue told → WroteLines before core.history after
     -- And nothing is printed but a prefix of all lines, of how many commits came back, and of their graph.
     pub front : IsTrue told → (k : ℕ) × WroteFront before (lines_text core.history ++ end_text stop k (serial core.g0 (take k (commits core.history)))) after
     -- What is printed of a run that is done is the graph of the first k commits, for the k that is printed; all that lasts is among them, and each
-    -- image that a crash then leaves stands for just these.
+    -- image that a crash then leaves stands for exactly these.
     pub printed : result ≡ status.Done → IsTrue told → (k : ℕ) × (lasting core ≤ k) × (k ≤ length (commits core.history)) × (after ≡ before ++ (lines_text core.history ++ end_text stop k (serial core.g0 (take k (commits core.history)))))
         × ((image : List ℕ) → g.may_leave final image → StandsFor (serial core.g0 (take k (commits core.history))) (core.before + k) image)
 
-  -- Either no heap was made, or it is crash safe from then on; or the heap that was there is crash safe, or the run did not begin.
+  -- Either no heap was made, or it is crash safe from then on; or the existing heap is crash safe, or the run did not begin.
   abbrev pub RunsSafely : Option ℕ → Option Stop → (List Line → Type 0) → D → D → Status → Bool → List ℕ → List ℕ → Type 0
   RunsSafely (Some pages) stop is_script old new result told before after =
       IsNotMade g (made_super pages) old new result told before after ⊎ ((made : D) × IsFormatted g (made_super pages) old made × IsCrashSafe (stop_after stop) is_script 0 (made_core pages (g.bytes made)) made new result told before after)

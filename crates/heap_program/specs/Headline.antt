@@ -35,7 +35,7 @@ use Rattle.heap_model.specs.Image.{IsShapedLog, IsShaped, IsLegal}
 use Rattle.heap_model.specs.Opening.{opened, opening_calls, IsFound}
 use Rattle.script_text.specs.declared.line.Line.{Line}
 use Rattle.script_text.specs.Line.{events}
-use Rattle.heap_program.specs.Causes.{DiskRose, Unharmed, IsInputError}
+use Rattle.heap_program.specs.Causes.{DiskRose, CountsStay, Unharmed, IsInputError}
 use Rattle.command_words.specs.declared.commands.Stop.{Stop}
 use Rattle.heap_program.specs.declared.status.Status.{Status}
 use Rattle.heap_program.specs.declared.status.Status.TheVariants as status
@@ -50,12 +50,12 @@ use Rattle.heap_program.specs.declared.playing.TheConstants.{LOG_BYTES}
 abbrev pub OfTold : Bool → List ℕ → (List ℕ → Type 0) → Type 0 → Type 0
 OfTold tells bytes may_leave claim = IsTrue tells → Only bytes may_leave → claim
 
--- how many commits since its opening last: those that were acknowledged, or that the batches of events that were not cut short hold, also
--- where no reply has told so
+-- how many commits since its opening last: those that were acknowledged, or that the batches of events that were not cut short hold, even
+-- if no reply has said so
 abbrev pub lasting : Core → ℕ
 lasting c = max (acknowledged c.history) (commits_on_disk c - c.before)
 
--- the superblock of the heap that a run makes, with so many pages
+-- the superblock of the heap that a run makes, with that many pages
 abbrev pub made_super : ℕ → Super
 made_super pages = record { pages = pages; log_bytes = LOG_BYTES; first = 1 }
 
@@ -71,7 +71,7 @@ graph_text g = canon_text (canon g)
 abbrev pub recovered_line : ℕ → List ℕ
 recovered_line k = codes "recovered " ++ decimal k ++ 10 ∷ []
 
--- what is printed behind the lines of a history: how many commits came back where the disk was to stop, and a graph
+-- what is printed after the lines of a history: how many commits came back if the disk was to stop, and a graph
 abbrev pub end_text : Option ℕ → ℕ → Graph → List ℕ
 end_text None k g = graph_text g
 end_text (Some n) k g = recovered_line k ++ graph_text g
@@ -83,15 +83,15 @@ IsOfDisk status.NotHeap = Unit {0}
 IsOfDisk (status.Damaged at) = Unit {0}
 IsOfDisk s = ⊥
 
--- The output of a run was written: all of it where the run is done, and else a first part. All lines of the history are in it but
--- perhaps the last one; where the disk or its image ended the run, all of them and nothing else.
+-- The output of a run was written: all of it if the run is done, and otherwise a prefix. All lines of the history are in it but
+-- perhaps the last one; if the disk or its image ended the run, all of them and nothing else.
 pub record Writes (result : Status) (history : List Entry) (text before after : List ℕ) : Type 0 where
   pub front : WroteFront before (lines_text history ++ text) after
   pub lines : WroteLines before history after
   pub fault : IsOfDisk result → after ≡ before ++ lines_text history
   pub whole : result ≡ status.Done → after ≡ before ++ (lines_text history ++ text)
 
--- behind how many calls the disk stops first
+-- after how many calls the disk stops first
 abbrev pub stop_after : Option Stop → Option ℕ
 stop_after None = None
 stop_after (Some stop) = Some stop.after
@@ -106,7 +106,7 @@ abbrev pub HasMade : Option ℕ → Core → List Event → List Event → Core 
 HasMade None c made behind d = (behind ≡ []) × MadeAll c made d
 HasMade (Some n) c made behind d = ((behind ≡ []) × MadeAll c made d) ⊎ IsCutBy (Refused Stopped) c made d
 
--- A run that the disk or its image ended: the disk in the last event that was made; or either, where a stop was asked, in an opening after all
+-- A run that the disk or its image ended: the disk in the last event that was made; or either, if a stop was asked, in an opening after all
 -- events, after the one that was stopped, or before the first.
 abbrev pub EndsByDisk : Option ℕ → Status → Core → List Event → List Event → Core → Type 0
 EndsByDisk None result c made behind d = (result ≡ status.DiskFault) × (IsCutBy (Refused DiskFault) c made d ⊎ IsCutBy (Refused Stopped) c made d)
@@ -124,25 +124,25 @@ pub record StopsLast (n : ℕ) (c : Core) (made : List Event) (d : Core) : Type 
   pub last : at.behind ≡ []
   pub reached : d ≡ with_entry (after_events c at.before) at.event (Refused Stopped)
 
--- The disk stopped in the opening, which makes so many calls: no event was made.
+-- The disk stopped in the opening, which makes `at_opening` calls: no event was made.
 abbrev pub StopsOpening : Option ℕ → ℕ → List Event → Type 0
 StopsOpening None at_opening made = ⊥
 StopsOpening (Some n) at_opening made = (n < at_opening) × (made ≡ [])
 
--- Where the disk does what it is asked until it is to stop, the place at which it stops is exact: none, one of the events, or the opening, which
--- makes so many calls itself.
+-- If the disk does what it is asked until it is to stop, the place at which it stops is exact: none, one of the events, or the opening, which
+-- makes `at_opening` calls itself.
 abbrev pub IsExact : Option ℕ → ℕ → Core → List Event → Core → Type 0
 IsExact None at_opening c made d = MadeAll c made d
 IsExact (Some n) at_opening c made d =
     (MadeAll c made d × (at_opening + total_calls c made ≤ n)) ⊎ ((at_opening ≤ n) × StopsLast (n - at_opening) c made d) ⊎ StopsOpening (Some n) at_opening made
 
--- Where the disk is to stop, an event is answered `stopped` only if it has more calls than were left, also on a disk that fails or stops by itself:
+-- If the disk is to stop, an event is answered `stopped` only if it has more calls than were left, even on a disk that fails or stops by itself:
 -- no answer of the disk is handed on as that.
 abbrev pub StopsInPlace : Option ℕ → ℕ → Core → List Event → Core → Type 0
 StopsInPlace None at_opening c made d = Unit {0}
 StopsInPlace (Some n) at_opening c made d = IsCutBy (Refused Stopped) c made d → (at_opening ≤ n) × StopsLast (n - at_opening) c made d
 
--- A core that is opened on a shaped log beside stored pages, in frames with so many open gates, with a graph that stands in it.
+-- A core that is opened on a shaped log beside stored pages, in frames of which this many gates are open, with a graph that stands in it.
 pub record IsOpened (c : Core) : Type 0 where
   pub super : Super
   pub batches : List (List Record)
@@ -155,16 +155,16 @@ pub record IsOpened (c : Core) : Type 0 where
   pub found : IsFound super batches stored shaped born places graph
   pub is : c ≡ opened super batches stored gates born places graph
 
--- On a disk that tells its bytes, they are the log, the pages and the gates of that image.
+-- On a modelled disk they are the log, the pages and the gates of that image.
 abbrev pub IsOfImage : Bool → List ℕ → Super → List (List Record) → Pages → (ℕ → ℕ) → Type 0
 IsOfImage tells image s batches stored gates = IsTrue tells → IsShaped s batches stored image × (gates ≡ open_gates s.log_bytes image)
 
--- So are they where no heap was to be made first.
+-- So are they if no heap was to be made first.
 abbrev pub IsOfOwnImage : Option ℕ → Bool → List ℕ → Super → List (List Record) → Pages → (ℕ → ℕ) → Type 0
 IsOfOwnImage fresh tells image s batches stored gates = fresh ≡ None → IsOfImage tells image s batches stored gates
 
--- On any disk: a heap was opened with some graph, the events that were made are a run of that core, and what was written is a first
--- part of the lines of its history, of how many commits came back where a stop was asked, and of a graph. Of a run that is done it is
+-- On any disk: a heap was opened with some graph, the events that were made are a run of that core, and what was written is a prefix
+-- of the lines of its history, of how many commits came back if a stop was asked, and of a graph. Of a run that is done it is
 -- all of that; and without a stop the graph is the core's. What was opened is `from` where that says.
 pub record PrintsRun (from : Super → List (List Record) → Pages → (ℕ → ℕ) → Type 0) (stop : Option ℕ) (lines : List Line) (result : Status) (before after : List ℕ) : Type 0 where
   pub first : Core
@@ -201,7 +201,7 @@ IsEndOfPlay status.WriteFault = Unit {0}
 IsEndOfPlay status.DiskFault = Unit {0}
 IsEndOfPlay s = ⊥
 
--- Of the events that were asked of a core these were made, and led to this one. The opening makes so many calls before.
+-- Of the events that were asked of a core these were made, and led to this one. The opening makes `at_opening` calls before.
 pub record MakesEvents (stop : Option ℕ) (at_opening : ℕ) (c : Core) (events : List Event) (result : Status) : Type 0 where
   pub made : List Event
   pub behind : List Event
@@ -212,13 +212,13 @@ pub record MakesEvents (stop : Option ℕ) (at_opening : ℕ) (c : Core) (events
   pub done : result ≡ status.Done → HasMade stop c made behind core ⊎ StopsOpening stop at_opening made
   pub in_place : StopsInPlace stop at_opening c made core
 
--- The calls of an opening that count: all that it makes, or none where memory was refused in it.
+-- The calls of an opening that count: all that it makes, or none if memory ran out in it.
 abbrev pub CountsOpening : ℕ → Status → List Event → ℕ → Type 0
 CountsOpening at_opening result made counts = (counts ≡ at_opening) ⊎ ((result ≡ status.NoMemory) × (made ≡ []) × (counts ≡ 0))
 
 module _ {D : Type 0} (g : Ghosts D) where
-  -- At each moment a crash left first commits: while the heap was opened as the core c, in each step, and from then on until the
-  -- end, also while it was opened again. Always they held all that had been acknowledged or forced. The opening makes so many calls, if it is not cut short.
+  -- At each moment a crash left a commit prefix: while the heap was opened as the core c, in each step, and from then on until the
+  -- end, also while it was opened again. It always had all that had been acknowledged or forced. The opening makes `at_opening` calls, unless it is cut short.
   pub record KeepsThroughout (stop : Option ℕ) (at_opening : ℕ) (c : Core) (made : List Event) (d : Core) (start final : D) : Type 0 where
     pub opened : D
     pub opening : LeavesOnly g.moment g.left_since start opened (IsCommitPrefix c)
@@ -226,14 +226,16 @@ module _ {D : Type 0} (g : Ghosts D) where
     pub passed : Unharmed g start opened → made ≢ [] → g.passed opened ≡ counted at_opening (g.passed start)
     pub few : g.passed opened ≤ counted at_opening (g.passed start)
     pub restarts : g.restarts opened ≡ g.restarts start
+    -- no call of an opening after which events were made failed or found the disk stopped
+    pub still : made ≢ [] → CountsStay g start opened
     pub stopped : D
     pub steps : AreSteps (Step g stop start) c opened made d stopped
     pub rest : LeavesOnly g.moment g.left_since stopped final (IsCommitPrefix d)
     pub kept : (image : List ℕ) → g.may_leave final image → IsCommitPrefix d image
-    -- and each byte behind the plan as it was at the start, at each moment of all that
+    -- and each byte past the plan as it was at the start, at each moment of all that
     pub outside : LeavesOnly g.moment g.left_since start final (SameBehind c (g.bytes start))
 
-  -- The disk was started again, as one of the images that a crash could leave: no moment of that left another.
+  -- The disk was restarted, as one of the images that a crash could leave: no moment of that left another.
   pub record Restarts (old new : D) : Type 0 where
     pub left : g.may_leave old (g.bytes new)
     pub only : Only (g.bytes new) (g.may_leave new)
@@ -241,17 +243,17 @@ module _ {D : Type 0} (g : Ghosts D) where
     pub restarts : g.restarts new ≡ raised (g.restarts old)
     pub passed : g.passed new ≡ g.passed old
 
-  -- A heap was to be opened on a disk that had just been started and read as an image of the core's first k commits: whatever came of that,
+  -- A heap was to be opened on a disk that had just been restarted and reads as an image of the core's first k commits: whatever the outcome,
   -- at each moment of it a crash left an image of the same k commits, and so does one now.
   pub record KeepsFirst (c : Core) (k : ℕ) (old new : D) : Type 0 where
     pub first : StandsForFirst c k (g.bytes old)
     pub moments : LeavesOnly g.moment g.left_since old new (StandsForFirst c k)
-    -- and each byte behind the plan as it was
+    -- and each byte past the plan as it was
     pub outside : LeavesOnly g.moment g.left_since old new (SameBehind c (g.bytes old))
     pub still : (image : List ℕ) → g.may_leave new image → StandsForFirst c k image
     pub restarts : g.restarts new ≡ g.restarts old
 
-  -- the writes and syncs of the opening of an image of first commits: four where it holds writes of a transaction that has not ended, else none
+  -- the writes and syncs of the opening of such an image: four if it holds writes of a transaction that has not ended, otherwise none
   abbrev pub calls_to_open : {c : Core} {k : ℕ} {image : List ℕ} → StandsForFirst c k image → ℕ
   calls_to_open first = opening_calls first.stands.super first.stands.batches
 
@@ -262,7 +264,7 @@ module _ {D : Type 0} (g : Ghosts D) where
     -- nothing is unsynced then
     pub only : Only (g.bytes new) (g.may_leave new)
 
-  -- It was not opened, since memory was refused or the disk failed: with no more writes and syncs than those of an opening, and none without memory.
+  -- It was not opened, since memory ran out or the disk failed: with no more writes and syncs than those of an opening, and none without memory.
   pub record FailsToOpen (c : Core) (k : ℕ) (result : Status) (old new : D) : Type 0 where
     pub reason : (result ≡ status.NoMemory) ⊎ ((result ≡ status.DiskFault) × DiskRose (g.faults old) (g.stops old) (g.faults new) (g.stops new))
     pub keeps : KeepsFirst c k old new
@@ -271,19 +273,19 @@ module _ {D : Type 0} (g : Ghosts D) where
     -- and then nothing is unsynced
     pub only : result ≡ status.NoMemory → Only (g.bytes new) (g.may_leave new)
 
-  -- It was opened on a disk that stops behind m writes and syncs, and what came of that let go. If the disk doesn't fail, it stopped just where
+  -- It was opened on a disk that stops after m writes and syncs, and its outcome was ignored. If the disk doesn't fail, it stopped exactly if
   -- an opening makes more than m: it let through the writes and syncs of an opening, or m of them if they are more.
   pub record IsCutOff (m : ℕ) (c : Core) (k : ℕ) (old new : D) : Type 0 where
     pub keeps : KeepsFirst c k old new
     pub passed : Unharmed g old new → g.passed new ≡ counted (min m (calls_to_open keeps.first)) (g.passed old)
     pub most : g.passed new ≤ counted (min m (calls_to_open keeps.first)) (g.passed old)
 
-  -- What comes between the first start of the disk and the last opening: nothing, or an opening that is cut off, and a second start.
+  -- What comes between the first restart of the disk and the last opening: nothing, or an opening that is cut off, and a second restart.
   abbrev pub IsCutBefore : Option ℕ → Core → ℕ → D → D → Type 0
   IsCutBefore None c k first last = last ≡ first
   IsCutBefore (Some m) c k first last = (cut : D) × IsCutOff m c k first cut × Restarts cut last
 
-  -- The disk was started again, and what came of the last opening behind that.
+  -- The disk was restarted, and this is the outcome of the last opening after that.
   pub record StartsAgain (again : Option ℕ) (c : Core) (k : ℕ) (opening : D → D → Type 0) (stopped new : D) : Type 0 where
     pub first : D
     pub started : Restarts stopped first
@@ -291,20 +293,20 @@ module _ {D : Type 0} (g : Ghosts D) where
     pub cut : IsCutBefore again c k first last
     pub outcome : opening last new
 
-  -- No heap was opened in the end: the disk was not started again, or the last opening failed, or the one that was to be cut off had no memory.
+  -- No heap was opened in the end: the disk was not restarted, or the last opening failed, or the one that was to be cut off ran out of memory.
   abbrev pub EndsUnopened : Option ℕ → Core → ℕ → D → D → Status → Type 0
   EndsUnopened None c k stopped new result = (new ≡ stopped) ⊎ StartsAgain None c k (FailsToOpen c k result) stopped new
   EndsUnopened (Some m) c k stopped new result =
       (new ≡ stopped) ⊎ StartsAgain (Some m) c k (FailsToOpen c k result) stopped new ⊎ ((result ≡ status.NoMemory) × StartsAgain None c k (FailsToOpen c k result) stopped new)
 
-  -- What came behind the last event: nothing, where no stop was asked. Else the disk was started again and the heap opened on it, and then the
-  -- status is not the disk's, whatever came of an opening that was cut off before; or no heap was opened, and no more than lines were written.
+  -- What came after the last event: nothing, if no stop was asked. Otherwise the disk was restarted and the heap opened on it, and then the
+  -- status is not the disk's, whatever the outcome of an opening that was cut off before; or no heap was opened, and only lines were written.
   abbrev pub IsFollowed : Option Stop → Core → ℕ → D → D → Status → Type 0 → Type 0
   IsFollowed None c k stopped new result only_lines = new ≡ stopped
   IsFollowed (Some stop) c k stopped new result only_lines =
       (StartsAgain stop.again c k (Reopens c k) stopped new × (¬ IsOfDisk result)) ⊎ (EndsUnopened stop.again c k stopped new result × (result ≢ status.Done) × only_lines)
 
-  -- The lines of a core's history were printed, how many commits came back where a stop was asked, and their graph. All that was acknowledged, or
+  -- The lines of a core's history were printed, how many commits came back if a stop was asked, and their graph. All that was acknowledged, or
   -- forced by an event that was not cut short, is among them.
   pub record Prints (stop : Option Stop) (c : Core) (stopped final : D) (result : Status) (told : Bool) (before after : List ℕ) : Type 0 where
     pub count : ℕ
@@ -314,13 +316,13 @@ module _ {D : Type 0} (g : Ghosts D) where
     pub behind : IsFollowed stop c count stopped final result (IsTrue told → WroteFront before (lines_text c.history) after)
     pub written : IsTrue told → Writes result c.history (end_text (stop_after stop) count (serial c.g0 (take count (commits c.history)))) before after
 
-  -- Events were played on a disk whose heap was opened as the core c, with so many calls at the opening.
+  -- Events were played on a disk whose heap was opened as the core c, with `at_opening` calls at the opening.
   pub record IsPlayed (stop : Option Stop) (at_opening : ℕ) (c : Core) (events : List Event) (start final : D) (result : Status) (told : Bool) (before after : List ℕ) : Type 0 where
     pub run : MakesEvents (stop_after stop) at_opening c events result
     pub disk : KeepsThroughout (stop_after stop) at_opening c run.made run.core start final
     -- without a fault up to the last event it stopped just where it was to
     pub exact : Unharmed g start disk.stopped → IsExact (stop_after stop) at_opening c run.made run.core
-    -- the disk behind the last event has counted the writes and syncs of the opening and of these events, or no more than those
+    -- the disk after the last event has counted the writes and syncs of the opening and of these events, or no more than those
     pub counts : ℕ
     pub opens : CountsOpening at_opening result run.made counts
     pub calls : Unharmed g start disk.stopped → g.passed disk.stopped ≡ counted (let_through (stop_after stop) (counts + total_calls c run.made)) (g.passed start)
@@ -341,12 +343,14 @@ module _ {D : Type 0} (g : Ghosts D) where
     pub empty : IsLegal s [] (first_pages s.pages) (g.bytes made)
     -- a superblock with these numbers, and zeros up to the end of the plan
     pub zeros : IsEmptyHeap s (g.bytes made)
-    -- each byte behind the plan is as it was, and so it was at each moment
+    -- each byte past the plan is as it was, and so it was at each moment
     pub kept : SameOutside 0 (image_size s.pages s.log_bytes) (g.bytes old) (g.bytes made)
     pub outside : LeavesOnly g.moment g.left_since old made (SameOutside 0 (image_size s.pages s.log_bytes) (g.bytes old))
     pub only : Only (g.bytes made) (g.may_leave made)
     pub passed : g.passed made ≡ counted (format_calls (image_size s.pages s.log_bytes) (g.bytes old)) (g.passed old)
     pub restarts : g.restarts made ≡ g.restarts old
+    -- no call of it failed or found the disk stopped
+    pub still : CountsStay g old made
 
   -- The disk failed or stopped in one of the writes and syncs that make the heap.
   pub record FailsFormat (s : Super) (old new : D) : Type 0 where
@@ -363,7 +367,7 @@ module _ {D : Type 0} (g : Ghosts D) where
   IsUnmade s old new (status.TooSmall size need) = new ≡ old
   IsUnmade s old new result = ⊥
 
-  -- No heap was made, and nothing was written. A crash left no heap, the old image, or the new heap, with the bytes behind the plan as they were.
+  -- No heap was made, and nothing was written. A crash left no heap, the old image, or the new heap, with the bytes past the plan as they were.
   pub record IsNotMade (s : Super) (old new : D) (result : Status) (told : Bool) (before after : List ℕ) : Type 0 where
     pub reason : IsUnmade s old new result
     pub nothing : IsTrue told → after ≡ before
@@ -389,7 +393,7 @@ module _ {D : Type 0} (g : Ghosts D) where
     pub same : new ≡ old
     pub nothing : IsTrue told → after ≡ before
 
-  -- Either a heap was made and a script was played on it, or none was made; or a script was played on the heap that was there, for each
+  -- Either a heap was made and a script was played on it, or none was made; or a script was played on the existing heap, for each
   -- graph that stands in it, or that run did not begin.
   abbrev pub Runs : Option ℕ → Option Stop → (List Line → Type 0) → D → D → Status → Bool → List ℕ → List ℕ → Type 0
   Runs (Some pages) stop is_script old new result told before after =
@@ -431,17 +435,17 @@ EndsUnmade expected status.ReadFault = Unit {0}
 EndsUnmade expected status.NoMemory = Unit {0}
 EndsUnmade expected result = result ≡ expected
 
--- how often a run starts a disk again behind its stop
+-- how often a run restarts a disk after its stop
 abbrev pub starts_asked : Option ℕ → ℕ
 starts_asked None = 1
 starts_asked (Some m) = 2
 
--- how often a run does so, where the disk is to stop or not
+-- how often a run does so, if the disk is to stop or not
 abbrev pub restarts_asked : Option Stop → ℕ
 restarts_asked None = 0
 restarts_asked (Some stop) = starts_asked stop.again
 
--- The disk was started again no more often than that, and so often where the run is done.
+-- The disk was restarted no more often than that, and exactly that often if the run is done.
 pub record RestartsDisk (asked : ℕ) (result : Status) (before now : ℕ) : Type 0 where
   pub times : ℕ
   pub most : times ≤ asked

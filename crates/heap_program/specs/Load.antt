@@ -44,7 +44,7 @@ is_collected reply = false
 abbrev pub replies_in : (Reply → Bool) → List Entry → ℕ
 replies_in counts history = count_by (λ (entry : Entry). counts entry.reply) history
 
--- what came of a load: how many events were made, how many of their replies are such, and how many objects the graph has
+-- the outcome of a load: how many events were made, how many of their replies are such, and how many objects the graph has
 abbrev pub summary_of : ℕ → ℕ → List Entry → ℕ → Summary
 summary_of seed count history objects = record {
   seed = seed;
@@ -73,7 +73,7 @@ summary_text s =
     ++ 10 ∷ codes "objects " ++ decimal s.objects
     ++ 10 ∷ []
 
--- A summary was written, all of it where the run is done, and else a first part; nothing where the disk or its image ended the run.
+-- A summary was written, all of it if the run is done, and otherwise a prefix; nothing if the disk or its image ended the run.
 pub record WritesSummary (result : Status) (text before after : List ℕ) : Type 0 where
   pub printed : WritesText result text before after
   pub fault : IsOfDisk result → after ≡ before
@@ -92,7 +92,7 @@ abbrev pub SummarizesSome : ℕ → ℕ → Status → List ℕ → List ℕ →
 SummarizesSome seed count result before after = ((result ≢ status.Done) × (after ≡ before)) ⊎ SummarizesRun seed count result before after
 
 module _ {D : Type 0} (g : Ghosts D) where
-  -- Events were made on a disk whose heap was opened as the core c, with so many calls at the opening: what is said of a play without a stop,
+  -- Events were made on a disk whose heap was opened as the core c, with `at_opening` calls at the opening: what is said of a play without a stop,
   -- but for its lines and its graph.
   abbrev pub MakesRun : ℕ → Core → List Event → D → D → Status → Type 0
   MakesRun at_opening c events start final result = IsPlayed g None at_opening c events start final result false [] []
@@ -108,7 +108,7 @@ module _ {D : Type 0} (g : Ghosts D) where
     pub format : IsFormatted g (made_super pages) old made
     pub plays : PlaysLoad seed count 0 (made_core pages (g.bytes made)) made new result told before after
 
-  -- Either a heap was made and a load was played on it, or none was made; or the load was played on the heap that was there, for each graph that
+  -- Either a heap was made and a load was played on it, or none was made; or the load was played on the existing heap, for each graph that
   -- stands in it, or the run did not begin.
   abbrev pub RunsLoad : Option ℕ → ℕ → ℕ → D → D → Status → Bool → List ℕ → List ℕ → Type 0
   RunsLoad (Some pages) seed count old new result told before after =

@@ -16,17 +16,17 @@ use Rattle.heap_program.specs.Headline.{lasting, IsEndOfPlay, IsOfDisk, recovere
 use Rattle.heap_program.specs.Play.{WroteFront}
 use Rattle.heap_program.specs.StatusOf.{write_status, halt_status}
 
--- how many of the commits that a log holds came since it held those before; none where no event was made
+-- how many of the commits that a log holds came since it held those before; none if no event was made
 abbrev pub commits_since : Option ℕ → ℕ → ℕ
 commits_since None now = 0
 commits_since (Some before) now = now - before
 
--- What is told of the commits before a core's opening, as far as 64 bits count. Where nothing is told it has made no event.
+-- What is said of the commits before a core's opening, up to the limit of 64 bits. If nothing is said, no event was made.
 abbrev pub IsBefore : Option ℕ → Core → Type 0
 IsBefore None c = c.history ≡ []
 IsBefore (Some before) c = before ≡ min c.before greatest
 
--- All of a text was written, or a first part of it where that ended in an error.
+-- All of a text was written, or a prefix of it if that ended in an error.
 abbrev pub WroteText : Result (Unit {0}) WriteError → List ℕ → List ℕ → List ℕ → Type 0
 WroteText (Ok done) before text after = after ≡ before ++ text
 WroteText (Err e) before text after = WroteFront before text after
@@ -36,13 +36,13 @@ abbrev pub status_after : Result (Unit {0}) WriteError → Status
 status_after (Ok done) = Done
 status_after (Err e) = write_status e
 
--- the status of a run that is to stop where it ends before the disk is started again
+-- the status of a run that is to stop, if it ends before the disk is restarted
 abbrev pub early_end : Result (Unit {0}) Halt → Option Status
 early_end (Ok done) = None
 early_end (Err halt.Stopped) = None
 early_end (Err other) = Some (halt_status other)
 
--- The heap was opened again as a core's first k commits, and their number and their graph were written, or a first part of that.
+-- The heap was opened again as a core's first k commits, and their number and their graph were written, or a prefix of that.
 pub record WroteRecovered (c : Core) (k : ℕ) (opens : Type 0) (result : Status) (told : Bool) (before after : List ℕ) : Type 0 where
   pub opened : opens
   pub sound : ¬ IsOfDisk result
@@ -65,7 +65,7 @@ pub record Recovers (c : Core) (k : ℕ) (opens fails : Type 0) (bytes : List �
   pub settled : result ≢ DiskFault → Only bytes may_leave
   pub found : WroteRecovered c k opens result told before after ⊎ WroteNothing fails result told before after
 
--- How many commits came back and a graph were written, or a first part of that.
+-- How many commits came back and a graph were written, or a prefix of that.
 pub record WroteGraph (k : ℕ) (g : Graph) (result : Status) (before after : List ℕ) : Type 0 where
   pub sound : ¬ IsOfDisk result
   pub front : WroteFront before (recovered_line k ++ graph_text g) after

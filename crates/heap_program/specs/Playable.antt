@@ -1,4 +1,4 @@
--- What a play needs of its events.
+-- What a play requires of its events.
 use Rattle.std.specs.Prelude.{◌≡◌, ℕ, ◌≤◌, Bool, IsTrue, List, length, Ok}
 use Rattle.std.specs.List.{AllByRecursion}
 use Rattle.graph_model.specs.History.{IsOfSession}
@@ -11,7 +11,7 @@ pub record IsScript (lines : List Line) : Type 0 where
   pub sessions : AllByRecursion IsOfSession (events lines)
   pub few : length (events lines) ≤ 2097152
 
--- The lines are those of a script that was read: of the bytes that were left in the source, where it tells them.
+-- The lines are those of a script that was read: of the bytes that were left in the source, if it is modelled.
 pub record IsReadFrom (told : Bool) (left : List ℕ) (lines : List Line) : Type 0 where
   pub bytes : List ℕ
   pub script : script bytes ≡ Ok lines

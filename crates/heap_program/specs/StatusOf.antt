@@ -45,7 +45,7 @@ abbrev pub write_status : WriteError → Status
 write_status writing.NoMemory = NoMemory
 write_status writing.SinkFailed = WriteFault
 
--- a disk that stopped is no better than one that failed, where it was not to stop
+-- a disk that stopped without being asked to counts as failed
 abbrev pub halt_status : Halt → Status
 halt_status halt.NoMemory = NoMemory
 halt_status halt.WriteFault = WriteFault

@@ -1,4 +1,4 @@
--- A heap that is there: a legal image, with a graph that stands in it.
+-- The existing heap: a legal image, with a graph that stands in it.
 use Rattle.std.specs.Prelude.{ℕ, List, true}
 use Rattle.graph_model.specs.Graph.{Graph}
 use Rattle.graph_words.specs.Places.{Places}
@@ -10,7 +10,8 @@ use Rattle.heap_model.specs.Core.{Core}
 use Rattle.heap_model.specs.Image.{IsLegal}
 use Rattle.heap_model.specs.Opening.{IsFound, opened, opening_calls}
 
--- A legal image, and a graph that is found in its log beside its pages, each object at its place and under the name of its birth. All such graphs have one canon.
+-- A legal image, and a graph that is found in its log beside its pages, each object at its place and under the name of its birth. All such graphs have
+-- one canon.
 pub record IsStored (image : List ℕ) : Type 0 where
   pub super : Super
   pub batches : List (List Record)

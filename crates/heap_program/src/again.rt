@@ -20,8 +20,8 @@ use heap_core::{Heap, OpenError};
 use heap_io::Sink;
 use std::alloc::Global;
 
-/// Restarts the disk inside the fuse, and prints what came back: how many commits the log then holds more than `before`, which is left out if
-/// the disk was stopped before the first event. If it is to stop once more, it does so in an opening before.
+/// Restarts the disk inside the fuse, and prints what came back: how many more commits than `before` the log then holds. `before` is left out if
+/// the disk was stopped before the first event. If it is to stop once more, it does so in an earlier opening.
 pub fn start_again<D: Disk, K: Sink>(
     alloc: Global,
     fuse: FuseDisk<D>,
@@ -38,7 +38,7 @@ pub fn start_again<D: Disk, K: Sink>(
     ensures moments { IsTrue D.tells → (c : Core) (old : List ℕ) → ((image : List ℕ) → D.may_leave (fuse_inner fuse) image → IsLeftByStep c old image) → LeavesOnly D.moment D.left_since (fuse_inner fuse) result.1 (IsLeftByStep c old) }
     ensures recovers { IsTrue D.tells → (c : Core) → ((image : List ℕ) → D.may_leave (fuse_inner fuse) image → IsCommitPrefix c image) → IsBefore before c
         → (k : ℕ) × Recovers c k (StartsAgain D.Disk again c k (Reopens D.Disk c k) (fuse_inner fuse) result.1) (EndsUnopened D.Disk again c k (fuse_inner fuse) result.1 result.0) (D.bytes result.1) (D.may_leave result.1) result.0 K.tells (K.written sink.old) (K.written sink.new) }
-    // A status against an image tells what is so of the disk that is given back.
+    // A status against an image is true of the disk that is given back.
     ensures refused_at_end { IsTrue D.tells → IsToldOfEach result.0 (D.may_leave result.1) }
     // An image that can't be opened gives its own status, and nothing is written then.
     ensures refuses { IsTrue D.tells → (expected : Status) → ((image : List ℕ) → D.may_leave (fuse_inner fuse) image → IsFault expected image) → EndsRefused expected result.0 × (sink.new ≡ sink.old) }
@@ -64,8 +64,8 @@ fn restart<D: Disk>(mut disk: D) -> D
     disk
 }
 
-/// Opens the heap on a disk that stops after that many writes and syncs, and gives the disk back whatever came of it; as an error
-/// if memory was refused.
+/// Opens the heap on a disk that stops after that many writes and syncs, and gives the disk back whatever the outcome; as an error
+/// if memory ran out.
 fn open_cut_off<D: Disk>(alloc: Global, disk: D, calls: u64) -> Result<D, D>
     ensures disk { RunsDisk D.Disk disk (either_disk result) ⊥ }
     ensures cut { IsTrue D.tells → (c : Core) (k : ℕ) → StandsForFirst c k (D.bytes disk) → Only (D.bytes disk) (D.may_leave disk)

@@ -1,11 +1,11 @@
-//! The command that plays a load, on a heap that is made afresh or on the one that is there.
+//! The command that plays a load, on a new heap or on the existing one.
 ghost use Rattle.std.specs.Prelude.{◌≡◌, ℕ, ◌<◌, ◌≤◌, ◌^◌, None, Some, IfSome, IsTrue};
 ghost use Rattle.disk_model.specs.Disk.{Only};
 ghost use Rattle.disk_model.specs.Moments.{LeavesOnly};
 ghost use Rattle.image_plan.specs.Plan.{image_size};
 ghost use Rattle.command_words.specs.Limits.{IsPages};
 ghost use Rattle.command_words.specs.declared.commands.Command.TheVariants as asked;
-ghost use Rattle.heap_program.specs.Causes.{StreamCause, RunsDisk, IsOpenedEnd};
+ghost use Rattle.heap_program.specs.Causes.{StreamCause, RunsDisk, CountsStay, IsFaultless, IsOpenedEnd};
 ghost use Rattle.heap_program.specs.Commands.{IsEndOf};
 ghost use Rattle.heap_program.specs.Headline.{OfTold, IsEndOfPlay, CanPlay, IsUntouching, EndsUnmade, BlamesNoImage};
 ghost use Rattle.heap_program.specs.Load.{PlaysLoad, RunsLoad, SummarizesSome};
@@ -22,7 +22,7 @@ use heap_core::Heap;
 use heap_io::{Discard, Sink};
 use std::alloc::Global;
 
-/// Plays the load of `count` rounds that is made from `seed`, on a heap that is made afresh with `fresh` pages in each space, or on the one that is there.
+/// Plays the load of `count` rounds that is made from `seed`, on a new heap with `fresh` pages in each space, or on the existing one.
 pub fn run_load<D: Disk, K: Sink>(
     alloc: Global,
     seed: u32,
@@ -40,15 +40,16 @@ pub fn run_load<D: Disk, K: Sink>(
     ensures small_told { (pages : ℕ) → fresh ≡ Some pages → D.extent disk < image_size pages LOG_BYTES → EndsUnmade (Status.TooSmall (D.extent disk) (image_size pages LOG_BYTES)) result.0 }
     ensures write_fault { StreamCause (K.faults sink.old) (K.faults sink.new) (result.0 ≡ Status.WriteFault) }
     ensures disk_fault { RunsDisk D.Disk disk result.1 (result.0 ≡ Status.DiskFault) }
+    ensures unfaulted { IsFaultless result.0 → CountsStay D.Disk disk result.1 }
     ensures untouched { IsUntouching result.0 → (result.1 ≡ disk) × (sink.new ≡ sink.old) }
 
     ensures loads { OfTold D.tells (D.bytes disk) (D.may_leave disk) (RunsLoad D.Disk fresh seed count disk result.1 result.0 K.tells (K.written sink.old) (K.written sink.new)) }
     ensures prints { IsTrue K.tells → SummarizesSome seed count result.0 (K.written sink.old) (K.written sink.new) }
     ensures unwritten { ¬ BlamesNoImage result.0 → sink.new ≡ sink.old }
     ensures restarts { IsTrue D.tells → D.restarts result.1 ≡ D.restarts disk }
-    // Where a heap is there, or one was to be made on a disk that is large enough, the run ends as a play.
+    // If there is a heap, or one was to be made on a disk that is large enough, the run ends as a play.
     ensures complete { OfTold D.tells (D.bytes disk) (D.may_leave disk) (CanPlay fresh (D.extent disk) (D.bytes disk) → IsEndOfPlay result.0) }
-    // An image that can't be opened gives its own status, and nothing is written then; each status against it tells what is so.
+    // An image that can't be opened gives its own status, and nothing is written then; each status against it is true of it.
     ensures refused { IsTrue D.tells → fresh ≡ None → IsToldOf result.0 (D.bytes disk) }
     ensures refused_at_end { OfTold D.tells (D.bytes disk) (D.may_leave disk) (IsToldOfEach result.0 (D.may_leave result.1)) }
     ensures refuses { OfTold D.tells (D.bytes disk) (D.may_leave disk) (fresh ≡ None → (expected : Status) → IsFault expected (D.bytes disk) → EndsRefused expected result.0 × (sink.new ≡ sink.old)) }
@@ -68,7 +69,7 @@ pub fn run_load<D: Disk, K: Sink>(
     }
 }
 
-/// Plays it on the heap that is there, with the events that end a run, and writes what came of it.
+/// Plays it on the existing heap, with the events that end a run, and writes its summary.
 fn load_whole<D: Disk, K: Sink>(
     alloc: Global,
     disk: D,
@@ -81,6 +82,7 @@ fn load_whole<D: Disk, K: Sink>(
 
     ensures end { IsOpenedEnd result.0 }
     ensures disk { RunsDisk D.Disk disk result.1 (result.0 ≡ Status.DiskFault) }
+    ensures unfaulted { IsFaultless result.0 → CountsStay D.Disk disk result.1 }
     ensures sink { StreamCause (K.faults sink.old) (K.faults sink.new) (result.0 ≡ Status.WriteFault) }
     ensures restarts { IsTrue D.tells → D.restarts result.1 ≡ D.restarts disk }
     ensures unwritten { ¬ BlamesNoImage result.0 → sink.new ≡ sink.old }

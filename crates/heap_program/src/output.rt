@@ -20,10 +20,10 @@ use heap_io::{Sink, put_all};
 use script_text::reply_line;
 use std::alloc::{AllocError, Global};
 
-/// Why a text was not wholly written.
+/// Why a text was not written to its end.
 #[derive(Clone, Copy, Debug, PartialEq, Eq)]
 pub enum WriteError {
-    /// Memory was refused.
+    /// Out of memory.
     NoMemory,
     /// The sink failed.
     SinkFailed,
@@ -37,7 +37,7 @@ impl From<AllocError> for WriteError {
     }
 }
 
-/// The graph of an open heap fails only for want of memory.
+/// The graph of an open heap fails only for lack of memory.
 impl From<GraphError> for WriteError {
     ghost from_gives = { λ _ e. e ≡ NoMemory };
 
@@ -54,7 +54,7 @@ impl From<heap_io::SinkFailed> for WriteError {
     }
 }
 
-/// Writes the line of an event and its reply. No line is made for a sink that lets it go.
+/// Writes the line of an event and its reply. No line is made for a sink that discards it.
 pub fn write_line<K: Sink>(alloc: Global, entry: Entry, sink: &mut K) -> Result<(), WriteError>
     ensures sink { StreamCause (K.faults sink.old) (K.faults sink.new) (result ≡ Err SinkFailed) }
     ensures wrote { IsTrue K.tells → WroteText result (K.written sink.old) (line entry) (K.written sink.new) }
@@ -80,7 +80,7 @@ pub fn write_graph<D: Disk, K: Sink>(
     Ok(put_all(sink, &text)?)
 }
 
-/// How many of the commits that a log holds now came since it held those `before`: none where that is left out, since no event was made.
+/// How many of the commits that a log holds now came since it held those `before`: none if that is left out, since no event was made.
 fn count_since(before: Option<u64>, now: u64) -> u64
     ensures { result ≡ commits_since before now }
 {
@@ -90,7 +90,7 @@ fn count_since(before: Option<u64>, now: u64) -> u64
     }
 }
 
-/// Writes how many commits the heap's log holds more than `before`, and the graph. If that is left out, none were made.
+/// Writes how many more commits than `before` the heap's log holds, and the graph. If `before` is left out, none were made.
 pub fn write_recovered<D: Disk, K: Sink>(
     alloc: Global,
     heap: &Heap<D>,

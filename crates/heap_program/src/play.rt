@@ -1,5 +1,5 @@
-//! A script is played: each of its events is made on the heap, and its line is written.
-ghost use Rattle.std.specs.Prelude.{◌≡◌, [], ◌∷◌, None, Err, IsTrue};
+//! Plays a script: each of its events is made on the heap, and its line is written.
+ghost use Rattle.std.specs.Prelude.{◌≡◌, [], ◌∷◌, None, Ok, Err, IsTrue};
 ghost use Rattle.std.specs.List.{AllByRecursion};
 ghost use Rattle.graph_model.specs.declared.event.Event.TheVariants.{Seal, Force};
 ghost use Rattle.graph_model.specs.History.{IsSession, IsOfSession};
@@ -26,7 +26,7 @@ use std::alloc::{AllocError, Global};
 /// Why a play went no further.
 #[derive(Clone, Copy, Debug, PartialEq, Eq)]
 pub enum Halt {
-    /// Memory was refused.
+    /// Out of memory.
     NoMemory,
     /// A line could not be written.
     WriteFault,
@@ -78,7 +78,7 @@ pub fn play_lines<D: Disk, K: Sink>(
     sink: &mut K,
 ) -> Result<(), Halt>
     requires { AllByRecursion IsOfSession (events lines.now) }
-    ensures disk { PlaysDisk D.Disk (heap_disk heap.old) (heap_disk heap.new) (played_device result) }
+    ensures disk { PlaysDisk D.Disk (heap_disk heap.old) (heap_disk heap.new) (played_device result) (result ≡ Ok tt) }
     ensures sink { StreamCause (K.faults sink.old) (K.faults sink.new) (result ≡ Err Halt.WriteFault) }
     ensures core { (c : Core) → IsCore c heap.old → IsRunning c → PlaysCore c (events lines.now) heap.new K.tells (K.written sink.old) (K.written sink.new) result }
     ensures plays { IsTrue D.tells → (of : Super) (c : Core) → IsHeap of c heap.old → IsRunning c → Plays of c (events lines.now) heap.old heap.new K.tells (K.written sink.old) (K.written sink.new) result }
@@ -97,7 +97,7 @@ pub fn play_all<D: Disk, K: Sink>(
     sink: &mut K,
 ) -> Result<(), Halt>
     requires { AllByRecursion IsOfSession (events lines.now) }
-    ensures disk { PlaysDisk D.Disk (heap_disk heap.old) (heap_disk heap.new) (played_device result) }
+    ensures disk { PlaysDisk D.Disk (heap_disk heap.old) (heap_disk heap.new) (played_device result) (result ≡ Ok tt) }
     ensures sink { StreamCause (K.faults sink.old) (K.faults sink.new) (result ≡ Err Halt.WriteFault) }
     ensures core { (c : Core) → IsCore c heap.old → IsRunning c → PlaysCore c (all_events None c (events lines.now)) heap.new K.tells (K.written sink.old) (K.written sink.new) result }
     ensures plays { IsTrue D.tells → (of : Super) (c : Core) → IsHeap of c heap.old → IsRunning c → Plays of c (all_events None c (events lines.now)) heap.old heap.new K.tells (K.written sink.old) (K.written sink.new) result }
@@ -112,7 +112,7 @@ pub fn play_ending<D: Disk, K: Sink>(
     heap: &mut Heap<D>,
     sink: &mut K,
 ) -> Result<(), Halt>
-    ensures disk { PlaysDisk D.Disk (heap_disk heap.old) (heap_disk heap.new) (played_device result) }
+    ensures disk { PlaysDisk D.Disk (heap_disk heap.old) (heap_disk heap.new) (played_device result) (result ≡ Ok tt) }
     ensures sink { StreamCause (K.faults sink.old) (K.faults sink.new) (result ≡ Err Halt.WriteFault) }
     ensures core { (c : Core) → IsCore c heap.old → IsRunning c → PlaysCore c (ending c) heap.new K.tells (K.written sink.old) (K.written sink.new) result }
     ensures plays { IsTrue D.tells → (of : Super) (c : Core) → IsHeap of c heap.old → IsRunning c → Plays of c (ending c) heap.old heap.new K.tells (K.written sink.old) (K.written sink.new) result }
@@ -127,7 +127,7 @@ fn play_aborts<D: Disk, K: Sink>(
     heap: &mut Heap<D>,
     sink: &mut K,
 ) -> Result<(), Halt>
-    ensures disk { PlaysDisk D.Disk (heap_disk heap.old) (heap_disk heap.new) (played_device result) }
+    ensures disk { PlaysDisk D.Disk (heap_disk heap.old) (heap_disk heap.new) (played_device result) (result ≡ Ok tt) }
     ensures sink { StreamCause (K.faults sink.old) (K.faults sink.new) (result ≡ Err Halt.WriteFault) }
     ensures core { (c : Core) → IsCore c heap.old → IsRunning c → PlaysCore c (aborting c) heap.new K.tells (K.written sink.old) (K.written sink.new) result }
     ensures plays { IsTrue D.tells → (of : Super) (c : Core) → IsHeap of c heap.old → IsRunning c → Plays of c (aborting c) heap.old heap.new K.tells (K.written sink.old) (K.written sink.new) result }
@@ -146,7 +146,7 @@ fn play_abort<D: Disk, K: Sink>(
     sink: &mut K,
 ) -> Result<(), Halt>
     requires { IsSession s }
-    ensures disk { PlaysDisk D.Disk (heap_disk heap.old) (heap_disk heap.new) (played_device result) }
+    ensures disk { PlaysDisk D.Disk (heap_disk heap.old) (heap_disk heap.new) (played_device result) (result ≡ Ok tt) }
     ensures sink { StreamCause (K.faults sink.old) (K.faults sink.new) (result ≡ Err Halt.WriteFault) }
     ensures core { (c : Core) → IsCore c heap.old → IsRunning c → PlaysCore c (abort_of s (active_in c s)) heap.new K.tells (K.written sink.old) (K.written sink.new) result }
     ensures plays { IsTrue D.tells → (of : Super) (c : Core) → IsHeap of c heap.old → IsRunning c → Plays of c (abort_of s (active_in c s)) heap.old heap.new K.tells (K.written sink.old) (K.written sink.new) result }
@@ -159,7 +159,7 @@ fn play_abort<D: Disk, K: Sink>(
 
 /// Forces the pending records, if there are any.
 fn play_force<D: Disk, K: Sink>(alloc: Global, heap: &mut Heap<D>, sink: &mut K) -> Result<(), Halt>
-    ensures disk { PlaysDisk D.Disk (heap_disk heap.old) (heap_disk heap.new) (played_device result) }
+    ensures disk { PlaysDisk D.Disk (heap_disk heap.old) (heap_disk heap.new) (played_device result) (result ≡ Ok tt) }
     ensures sink { StreamCause (K.faults sink.old) (K.faults sink.new) (result ≡ Err Halt.WriteFault) }
     ensures core { (c : Core) → IsCore c heap.old → IsRunning c → PlaysCore c (forcing c) heap.new K.tells (K.written sink.old) (K.written sink.new) result }
     ensures plays { IsTrue D.tells → (of : Super) (c : Core) → IsHeap of c heap.old → IsRunning c → Plays of c (forcing c) heap.old heap.new K.tells (K.written sink.old) (K.written sink.new) result }
@@ -178,7 +178,7 @@ pub fn play_line<D: Disk, K: Sink>(
     sink: &mut K,
 ) -> Result<(), Halt>
     requires { AllByRecursion IsOfSession (line_events line) }
-    ensures disk { PlaysDisk D.Disk (heap_disk heap.old) (heap_disk heap.new) (played_device result) }
+    ensures disk { PlaysDisk D.Disk (heap_disk heap.old) (heap_disk heap.new) (played_device result) (result ≡ Ok tt) }
     ensures sink { StreamCause (K.faults sink.old) (K.faults sink.new) (result ≡ Err Halt.WriteFault) }
     ensures core { (c : Core) → IsCore c heap.old → IsRunning c → PlaysCore c (line_events line) heap.new K.tells (K.written sink.old) (K.written sink.new) result }
     ensures plays { IsTrue D.tells → (of : Super) (c : Core) → IsHeap of c heap.old → IsRunning c → Plays of c (line_events line) heap.old heap.new K.tells (K.written sink.old) (K.written sink.new) result }
@@ -197,7 +197,7 @@ fn play_commit<D: Disk, K: Sink>(
     sink: &mut K,
 ) -> Result<(), Halt>
     requires { IsSession s }
-    ensures disk { PlaysDisk D.Disk (heap_disk heap.old) (heap_disk heap.new) (played_device result) }
+    ensures disk { PlaysDisk D.Disk (heap_disk heap.old) (heap_disk heap.new) (played_device result) (result ≡ Ok tt) }
     ensures sink { StreamCause (K.faults sink.old) (K.faults sink.new) (result ≡ Err Halt.WriteFault) }
     ensures core { (c : Core) → IsCore c heap.old → IsRunning c → PlaysCore c (Seal s ∷ Force ∷ []) heap.new K.tells (K.written sink.old) (K.written sink.new) result }
     ensures plays { IsTrue D.tells → (of : Super) (c : Core) → IsHeap of c heap.old → IsRunning c → Plays of c (Seal s ∷ Force ∷ []) heap.old heap.new K.tells (K.written sink.old) (K.written sink.new) result }
@@ -214,7 +214,7 @@ fn play_event<D: Disk, K: Sink>(
     sink: &mut K,
 ) -> Result<(), Halt>
     requires { IsOfSession event }
-    ensures disk { PlaysDisk D.Disk (heap_disk heap.old) (heap_disk heap.new) (played_device result) }
+    ensures disk { PlaysDisk D.Disk (heap_disk heap.old) (heap_disk heap.new) (played_device result) (result ≡ Ok tt) }
     ensures sink { StreamCause (K.faults sink.old) (K.faults sink.new) (result ≡ Err Halt.WriteFault) }
     ensures core { (c : Core) → IsCore c heap.old → IsRunning c → PlaysCore c (event ∷ []) heap.new K.tells (K.written sink.old) (K.written sink.new) result }
     ensures plays { IsTrue D.tells → (of : Super) (c : Core) → IsHeap of c heap.old → IsRunning c → Plays of c (event ∷ []) heap.old heap.new K.tells (K.written sink.old) (K.written sink.new) result }

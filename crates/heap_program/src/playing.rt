@@ -1,4 +1,4 @@
-//! The command that plays a script, on a heap that is made afresh or on the one that is there.
+//! The command that plays a script, on a new heap or on the existing one.
 ghost use Rattle.std.specs.Prelude.{◌≡◌, ◌≢◌, ◌⊎◌, ℕ, ◌<◌, ◌≤◌, List, [], None, Some, Ok, Err, IfOk, IfErr, IfSome, IsTrue, OnOk};
 ghost use Rattle.counts.specs.Count.{Rose};
 ghost use Rattle.disk_model.specs.Disk.{Only};
@@ -7,11 +7,11 @@ ghost use Rattle.image_plan.specs.Plan.{image_size};
 ghost use Rattle.script_text.specs.declared.line.Line.{Line};
 ghost use Rattle.script_text.specs.declared.script.ScriptError.TheVariants.{Fault};
 ghost use Rattle.command_words.specs.Limits.{IsPages};
-ghost use Rattle.heap_program.specs.Causes.{StreamCause, RunsDisk, IsInputError, IsOpenedEnd, FailsByScript};
+ghost use Rattle.heap_program.specs.Causes.{StreamCause, RunsDisk, CountsStay, IsFaultless, IsInputError, IsOpenedEnd, FailsByScript};
 ghost use Rattle.heap_program.specs.Headline.{OfTold, IsPlayed, IsEndOfPlay, PrintsRun, PrintsSome, IsOfImage, IsOfOwnImage, Runs, CanPlay, IsUntouching, EndsUnread, EndsUnmade, BlamesNoImage, RestartsDisk, restarts_asked, starts_asked, stop_after};
 ghost use Rattle.heap_program.specs.Playable.{IsScript, IsReadFrom};
 ghost use Rattle.heap_recovery.specs.Faults.{IsLeftOf};
-ghost use Rattle.heap_program.specs.Refusals.{IsFault, IsWordFault, CallsOfOneOpening, fault_calls, IsToldOf, IsToldOfEach, EndsRefused, IsLeftAlone, LeavesAlone};
+ghost use Rattle.heap_program.specs.Refusals.{IsFault, IsWordFault, CallsOfOneOpening, CallsAtMostOneOpening, fault_calls, IsToldOf, IsToldOfEach, EndsRefused, IsLeftAlone, LeavesAlone};
 ghost use Rattle.heap_program.specs.Stored.{IsStored, stored_core, stored_calls};
 ghost use Rattle.heap_model.specs.Ending.{all_events};
 ghost use Rattle.heap_program.specs.Output.{early_end};
@@ -29,13 +29,13 @@ use heap_io::{Sink, Source, take_all};
 use script_text::{Line, MOST_BYTES, read_script};
 use std::alloc::Global;
 
-/// The bytes of the log of a heap that is made afresh.
+/// The bytes of the log of a new heap.
 pub const LOG_BYTES: u32 = 1_048_576;
 
 /// The number of its first transaction.
 pub const FIRST: u32 = 1;
 
-/// Plays the script that `source` gives, on a heap that is made afresh with `fresh` pages in each space, or on the one that is there.
+/// Plays the script that `source` gives, on a new heap with `fresh` pages in each space, or on the existing one.
 pub fn run_play<D: Disk, S: Source, K: Sink>(
     alloc: Global,
     fresh: Option<u32>,
@@ -54,6 +54,7 @@ pub fn run_play<D: Disk, S: Source, K: Sink>(
     ensures read_fault { StreamCause (S.faults source.old) (S.faults source.new) (result.0 ≡ Status.ReadFault) }
     ensures write_fault { StreamCause (K.faults sink.old) (K.faults sink.new) (result.0 ≡ Status.WriteFault) }
     ensures disk_fault { RunsDisk D.Disk disk result.1 (result.0 ≡ Status.DiskFault) }
+    ensures unfaulted { stop ≡ None → IsFaultless result.0 → CountsStay D.Disk disk result.1 }
     ensures untouched { IsUntouching result.0 → (result.1 ≡ disk) × (sink.new ≡ sink.old) }
     ensures read_whole { IsTrue S.tells → result.0 ≡ Status.Done → S.left source.new ≡ [] }
 
@@ -63,10 +64,10 @@ pub fn run_play<D: Disk, S: Source, K: Sink>(
         → ((result.0 ≢ Status.Done) × (K.written sink.new ≡ K.written sink.old)) ⊎ ((lines : List Line) × IsReadFrom S.tells (S.left source.old) lines × PrintsRun (IsOfOwnImage fresh D.tells (D.bytes disk)) (stop_after stop) lines result.0 (K.written sink.old) (K.written sink.new)) }
     ensures unwritten { stop ≡ None → ¬ BlamesNoImage result.0 → sink.new ≡ sink.old }
     ensures restarts { IsTrue D.tells → RestartsDisk (restarts_asked stop) result.0 (D.restarts disk) (D.restarts result.1) }
-    // Where a heap is there, or one was to be made on a disk that is large enough, and the script is good, the run ends as a play.
+    // If there is a heap, or one was to be made on a disk that is large enough, and the script is good, the run ends as a play.
     ensures complete { OfTold D.tells (D.bytes disk) (D.may_leave disk) (CanPlay fresh (D.extent disk) (D.bytes disk)
         → IsTrue S.tells → (lines : List Line) → script (S.left source.old) ≡ Ok lines → ¬ Rose (S.faults source.old) (S.faults source.new) → IsEndOfPlay result.0) }
-    // An image that can't be opened gives its own status, and nothing is written then; each status against it tells what is so, unless the disk was restarted.
+    // An image that can't be opened gives its own status, and nothing is written then; each status against it is true of it, unless the disk was restarted.
     ensures refused { IsTrue D.tells → fresh ≡ None → (Rose (D.restarts disk) (D.restarts result.1) → stop ≡ None) → IsToldOf result.0 (D.bytes disk) }
     ensures refused_at_end { OfTold D.tells (D.bytes disk) (D.may_leave disk) (IsToldOfEach result.0 (D.may_leave result.1)) }
     ensures refuses { OfTold D.tells (D.bytes disk) (D.may_leave disk) (fresh ≡ None → (expected : Status) → IsFault expected (D.bytes disk) → EndsRefused expected result.0 × (sink.new ≡ sink.old)) }
@@ -75,8 +76,9 @@ pub fn run_play<D: Disk, S: Source, K: Sink>(
     ensures sound { OfTold D.tells (D.bytes disk) (D.may_leave disk) ((pages : ℕ) → fresh ≡ Some pages → BlamesNoImage result.0) }
     ensures keeps_fault { OfTold D.tells (D.bytes disk) (D.may_leave disk) (fresh ≡ None → (expected : Status) → IsFault expected (D.bytes disk) → LeavesOnly D.moment D.left_since disk result.1 (IsFault expected)) }
     ensures keeps_log { OfTold D.tells (D.bytes disk) (D.may_leave disk) (fresh ≡ None → IsWordFault (D.bytes disk) → LeavesOnly D.moment D.left_since disk result.1 (IsLeftOf (D.bytes disk))) }
-    // Where no stop was asked, the writes and syncs are those of one opening of such an image.
+    // If no stop was asked, the writes and syncs are those of one opening of such an image; with a stop they are no more, unless the disk was restarted.
     ensures opens_once { IsTrue D.tells → fresh ≡ None → stop ≡ None → (fault : IsWordFault (D.bytes disk)) → CallsOfOneOpening (fault_calls fault) (D.passed disk) (D.passed result.1) result.0 }
+    ensures opens_few { IsTrue D.tells → fresh ≡ None → (Rose (D.restarts disk) (D.restarts result.1) → stop ≡ None) → (fault : IsWordFault (D.bytes disk)) → CallsAtMostOneOpening (fault_calls fault) (D.passed disk) (D.passed result.1) result.0 }
 {
     let script = match read_input(alloc, source) {
         Ok(script) => script,
@@ -91,7 +93,7 @@ pub fn run_play<D: Disk, S: Source, K: Sink>(
     }
 }
 
-/// Plays a script on the heap that is there, on a disk that is to stop or not.
+/// Plays a script on the existing heap, on a disk that is to stop or not.
 fn play_script<D: Disk, K: Sink>(
     alloc: Global,
     disk: D,
@@ -103,13 +105,14 @@ fn play_script<D: Disk, K: Sink>(
 
     ensures end { IsOpenedEnd result.0 }
     ensures disk { RunsDisk D.Disk disk result.1 (result.0 ≡ Status.DiskFault) }
+    ensures unfaulted { stop ≡ None → IsFaultless result.0 → CountsStay D.Disk disk result.1 }
     ensures sink { StreamCause (K.faults sink.old) (K.faults sink.new) (result.0 ≡ Status.WriteFault) }
     ensures restarts { IsTrue D.tells → RestartsDisk (restarts_asked stop) result.0 (D.restarts disk) (D.restarts result.1) }
     ensures unwritten { stop ≡ None → ¬ BlamesNoImage result.0 → sink.new ≡ sink.old }
     ensures prints { IsTrue K.tells → PrintsSome (IsOfImage D.tells (D.bytes disk)) (stop_after stop) script.now result.0 (K.written sink.old) (K.written sink.new) }
     ensures played { IsTrue D.tells → (stored : IsStored (D.bytes disk)) → Only (D.bytes disk) (D.may_leave disk)
         → IsPlayed D.Disk stop (stored_calls stored) (stored_core stored) (all_events (stop_after stop) (stored_core stored) (events script.now)) disk result.1 result.0 K.tells (K.written sink.old) (K.written sink.new) }
-    // An image that can't be opened gives its own status, and nothing is written then; each status against it tells what is so, unless the disk was restarted.
+    // An image that can't be opened gives its own status, and nothing is written then; each status against it is true of it, unless the disk was restarted.
     ensures refused { IsTrue D.tells → (Rose (D.restarts disk) (D.restarts result.1) → stop ≡ None) → IsToldOf result.0 (D.bytes disk) }
     ensures refused_at_end { IsTrue D.tells → Only (D.bytes disk) (D.may_leave disk) → IsToldOfEach result.0 (D.may_leave result.1) }
     ensures refuses { IsTrue D.tells → Only (D.bytes disk) (D.may_leave disk) → (expected : Status) → IsFault expected (D.bytes disk) → EndsRefused expected result.0 × (sink.new ≡ sink.old) }
@@ -118,6 +121,7 @@ fn play_script<D: Disk, K: Sink>(
     ensures keeps_fault { IsTrue D.tells → Only (D.bytes disk) (D.may_leave disk) → (expected : Status) → IsFault expected (D.bytes disk) → LeavesOnly D.moment D.left_since disk result.1 (IsFault expected) }
     ensures keeps_log { IsTrue D.tells → Only (D.bytes disk) (D.may_leave disk) → IsWordFault (D.bytes disk) → LeavesOnly D.moment D.left_since disk result.1 (IsLeftOf (D.bytes disk)) }
     ensures opens_once { IsTrue D.tells → stop ≡ None → (fault : IsWordFault (D.bytes disk)) → CallsOfOneOpening (fault_calls fault) (D.passed disk) (D.passed result.1) result.0 }
+    ensures opens_few { IsTrue D.tells → (Rose (D.restarts disk) (D.restarts result.1) → stop ≡ None) → (fault : IsWordFault (D.bytes disk)) → CallsAtMostOneOpening (fault_calls fault) (D.passed disk) (D.passed result.1) result.0 }
 {
     match stop {
         None => play_whole(alloc, disk, script, sink),
@@ -148,6 +152,7 @@ fn play_whole<D: Disk, K: Sink>(
 
     ensures end { IsOpenedEnd result.0 }
     ensures disk { RunsDisk D.Disk disk result.1 (result.0 ≡ Status.DiskFault) }
+    ensures unfaulted { IsFaultless result.0 → CountsStay D.Disk disk result.1 }
     ensures sink { StreamCause (K.faults sink.old) (K.faults sink.new) (result.0 ≡ Status.WriteFault) }
     ensures restarts { IsTrue D.tells → D.restarts result.1 ≡ D.restarts disk }
     ensures unwritten { ¬ BlamesNoImage result.0 → sink.new ≡ sink.old }
@@ -198,6 +203,7 @@ fn play_stopped<D: Disk, K: Sink>(
     ensures left_alone { IsTrue D.tells → (expected : Status) → IsFault expected (D.bytes disk) → IsLeftAlone expected → LeavesAlone D.Disk disk result.1 }
     ensures keeps_fault { IsTrue D.tells → Only (D.bytes disk) (D.may_leave disk) → (expected : Status) → IsFault expected (D.bytes disk) → LeavesOnly D.moment D.left_since disk result.1 (IsFault expected) }
     ensures keeps_log { IsTrue D.tells → Only (D.bytes disk) (D.may_leave disk) → IsWordFault (D.bytes disk) → LeavesOnly D.moment D.left_since disk result.1 (IsLeftOf (D.bytes disk)) }
+    ensures opens_few { IsTrue D.tells → ¬ Rose (D.restarts disk) (D.restarts result.1) → (fault : IsWordFault (D.bytes disk)) → CallsAtMostOneOpening (fault_calls fault) (D.passed disk) (D.passed result.1) result.0 }
 {
     let mut heap = match Heap::open(alloc, FuseDisk::new(disk, stop.after)) {
         Ok(heap) => heap,
@@ -217,7 +223,7 @@ fn play_stopped<D: Disk, K: Sink>(
     }
 }
 
-/// The status of a run that is to stop where it ends before the disk is started again.
+/// The status of a run that is to stop, if it ends before the disk is restarted.
 fn early_end(played: Result<(), Halt>) -> Option<Status>
     ensures { result ≡ early_end played }
 {

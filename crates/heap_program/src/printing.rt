@@ -13,7 +13,7 @@ ghost use Rattle.heap_model.specs.Image.{IsShaped};
 ghost use Rattle.heap_model.specs.Opening.{IsFound};
 ghost use Rattle.command_words.specs.Limits.{AreNumbers};
 ghost use Rattle.command_words.specs.declared.commands.Command.TheVariants as asked;
-ghost use Rattle.heap_program.specs.Causes.{StreamCause, RunsDisk, IsOpenedEnd};
+ghost use Rattle.heap_program.specs.Causes.{StreamCause, RunsDisk, CountsStay, IsOpenedEnd};
 ghost use Rattle.heap_program.specs.Commands.{IsEndOf, RunsFormat, PrintsGraph, WritesText, formatted_line};
 ghost use Rattle.heap_program.specs.Headline.{OfTold, IsEndOfPlay, BlamesNoImage, graph_text};
 ghost use Rattle.heap_program.specs.Output.{WroteText};
@@ -39,6 +39,7 @@ pub fn run_format<D: Disk, K: Sink>(
     requires { AreNumbers numbers }
 
     ensures disk { RunsDisk D.Disk disk result.1 (result.0 ≡ Status.DiskFault) }
+    ensures unfaulted { result.0 ≢ Status.DiskFault → CountsStay D.Disk disk result.1 }
     ensures sink { StreamCause (K.faults sink.old) (K.faults sink.new) (result.0 ≡ Status.WriteFault) }
     ensures too_small { (size need : ℕ) → result.0 ≡ Status.TooSmall size need → (result.1 ≡ disk) × (sink.new ≡ sink.old) × (size ≡ D.extent disk) × (need ≡ image_size numbers.pages numbers.log_bytes) × (size < need) }
     ensures small_told { D.extent disk < image_size numbers.pages numbers.log_bytes → result.0 ≡ Status.TooSmall (D.extent disk) (image_size numbers.pages numbers.log_bytes) }
@@ -65,10 +66,11 @@ fn write_size<K: Sink>(alloc: Global, numbers: Numbers, sink: &mut K) -> Result<
     Ok(put_all(sink, line.as_bytes())?)
 }
 
-/// Opens the heap that is there, and writes its graph.
+/// Opens the existing heap, and writes its graph.
 pub fn run_graph<D: Disk, K: Sink>(alloc: Global, disk: D, sink: &mut K) -> (Status, D)
     ensures end { IsOpenedEnd result.0 }
     ensures disk { RunsDisk D.Disk disk result.1 (result.0 ≡ Status.DiskFault) }
+    ensures unfaulted { result.0 ≢ Status.DiskFault → CountsStay D.Disk disk result.1 }
     ensures sink { StreamCause (K.faults sink.old) (K.faults sink.new) (result.0 ≡ Status.WriteFault) }
     // Of each shaped image, whatever graph stands in it, under whatever names.
     ensures graph { OfTold D.tells (D.bytes disk) (D.may_leave disk) ((s : Super) (batches : List (List Record)) (stored : Pages) → (shaped : IsShaped s batches stored (D.bytes disk)) → (born : Bool) (places : Places) (g : Graph) → IsFound s batches stored shaped.log born places g
@@ -76,7 +78,7 @@ pub fn run_graph<D: Disk, K: Sink>(alloc: Global, disk: D, sink: &mut K) -> (Sta
     ensures prints { IsTrue K.tells → ((result.0 ≢ Status.Done) × (K.written sink.new ≡ K.written sink.old)) ⊎ ((g : Graph) × WritesText result.0 (graph_text g) (K.written sink.old) (K.written sink.new)) }
     ensures unwritten { ¬ BlamesNoImage result.0 → sink.new ≡ sink.old }
     ensures restarts { IsTrue D.tells → D.restarts result.1 ≡ D.restarts disk }
-    // A status against the image tells what is so, and an image that can't be opened gives its own; nothing is written then.
+    // A status against the image is true of it, and an image that can't be opened gives its own; nothing is written then.
     ensures refused { IsTrue D.tells → IsToldOf result.0 (D.bytes disk) }
     ensures refused_at_end { IsTrue D.tells → Only (D.bytes disk) (D.may_leave disk) → IsToldOfEach result.0 (D.may_leave result.1) }
     ensures refuses { IsTrue D.tells → (expected : Status) → IsFault expected (D.bytes disk) → EndsRefused expected result.0 × (sink.new ≡ sink.old) }

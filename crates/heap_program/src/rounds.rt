@@ -1,5 +1,5 @@
-//! A load is played: round by round, so that no list of all lines is kept.
-ghost use Rattle.std.specs.Prelude.{◌≡◌, ◌<◌, ◌^◌, None, Err, IsTrue};
+//! Plays a load round by round, so that no list of all lines is kept.
+ghost use Rattle.std.specs.Prelude.{◌≡◌, ◌<◌, ◌^◌, None, Ok, Err, IsTrue};
 ghost use Rattle.std.specs.List.{AllByRecursion};
 ghost use Rattle.graph_model.specs.History.{IsOfSession};
 ghost use Rattle.image_plan.specs.declared.superblock.Super.{Super};
@@ -20,7 +20,7 @@ use heap_io::Sink;
 use script_text::Load;
 use std::alloc::Global;
 
-/// Makes the events of the load of `count` rounds that is made from `seed`, and then those that end a run. How far it is `watch` shows after each round.
+/// Makes the events of the load of `count` rounds that is made from `seed`, and then those that end a run. `watch` shows the progress after each round.
 pub fn play_load<D: Disk, K: Sink, W: Sink>(
     alloc: Global,
     heap: &mut Heap<D>,
@@ -30,7 +30,7 @@ pub fn play_load<D: Disk, K: Sink, W: Sink>(
     watch: &W,
 ) -> Result<(), Halt>
     requires { seed < 2 ^ 31 }
-    ensures disk { PlaysDisk D.Disk (heap_disk heap.old) (heap_disk heap.new) (played_device result) }
+    ensures disk { PlaysDisk D.Disk (heap_disk heap.old) (heap_disk heap.new) (played_device result) (result ≡ Ok tt) }
     ensures sink { StreamCause (K.faults sink.old) (K.faults sink.new) (result ≡ Err Halt.WriteFault) }
     ensures core { (c : Core) → IsCore c heap.old → IsRunning c → PlaysCore c (all_events None c (events (load_lines seed count))) heap.new K.tells (K.written sink.old) (K.written sink.new) result }
     ensures plays { IsTrue D.tells → (of : Super) (c : Core) → IsHeap of c heap.old → IsRunning c → Plays of c (all_events None c (events (load_lines seed count))) heap.old heap.new K.tells (K.written sink.old) (K.written sink.new) result }
@@ -39,7 +39,7 @@ pub fn play_load<D: Disk, K: Sink, W: Sink>(
     play_ending(alloc, heap, sink)
 }
 
-/// Makes the events of the rounds that are to come.
+/// Makes the events of the rounds that are left.
 fn play_rounds<D: Disk, K: Sink, W: Sink>(
     alloc: Global,
     heap: &mut Heap<D>,
@@ -49,7 +49,7 @@ fn play_rounds<D: Disk, K: Sink, W: Sink>(
     watch: &W,
 ) -> Result<(), Halt>
     requires { AllByRecursion IsOfSession (events (lines_left load)) }
-    ensures disk { PlaysDisk D.Disk (heap_disk heap.old) (heap_disk heap.new) (played_device result) }
+    ensures disk { PlaysDisk D.Disk (heap_disk heap.old) (heap_disk heap.new) (played_device result) (result ≡ Ok tt) }
     ensures sink { StreamCause (K.faults sink.old) (K.faults sink.new) (result ≡ Err Halt.WriteFault) }
     ensures core { (c : Core) → IsCore c heap.old → IsRunning c → PlaysCore c (events (lines_left load)) heap.new K.tells (K.written sink.old) (K.written sink.new) result }
     ensures plays { IsTrue D.tells → (of : Super) (c : Core) → IsHeap of c heap.old → IsRunning c → Plays of c (events (lines_left load)) heap.old heap.new K.tells (K.written sink.old) (K.written sink.new) result }

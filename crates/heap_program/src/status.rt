@@ -18,7 +18,7 @@ use std::fmt;
 pub enum Status {
     /// All was done and printed.
     Done,
-    /// Memory was refused.
+    /// Out of memory.
     NoMemory,
     /// The words of the command line are no command.
     Usage,
@@ -32,7 +32,7 @@ pub enum Status {
     DiskFault,
     /// The disk holds no heap.
     NotHeap,
-    /// The disk holds a heap that is damaged there.
+    /// The disk holds a heap that is damaged at that place.
     Damaged { at: At },
     /// The disk has `size` bytes of the `need` that the heap takes.
     TooSmall { size: u64, need: u64 },
@@ -160,7 +160,7 @@ impl From<Halt> for Status {
     }
 }
 
-/// How a run ends that has written its output, or could not.
+/// How a run ends after it has written its output, or failed to.
 pub fn status_after(written: Result<(), WriteError>) -> Status
     ensures { result ≡ status_after written }
 {

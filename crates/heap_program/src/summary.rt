@@ -1,4 +1,4 @@
-//! What came of a load: how many events it made, what they were answered, and how many objects the graph has.
+//! The summary of a load: how many events it made, what they were answered, and how many objects the graph has.
 ghost use Rattle.std.specs.Prelude.{◌≡◌, Some, count_by, IsTrue, None, Err};
 ghost use Rattle.heap_core.specs.HeapState.{failed_at};
 ghost use Rattle.heap_core.specs.Refinement.{IsCore};
@@ -17,7 +17,7 @@ use heap_io::{Sink, put_all};
 use std::alloc::Global;
 use std::fmt;
 
-/// What came of a load.
+/// The summary of a load.
 #[derive(Clone, Copy, Debug, PartialEq, Eq)]
 pub struct Summary {
     /// The number that it was made from.
@@ -95,7 +95,7 @@ fn collected(history: &History) -> usize
 }
 
 impl Summary {
-    /// That of a load which left this history and that many objects.
+    /// The summary of a load that left this history and that many objects.
     fn of(seed: u32, count: u32, history: &History, objects: u64) -> Summary
         ensures { result ≡ summary_of seed count history.now.entries objects }
     {

@@ -1,4 +1,4 @@
--- How answers go on.
+-- How answers continue.
 use Rattle.std.proofs.Common.{◌≡◌, ℕ, ◌+◌, Bool, List, [], ◌∷◌, ◌++◌, length, map, Option, Some, None, Ok, refl, sym, ap, ◌∙◌, subst, arith, append_assoc}
 use Rattle.std.specs.Prelude.{IsTrue, ◌≢◌}
 use Rattle.std.specs.List.{AllByRecursion}
@@ -47,7 +47,7 @@ run_heard c d (event ∷ events) run =
       ap (λ (l : List Event). event ∷ l) rest.2,
     )
 
--- one line more
+-- one more line
 pub asked_more : (answered : List Answered) (a : Answered) → asked (answered ++ a ∷ []) ≡ asked answered ++ named a.text
 asked_more answered a = flat_map-append (λ (x : Answered). named x.text) answered (a ∷ []) ∙ ap (λ (l : List Event). asked answered ++ l) (append-nil (named a.text))
 
@@ -84,7 +84,7 @@ refused_more c (x ∷ answered) a before may = (before.0, refused_more (after_ev
 pub answered_none : (c : Core) (told : Bool) (before : List ℕ) → HasAnswered c [] c told before before
 answered_none c told before = record { made = refl; heard = sym (append-nil c.history); own = tt; refused = tt; written = λ t. sym (append-nil before) }
 
--- One line more was answered.
+-- One more line was answered.
 module _ {D : Type 0} {g : Ghosts D} (c d : Core) (answered : List Answered) (told : Bool) (before between after : List ℕ) (so_far : HasAnswered c answered d told before between)
     (number : ℕ) (count : number ≡ length answered + 1) (text : Option (List ℕ)) (new : Heap D g) (answers : Answers d number text new told between after (Ok tt)) where
   abbrev plays : PlaysCore d (named text) new told answers.between after (Ok tt)

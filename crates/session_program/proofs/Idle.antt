@@ -23,7 +23,7 @@ module _ (c : Core) (s : ℕ) (low : 1 ≤ s) (has : Bool) (is : has ≡ is_some
   next : (s - 1) + 1 ≡ s
   next = omega arith
 
-  -- one session more has no transaction
+  -- one more session has no transaction
   pub none_more : IsFalse has → aborting_until (s - 1) c ≡ [] → aborting_until ((s + 1) - 1) c ≡ []
   none_more none_there before =
       let same : (s + 1) - 1 ≡ (s - 1) + 1 = omega arith in

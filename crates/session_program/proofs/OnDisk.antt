@@ -1,4 +1,4 @@
--- What is played on a disk that tells is played as on any disk.
+-- What is played on a modelled disk is played as on any disk.
 use Rattle.std.proofs.Common.{◌≡◌, inl, inr, ℕ, Bool, List, [], ◌∷◌, ◌++◌, Option, Some, Result, Ok, Err, refl, sym, ap, ◌∙◌, subst}
 use Rattle.std.specs.Prelude.{◌⊎◌, IsTrue}
 use Rattle.std.proofs.lemmas.List.{append-nil}
@@ -11,6 +11,7 @@ use Rattle.image_plan.specs.declared.superblock.Super.{Super}
 use Rattle.heap_core.specs.declared.heap.Heap.{Heap}
 use Rattle.heap_core.specs.Refinement.{IsHeap}
 use Rattle.heap_model.specs.Core.{Core, IsRun}
+use Rattle.heap_program.proofs.Unfaulted.{counts_none}
 use Rattle.heap_program.specs.declared.output.WriteError.{WriteError}
 use Rattle.heap_program.specs.declared.output.WriteError.TheVariants as writing
 use Rattle.heap_program.specs.declared.play.Halt.{Halt}
@@ -69,7 +70,7 @@ module _ {D : Type 0} {g : Ghosts D} where
   }
 
   module _ (s : Super) (c : Core) where
-    -- memory was refused: nothing was made
+    -- memory ran out: nothing was made
     plays_nothing : (events : List Event) (heap : Heap D g) (told : Bool) (before : List ℕ) → IsHeap s c heap → Plays s c events heap heap told before before (Err halt.NoMemory)
     plays_nothing events heap told before is = record {
       made = [];
@@ -77,7 +78,7 @@ module _ {D : Type 0} {g : Ghosts D} where
       parts = refl;
       core = c;
       steps = (refl, refl);
-      ends = inl (record { reached = refl; passes = refl });
+      ends = inl (record { reached = refl; passes = refl; still = counts_none g heap.disk });
       heap = is;
       written = λ t. nothing_since c.history before;
     }
@@ -91,7 +92,7 @@ module _ {D : Type 0} {g : Ghosts D} where
       parts = refl;
       core = c;
       steps = (refl, refl);
-      ends = inl (record { reached = refl; passes = refl });
+      ends = inl (record { reached = refl; passes = refl; still = counts_none g heap.disk });
       heap = is;
       written = λ t. stops_since c.history before;
     }
@@ -107,7 +108,7 @@ module _ {D : Type 0} {g : Ghosts D} where
       }
 
       module _ (is : IsHeap s c heap) where
-        -- memory was refused
+        -- memory ran out
         pub nothing_on : AnswersOn s c number text heap heap told before before (Err halt.NoMemory)
         nothing_on = record { between = before; fault = λ t. none_written before (fault_of number text); plays = plays_nothing (named text) heap told before is }
 

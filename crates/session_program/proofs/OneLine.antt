@@ -86,7 +86,7 @@ module _ {D : Type 0} {g : Ghosts D} (c : Core) where
     }
 
     module _ (is : IsCore c heap) where
-      -- memory was refused
+      -- memory ran out
       pub line_nothing : Answers c number text heap told before before (Err halt.NoMemory)
       line_nothing = record { between = before; fault = λ t. none_written before (fault_of number text); plays = core_nothing c (named text) heap told before is }
 

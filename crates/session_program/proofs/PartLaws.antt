@@ -42,12 +42,12 @@ module _ {D S K : Type 0} (g : Ghosts D) (s : sources.Ghosts S) (k : sinks.Ghost
     same : ServesPart g s k here status.Done next.Reopen closed
     same = subst (λ (x : Status). ServesPart g s k here x next.Reopen closed) done (subst (λ (x : Next). ServesPart g s k here by x closed) is part)
 
-    -- it was told that the heap was closed
+    -- it was reported that the heap was closed
     pub told_part : (sink : K) → k.faults closed.sink ≤ k.faults sink → (IsTrue k.tells → k.written sink ≡ k.written closed.sink ++ closed_line)
         → Parts g s k (suc count) old (record { disk = closed.disk; held = closed.held; source = closed.source; sink = sink })
     told_part sink kept told = (here, parts, record { closed = closed; part = same; disk = refl; held = refl; source = refl; sink = kept; told = told })
 
-    -- and that could not be told
+    -- and that could not be reported
     pub untold_part : (sink : K) → Rose (k.faults closed.sink) (k.faults sink) → (IsTrue k.tells → WroteFront (k.written closed.sink) closed_line (k.written sink))
         → ServesParts g s k old status.WriteFault (record { disk = closed.disk; held = closed.held; source = closed.source; sink = sink })
     untold_part sink rose front = record {

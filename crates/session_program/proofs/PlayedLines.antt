@@ -1,4 +1,4 @@
--- A session between two lines, on a disk that tells.
+-- A session between two lines, on a modelled disk.
 use Rattle.std.proofs.Common.{◌≡◌, inl, inr, ℕ, ◌+◌, ◌≤◌, Bool, false, List, [], ◌∷◌, ◌++◌, map, Option, None, Some, Result, Ok, Err, refl, sym, ap, ◌∙◌, subst}
 use Rattle.std.specs.Prelude.{IsTrue, IsFalse}
 use Rattle.std.specs.List.{AllByRecursion}
@@ -12,6 +12,7 @@ use Rattle.heap_core.specs.declared.heap.Heap.{Heap}
 use Rattle.heap_core.specs.Refinement.{IsHeap}
 use Rattle.heap_model.specs.Core.{Core}
 use Rattle.heap_model.specs.Ending.{ending}
+use Rattle.heap_program.proofs.Unfaulted.{counts_none}
 use Rattle.heap_program.specs.declared.play.Halt.{Halt}
 use Rattle.heap_program.specs.declared.play.Halt.TheVariants as halt
 use Rattle.heap_program.specs.Play.{IsRunning, MakesAll, Makes, Plays}
@@ -35,7 +36,7 @@ use Rattle.session_program.proofs.SoFar.{SoFar, texts_of, so_far_none, so_far_ne
 use Rattle.session_program.proofs.Unread.{Unread}
 
 module _ {D : Type 0} {g : Ghosts D} (s : Super) where
-  -- Events that all were made, and others behind them.
+  -- Events that all were made, and others after them.
   module _ (c core : Core) (events named_events : List Event) (old heap new : Heap D g) (told : Bool) (now after : List ℕ)
       (steps : AreSteps (HeapStep g) c old.disk events core heap.disk) (makes : MakesAll c events core old heap) where
     -- where all of the others were made too
@@ -76,7 +77,7 @@ module _ {D : Type 0} {g : Ghosts D} (s : Super) where
   on_none tells left c heap passing fresh told before is running = record {
     so_far = so_far_none tells left c heap passing fresh told before is.core running;
     steps = (refl, refl);
-    makes = record { reached = refl; passes = refl };
+    makes = record { reached = refl; passes = refl; still = counts_none g heap.disk };
     is = is;
   }
 
@@ -88,7 +89,7 @@ module _ {D : Type 0} {g : Ghosts D} (s : Super) where
     abbrev core : Core
     core = so_far.core
 
-    -- one line more
+    -- one more line
     on_next : (text : Option (List ℕ)) → MayRefuse core text → AnswersOn s core number text heap new told now after (Ok tt) → (IsTrue tells → Unread left (texts_of so_far.answered ++ text ∷ []) passing' rest)
         → SoFarOn tells left c old new passing' rest (number + 1) told before after
     on_next text may answers unread =
@@ -139,7 +140,7 @@ module _ {D : Type 0} {g : Ghosts D} (s : Super) where
       is = record { lines = lines_parted tells left c heap new passing passing' stream rest number told before now after so_far idle; makes = still_makes (Ok next.Reopen) };
     }
 
-    -- so many bytes are left in the source now
+    -- that many bytes are left in the source now
     module _ (left' : List ℕ) where
       -- no line is left
       pub done_on : (IsTrue tells → IsFalse passing × (stream ≡ [])) → ServesLinesOn s tells left left' c old heap told before now (Ok next.End)

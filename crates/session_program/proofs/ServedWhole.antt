@@ -36,13 +36,13 @@ use Rattle.heap_program.specs.declared.play.Halt.{Halt}
 use Rattle.heap_program.specs.declared.play.Halt.TheVariants as halt
 use Rattle.heap_program.specs.declared.status.Status.{Status}
 use Rattle.heap_program.specs.declared.status.Status.TheVariants as status
-use Rattle.heap_program.specs.Causes.{DiskRose, Unharmed}
+use Rattle.heap_program.specs.Causes.{DiskRose, CountsStay, Unharmed}
 use Rattle.heap_program.specs.Headline.{KeepsThroughout, CountsOpening}
 use Rattle.heap_program.specs.Play.{IsRunning, MadeAll, IsCutBy, MakesAll, MakesShort, Makes, Plays}
 use Rattle.heap_program.specs.StatusOf.{open_status, halt_status}
 use Rattle.heap_program.specs.Stored.{IsStored, stored_core, stored_calls}
 use Rattle.heap_core.specs.Steps.{HeapStep, AreSteps}
-use Rattle.heap_program.proofs.Causes.{reply_rose}
+use Rattle.heap_program.proofs.Causes.{disk_rose}
 use Rattle.heap_program.proofs.CoreSteps.{makes_run, running_after}
 use Rattle.heap_program.proofs.Counts.{counted_mono}
 use Rattle.heap_core.proofs.StepsLaws.{heap_leaves}
@@ -53,11 +53,13 @@ use Rattle.heap_program.proofs.PlayLaws.{ends_makes, plays_none}
 use Rattle.heap_program.proofs.Ready.{AreReady}
 use Rattle.heap_program.proofs.Reopened.{outside_memory}
 use Rattle.heap_program.proofs.Statuses.{halt_not_done, open_not_done}
+use Rattle.heap_program.specs.Causes.{IsFaultless}
+use Rattle.heap_program.proofs.Unfaulted.{halt_faulty}
 use Rattle.session_program.specs.declared.ending.Break.{Break}
 use Rattle.session_program.specs.declared.ending.Break.TheVariants.{Halted, ReadFault}
 use Rattle.session_program.specs.declared.parts.Next.{Next}
 use Rattle.session_program.specs.declared.parts.Next.TheVariants as next
-use Rattle.session_program.specs.Ending.{break_status, session_device, session_status, next_of}
+use Rattle.session_program.specs.Ending.{break_status, session_device, session_status, IsUncut, next_of}
 use Rattle.session_program.specs.Lines.{asked}
 use Rattle.session_program.specs.Served.{NotServed, ServesEvents, IsServed}
 use Rattle.session_program.specs.Session.{EndsLines, MakesSession, ServesLines, ServesLinesOn, Serves, ServesOn, lines_last, session_last, last_of}
@@ -176,8 +178,8 @@ module _ {D : Type 0} {g : Ghosts D} {bytes : List ℕ} (stored : IsStored bytes
   module _ (unharmed : DiskRose (g.faults old.disk) (g.stops old.disk) (g.faults new.disk) (g.stops new.disk) → ⊥) where
     short_harm : (reply : Reply) → MakesShort c made at_end old new reply → DiskRose (g.faults old.disk) (g.stops old.disk) (g.faults new.disk) (g.stops new.disk)
     short_harm reply short = ⊎_elim
-        (λ (is : reply ≡ Refused DiskFault). reply_rose g old.disk new.disk reply device.Failed short.cause (ap reply_device is))
-        (λ (is : reply ≡ Refused Stopped). reply_rose g old.disk new.disk reply device.Stopped short.cause (ap reply_device is))
+        (λ (is : reply ≡ Refused DiskFault). disk_rose _ _ _ _ (reply_device reply) device.Failed short.cause (ap reply_device is))
+        (λ (is : reply ≡ Refused Stopped). disk_rose _ _ _ _ (reply_device reply) device.Stopped short.cause (ap reply_device is))
         short.cut.told
 
     -- Where the disk does what it is asked, all events were made, with all their calls.
@@ -188,9 +190,9 @@ module _ {D : Type 0} {g : Ghosts D} {bytes : List ℕ} (stored : IsStored bytes
         on.makes.makes
 
   pub served_opened : IsTrue g.tells → HasImages g → LeavesOnly g.moment g.left_since start old.disk (IsCommitPrefix c) → LeavesOnly g.moment g.left_since start old.disk (SameBehind c (g.bytes start))
-      → ((image : List ℕ) → g.may_leave old.disk image → IsCommitPrefix c image) → g.passed old.disk ≡ counted n (g.passed start) → g.restarts old.disk ≡ g.restarts start
+      → ((image : List ℕ) → g.may_leave old.disk image → IsCommitPrefix c image) → g.passed old.disk ≡ counted n (g.passed start) → g.restarts old.disk ≡ g.restarts start → CountsStay g start old.disk
       → (Unharmed g start new.disk → Unharmed g old.disk new.disk) → IsServed g n tells left rest c start new.disk (session_status result) (next_of result) told before after
-  served_opened told_disk has opening behind here passed restarts unharmed =
+  served_opened told_disk has opening behind here passed restarts counts unharmed =
       let sum = ap (counted (total_calls c made)) passed ∙ counted-add (total_calls c made) n (g.passed start) in
       record {
         made = made;
@@ -205,6 +207,7 @@ module _ {D : Type 0} {g : Ghosts D} {bytes : List ℕ} (stored : IsStored bytes
           passed = λ u some. passed;
           few = omega (arith, passed);
           restarts = restarts;
+          still = λ some. counts;
           stopped = new.disk;
           steps = own_steps g start told_disk c at_end old.disk new.disk made on.makes.steps;
           rest = begins g.moment g.left_since new.disk (IsCommitPrefix at_end) (λ image since. kept image (has.now new.disk image since));
@@ -246,6 +249,7 @@ module _ {D : Type 0} (g : Ghosts D) {bytes : List ℕ} (stored : IsStored bytes
           passed = λ u some. absurd (some refl);
           few = few;
           restarts = restarts;
+          still = λ some. absurd (some refl);
           stopped = final;
           steps = (refl, refl);
           rest = begins g.moment g.left_since final (IsCommitPrefix c) (λ image since. here image (now image since));
@@ -263,7 +267,12 @@ module _ {D : Type 0} (g : Ghosts D) {bytes : List ℕ} (stored : IsStored bytes
         settled = λ other whole. only (outside_memory e outside other);
       }
 
--- Without a fault a session is done, or memory was refused.
+-- a session that breaks off without a fault was cut short in no event
+pub broken_uncut : (b : Break) → IsFaultless (break_status b) → IsUncut (Err b)
+broken_uncut (Halted h) none = halt_faulty h none
+broken_uncut ReadFault none = tt
+
+-- Without a fault a session is done, or memory ran out.
 pub broken_memory : (b : Break) → (b ≡ ReadFault → ⊥) → (b ≡ Halted halt.WriteFault → ⊥) → (session_device (Err b) ≡ Err device.Failed → ⊥) → (session_device (Err b) ≡ Err device.Stopped → ⊥)
     → (break_status b ≡ status.Done) ⊎ (break_status b ≡ status.NoMemory)
 broken_memory ReadFault read write failed stopped = absurd (read refl)

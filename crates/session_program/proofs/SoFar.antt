@@ -32,7 +32,7 @@ pub same_length : (answered : List Answered) → length (texts_of answered) ≡ 
 same_length [] = refl
 same_length (a ∷ answered) = let e = same_length answered in omega (arith, e)
 
--- what was taken of an input that tells its bytes
+-- what was taken of a modelled input
 abbrev pub part_of : (tells : Bool) (left : List ℕ) (texts : List (Option (List ℕ))) (passing : Bool) (stream : List ℕ) → (IsTrue tells → Unread left texts passing stream) → List ℕ
 part_of true left texts passing stream unread = (unread refl).taken
 part_of false left texts passing stream unread = []
@@ -71,7 +71,7 @@ module _ {D : Type 0} {g : Ghosts D} where
 
   module _ (tells : Bool) (left : List ℕ) (c : Core) (heap new : Heap D g) (passing passing' : Bool) (stream rest : List ℕ) (number : ℕ) (told : Bool) (before now after : List ℕ)
       (so_far : SoFar tells left c heap passing stream number told before now) where
-    -- one line more
+    -- one more line
     abbrev pub so_far_next : (text : Option (List ℕ)) → MayRefuse so_far.core text → Answers so_far.core number text new told now after (Ok tt) → (IsTrue tells → Unread left (texts_of so_far.answered ++ text ∷ []) passing' rest)
         → SoFar tells left c new passing' rest (number + 1) told before after
     so_far_next text may answers unread =
@@ -104,11 +104,11 @@ module _ {D : Type 0} {g : Ghosts D} where
     abbrev pub never : MayRefuse so_far.core None
     never is = absurd (cc is)
 
-    -- what is unread behind the next line
+    -- what is unread after the next line
     pub behind_line : (text : List ℕ) → (IsTrue tells → IsFalse passing × IsFalse passing' × IsFirstLine text stream rest) → IsTrue tells → Unread left (texts_of so_far.answered ++ Some text ∷ []) passing' rest
     behind_line text taken t = let u = taken t in unread_line left (texts_of so_far.answered) passing passing' stream rest (so_far.unread t) text u.0 u.1 u.2
 
-    -- and behind one that is too long
+    -- and after one that is too long
     pub behind_long : (IsTrue tells → IsFalse passing' × EndsTooLong passing stream rest) → IsTrue tells → Unread left (texts_of so_far.answered ++ None ∷ []) passing' rest
     behind_long taken t = let u = taken t in unread_long left (texts_of so_far.answered) passing passing' stream rest (so_far.unread t) u.0 u.1
 
@@ -151,7 +151,7 @@ module _ {D : Type 0} {g : Ghosts D} where
         → OfInput tells next.Reopen left rest left' (λ part rest'. ServesLines tells part rest' c heap told before now (Ok next.Reopen))
     parted idle taken left' = record { part = part; rest = []; input = (is_part taken, refl); is = lines_parted idle }
 
-    -- so many bytes are left in the source now
+    -- that many bytes are left in the source now
     module _ (left' : List ℕ) where
       -- no line is left
       abbrev pub lines_done : (IsTrue tells → IsFalse passing × (stream ≡ [])) → ServesLines tells left left' c heap told before now (Ok next.End)
@@ -180,7 +180,7 @@ module _ {D : Type 0} {g : Ghosts D} where
       abbrev pub lines_unread : (held : List ℕ) → (IsTrue tells → stream ≡ held ++ left') → IsWithinLine held → ServesLines tells left left' c heap told before now (Err ReadFault)
       lines_unread held same within = record { answered = so_far.answered; core = so_far.core; between = now; answers = so_far.answers; first = first; ended = (there refl, taken held same within) }
 
-      -- nor was there memory
+      -- nor did memory suffice
       abbrev pub lines_nothing : ServesLines tells left left' c heap told before now (Err (Halted halt.NoMemory))
       lines_nothing = record { answered = so_far.answered; core = so_far.core; between = now; answers = so_far.answers; first = first; ended = inr (refl, there refl) }
 

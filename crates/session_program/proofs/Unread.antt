@@ -1,4 +1,4 @@
--- The lines that are left behind those that were taken.
+-- The lines that are left after those that were taken.
 use Rattle.std.proofs.Common.{◌≡◌, ◌⊎◌, inl, inr, ℕ, ◌<◌, Bool, false, true, List, [], ◌∷◌, ◌++◌, length, map, Option, Some, None, refl, sym, ap, ◌∙◌, subst, arith, append_assoc, length-append}
 use Rattle.std.specs.Prelude.{IsTrue, IsFalse}
 use Rattle.std.proofs.lemmas.List.{append-nil, map-append}
@@ -39,7 +39,7 @@ cut_behind front text stream rest within cut = record {
   ];
 }
 
--- More can be read behind what was taken, if more is left: the lines of both are those of each.
+-- More can be read after what was taken, if more is left: the lines of both are those of each.
 abbrev IsEnded : List ℕ → List ℕ → Type 0
 IsEnded taken left = 0 < length left → (more : List ℕ) → lines (taken ++ more) ≡ lines taken ++ lines more
 

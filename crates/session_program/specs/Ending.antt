@@ -23,7 +23,7 @@ abbrev pub break_status : Break → Status
 break_status (Halted h) = halt_status h
 break_status ReadFault = status.ReadFault
 
--- also where it came to the end of its input
+-- also at the end of its input
 abbrev pub session_status : Result Next Break → Status
 session_status (Ok next) = status.Done
 session_status (Err b) = break_status b
@@ -33,7 +33,13 @@ abbrev pub session_device : Result Next Break → Result (Unit {0}) DiskError
 session_device (Err (Halted h)) = played_device (Err h)
 session_device result = Ok tt
 
--- what comes behind it
+-- No event of it was cut short: it came to its end or to a line that parts it, or the next line could not be read.
+abbrev pub IsUncut : Result Next Break → Type 0
+IsUncut (Ok next) = Unit {0}
+IsUncut (Err (Halted h)) = ⊥
+IsUncut (Err ReadFault) = Unit {0}
+
+-- what follows it
 abbrev pub next_of : Result Next Break → Next
 next_of (Ok n) = n
 next_of (Err b) = next.End

@@ -13,11 +13,11 @@ use Rattle.line_reader.specs.declared.reader.TheConstants.{MOST_LINE}
 abbrev pub fault_line : ℕ → List ℕ
 fault_line number = codes "script fault at line " ++ decimal number ++ 10 ∷ []
 
--- the line that asks that the heap be opened again
+-- the line that requests that the heap be opened again
 abbrev pub reopen_line : List ℕ
 reopen_line = codes "reopen"
 
--- the line that says that it was not the time for that
+-- the line that says that `reopen` was not allowed then
 abbrev pub unfinished_line : List ℕ
 unfinished_line = codes "reopen -> unfinished" ++ 10 ∷ []
 
@@ -25,7 +25,7 @@ unfinished_line = codes "reopen -> unfinished" ++ 10 ∷ []
 abbrev pub closed_line : List ℕ
 closed_line = codes "reopen -> closed" ++ 10 ∷ []
 
--- what is said against a line that is not in the grammar
+-- what is answered to a line that is not in the grammar
 abbrev pub said_against : ℕ → List ℕ → List ℕ
 said_against number text = if bytes_eq text reopen_line then unfinished_line else fault_line number
 
@@ -34,7 +34,7 @@ abbrev pub found_events : Option Line → List Event
 found_events None = []
 found_events (Some line) = line_events line
 
--- what is said against it
+-- what is answered to a bad line
 abbrev pub found_fault : ℕ → List ℕ → Option Line → List ℕ
 found_fault number text None = said_against number text
 found_fault number text (Some line) = []
@@ -45,7 +45,7 @@ named None = []
 named (Some []) = []
 named (Some (b ∷ text)) = found_events (read_text (b ∷ text))
 
--- what is said against it, where it is not empty and not in the grammar
+-- what is answered to it, if it is not empty and not in the grammar
 abbrev pub fault_of : ℕ → Option (List ℕ) → List ℕ
 fault_of number None = fault_line number
 fault_of number (Some []) = []
@@ -68,11 +68,11 @@ asked answered = flat_map (λ a. named a.text) answered
 abbrev pub heard_of : List Answered → List Entry
 heard_of answered = flat_map (λ a. a.heard) answered
 
--- their answers, where the first of them has that number
+-- their answers, if the first of them has that number
 abbrev pub answers_text : ℕ → List Answered → List ℕ
 answers_text number [] = []
 answers_text number (a ∷ answered) = (fault_of number a.text ++ lines_text a.heard) ++ answers_text (number + 1) answered
 
--- a line as it is taken: none of its bytes where they are too many
+-- a line as it is taken: none of its bytes if they are too many
 abbrev pub as_taken : List ℕ → Option (List ℕ)
 as_taken line = if nat_lt MOST_LINE (length line) then None else Some line

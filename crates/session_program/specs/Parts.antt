@@ -1,4 +1,4 @@
--- What a session promises that a line `reopen` may part: each part of it is served on the disk that the one before it left.
+-- What a session promises that lines `reopen` may divide: each part of it is served on the disk that the one before it left.
 use Rattle.std.specs.Prelude.{◌≡◌, ◌≢◌, ◌⊎◌, ℕ, ◌≤◌, List, ◌++◌, IsTrue}
 use Rattle.std.proofs.Common.{zero, suc}
 use Rattle.counts.specs.Count.{Rose}
@@ -9,10 +9,10 @@ use Rattle.heap_io.specs.declared.sink.Sink as sinks
 use Rattle.heap_io.specs.declared.source.Source as sources
 use Rattle.heap_program.specs.declared.status.Status.{Status}
 use Rattle.heap_program.specs.declared.status.Status.TheVariants as status
-use Rattle.heap_program.specs.Causes.{DiskRose, StreamCause, RunsDisk}
+use Rattle.heap_program.specs.Causes.{DiskRose, StreamCause, RunsDisk, CountsStay, IsFaultless}
 use Rattle.heap_program.specs.Headline.{OfTold, BlamesNoImage, IsOfImage}
 use Rattle.heap_program.specs.Play.{WroteFront}
-use Rattle.heap_program.specs.Refusals.{IsFault, IsWordFault, IsToldOf, IsToldOfEach, EndsRefused, IsLeftAlone, LeavesAlone}
+use Rattle.heap_program.specs.Refusals.{IsFault, IsWordFault, CallsOfOneOpening, fault_calls, IsToldOf, IsToldOfEach, EndsRefused, IsLeftAlone, LeavesAlone}
 use Rattle.heap_program.specs.Stored.{IsStored, stored_core, stored_calls}
 use Rattle.heap_recovery.specs.Faults.{IsLeftOf}
 use Rattle.session_program.specs.declared.parts.Next.{Next}
@@ -22,7 +22,7 @@ use Rattle.session_program.specs.Lines.{closed_line}
 use Rattle.session_program.specs.Served.{IsServed}
 use Rattle.session_program.specs.Session.{OfInput, ServesHeap}
 
--- Where a session stands between two parts: its disk, the bytes that were taken of its source and belong to lines to come, and its streams.
+-- The state of a session between two parts: its disk, the bytes that were taken of its source and belong to lines to come, and its streams.
 pub record Place (D S K : Type 0) : Type 0 where
   pub disk : D
   pub held : List ℕ
@@ -42,18 +42,20 @@ module _ {D S K : Type 0} (g : Ghosts D) (s : sources.Ghosts S) (k : sinks.Ghost
     pub read_fault : StreamCause (s.faults old.source) (s.faults new.source) (by ≡ status.ReadFault)
     pub write_fault : StreamCause (k.faults old.sink) (k.faults new.sink) (by ≡ status.WriteFault)
     pub disk_fault : RunsDisk g old.disk new.disk (by ≡ status.DiskFault)
+    -- A part that is done, or was refused by its image, or whose source failed, met no fault of the disk.
+    pub unfaulted : IsFaultless by → CountsStay g old.disk new.disk
     -- On any disk: the heap was not opened, and nothing was read or written; or the lines that were taken were answered in their order.
     pub serves : ((by ≢ status.Done) × (new.source ≡ old.source) × (new.sink ≡ old.sink))
         ⊎ OfInput s.tells n (stream old) (stream new) (s.left new.source)
         (λ part rest. ServesHeap g (IsOfImage g.tells (g.bytes old.disk)) s.tells part rest new.disk by n k.tells (k.written old.sink) (k.written new.sink))
-    -- On a modelled disk, with the heap that is there: nothing was done to the disk but in the opening and in events, and each moment of it is told.
+    -- On a modelled disk, with the existing heap: nothing was done to the disk but in the opening and in events, and each moment of it is described.
     pub served : OfTold g.tells (g.bytes old.disk) (g.may_leave old.disk) ((stored : IsStored (g.bytes old.disk)) → OfInput s.tells n (stream old) (stream new) (s.left new.source)
         (λ part rest. IsServed g (stored_calls stored) s.tells part rest (stored_core stored) old.disk new.disk by n k.tells (k.written old.sink) (k.written new.sink)))
     pub restarts : IsTrue g.tells → g.restarts new.disk ≡ g.restarts old.disk
-    -- Without a fault it is done, if memory is there.
+    -- Without a fault it is done, if memory suffices.
     pub complete : OfTold g.tells (g.bytes old.disk) (g.may_leave old.disk) (IsStored (g.bytes old.disk) → ¬ Rose (s.faults old.source) (s.faults new.source) → ¬ Rose (k.faults old.sink) (k.faults new.sink)
         → ¬ DiskRose (g.faults old.disk) (g.stops old.disk) (g.faults new.disk) (g.stops new.disk) → (by ≡ status.Done) ⊎ (by ≡ status.NoMemory))
-    -- A status against the image tells what is so, and an image that can't be opened gives its own; nothing is read or written then.
+    -- A status against the image is true of it, and an image that can't be opened gives its own; nothing is read or written then.
     pub unwritten : ¬ BlamesNoImage by → (new.source ≡ old.source) × (new.sink ≡ old.sink)
     pub refused : IsTrue g.tells → IsToldOf by (g.bytes old.disk)
     pub refused_at_end : IsTrue g.tells → Only (g.bytes old.disk) (g.may_leave old.disk) → IsToldOfEach by (g.may_leave new.disk)
@@ -63,8 +65,10 @@ module _ {D S K : Type 0} (g : Ghosts D) (s : sources.Ghosts S) (k : sinks.Ghost
     pub keeps_fault : IsTrue g.tells → Only (g.bytes old.disk) (g.may_leave old.disk) → (expected : Status) → IsFault expected (g.bytes old.disk) → LeavesOnly g.moment g.left_since old.disk new.disk (IsFault expected)
     -- One that is damaged at an address keeps its log, or has that log rolled back, and each byte outside of the log is as it was.
     pub keeps_log : OfTold g.tells (g.bytes old.disk) (g.may_leave old.disk) (IsWordFault (g.bytes old.disk) → LeavesOnly g.moment g.left_since old.disk new.disk (IsLeftOf (g.bytes old.disk)))
+    -- It makes the writes and syncs of one opening of it: all where it tells the damage, and no more where the disk fails.
+    pub opens_once : IsTrue g.tells → (fault : IsWordFault (g.bytes old.disk)) → CallsOfOneOpening (fault_calls fault) (g.passed old.disk) (g.passed new.disk) by
 
-  -- A part was served up to a line `reopen`, and that the heap was closed was told.
+  -- A part was served up to a line `reopen`, and it was reported that the heap was closed.
   pub record Reopens (old new : Place D S K) : Type 0 where
     pub closed : Place D S K
     pub part : ServesPart old status.Done next.Reopen closed
@@ -74,12 +78,12 @@ module _ {D S K : Type 0} (g : Ghosts D) (s : sources.Ghosts S) (k : sinks.Ghost
     pub sink : k.faults closed.sink ≤ k.faults new.sink
     pub told : IsTrue k.tells → k.written new.sink ≡ k.written closed.sink ++ closed_line
 
-  -- So many parts were served one after another, each on the disk that the one before it left.
+  -- A number of parts were served one after another, each on the disk that the one before it left.
   abbrev pub Parts : ℕ → Place D S K → Place D S K → Type 0
   Parts zero old new = new ≡ old
   Parts (suc n) old new = (mid : Place D S K) × Parts n old mid × Reopens mid new
 
-  -- A part was served up to a line `reopen`, and that could not be told.
+  -- A part was served up to a line `reopen`, and that could not be reported.
   pub record Untold (old : Place D S K) (by : Status) (new : Place D S K) : Type 0 where
     pub closed : Place D S K
     pub part : ServesPart old status.Done next.Reopen closed
@@ -89,7 +93,7 @@ module _ {D S K : Type 0} (g : Ghosts D) (s : sources.Ghosts S) (k : sinks.Ghost
     pub sink : Rose (k.faults closed.sink) (k.faults new.sink)
     pub front : IsTrue k.tells → WroteFront (k.written closed.sink) closed_line (k.written new.sink)
 
-  -- How the last part ends: it is served; or the line before it could not be told; or there is no memory, and it was not begun.
+  -- How the last part ends: it is served; or the line before it could not be reported; or memory ran out, and it was not begun.
   abbrev pub EndsParts : Place D S K → Status → Place D S K → Type 0
   EndsParts old by new = ServesPart old by next.End new ⊎ Untold old by new ⊎ ((by ≡ status.NoMemory) × (new.disk ≡ old.disk) × (new.source ≡ old.source) × (new.sink ≡ old.sink))
 

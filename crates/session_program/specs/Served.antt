@@ -43,8 +43,8 @@ module _ {D : Type 0} (g : Ghosts D) where
     pub events : made ≡ asked serves.answered ++ (last_of tells left rest c heap told before after result serves).0
     pub reached : core ≡ (last_of tells left rest c heap told before after result serves).1
 
-  -- A session with the heap that was there, which was opened as the core c with so many calls. At each moment a crash left first commits, and
-  -- among them all that had been acknowledged or forced; nothing was done to the disk but in an event.
+  -- A session with the existing heap, which was opened as the core c with `at_opening` calls. At each moment a crash left a commit prefix with
+  -- all that had been acknowledged or forced; nothing was done to the disk but in an event.
   pub record IsServed (at_opening : ℕ) (tells : Bool) (left rest : List ℕ) (c : Core) (start final : D) (by : Status) (n : Next) (told : Bool) (before after : List ℕ) : Type 0 where
     pub made : List Event
     pub core : Core
@@ -61,7 +61,7 @@ module _ {D : Type 0} (g : Ghosts D) where
     pub opens : CountsOpening at_opening by made counts
     pub calls : Unharmed g start final → g.passed final ≡ counted (counts + total_calls c made) (g.passed start)
     pub most : g.passed final ≤ counted (at_opening + total_calls c made) (g.passed start)
-    -- each commit had the replies that the commits have one after another
+    -- each commit had the replies that it has when the commits are run one after another
     pub replies : replies_of_commits core.history ≡ serial_replies core.g0 (commits core.history)
     -- a session that is done leaves nothing unsynced, nor does one that the disk did not end, unless its last event was cut short
     pub durable : by ≡ status.Done → Only (g.bytes final) (g.may_leave final)

@@ -34,13 +34,13 @@ use Rattle.session_program.specs.Lines.{reopen_line, Answered, IsOfItsEvents, as
 abbrev pub MayRefuse : Core → Option (List ℕ) → Type 0
 MayRefuse c text = text ≡ Some reopen_line → ending c ≢ []
 
--- Each line `reopen` among these was refused where it may be.
+-- Each line `reopen` among these was refused as it may be.
 abbrev pub RefusesReopens : Core → List Answered → Type 0
 RefusesReopens c [] = Unit {0}
 RefusesReopens c (a ∷ answered) = MayRefuse c a.text × RefusesReopens (after_events c (named a.text)) answered
 
 -- Lines were answered from a core on: the disk did what it was asked in all of their events, which are a run of the core, and each
--- answer was written behind the one before it.
+-- answer was written after the one before it.
 pub record HasAnswered (c : Core) (answered : List Answered) (d : Core) (told : Bool) (before after : List ℕ) : Type 0 where
   pub made : MadeAll c (asked answered) d
   pub heard : d.history ≡ c.history ++ heard_of answered
@@ -48,7 +48,7 @@ pub record HasAnswered (c : Core) (answered : List Answered) (d : Core) (told : 
   pub refused : RefusesReopens c answered
   pub written : IsTrue told → after ≡ before ++ answers_text 1 answered
 
--- A text was written, or a first part of it where that halted.
+-- A text was written, or a prefix of it if that halted.
 abbrev pub Wrote : Result (Unit {0}) Halt → List ℕ → List ℕ → List ℕ → Type 0
 Wrote (Ok done) before text after = after ≡ before ++ text
 Wrote (Err h) before text after = WroteFront before text after
@@ -66,7 +66,7 @@ pub record AnswersTaken (texts : List (Option (List ℕ))) (left rest : List ℕ
   pub answered : map as_taken (lines taken) ≡ texts
   pub within : IsWithinLine hand
 
--- A part of a stream, up to a line `reopen`, and the rest of the stream behind that line.
+-- A part of a stream, up to a line `reopen`, and the rest of the stream after that line.
 pub record IsPart (part stream rest : List ℕ) : Type 0 where
   pub behind : List ℕ
   pub parts : stream ≡ part ++ behind
@@ -85,12 +85,12 @@ pub record OfInput (tells : Bool) (n : Next) (stream stream' left' : List ℕ) (
   pub input : InputOf tells n stream stream' left' part rest
   pub is : holds part rest
 
--- Where the heap is to be opened again, nothing is to be done before.
+-- If the heap is to be opened again, nothing has to be done before.
 abbrev pub IsIdle : Next → Core → Type 0
 IsIdle next.End c = Unit {0}
 IsIdle next.Reopen c = ending c ≡ []
 
--- Lines were answered from a core on, the first ones of an input that tells its bytes, and then it ended so.
+-- Lines were answered from a core on, the first ones of a modelled input, and then it ended so.
 pub record Session (tells : Bool) (left : List ℕ) (c : Core) (told : Bool) (before : List ℕ) (ends : List (Option (List ℕ)) → Core → List ℕ → Type 0) : Type 0 where
   pub answered : List Answered
   pub core : Core
@@ -100,13 +100,13 @@ pub record Session (tells : Bool) (left : List ℕ) (c : Core) (told : Bool) (be
   pub ended : ends (map (λ a. a.text) answered) core between
 
 module _ {D : Type 0} {g : Ghosts D} where
-  -- The line with that number was answered, or that halted: what is said against it was written, and its events were played.
+  -- The line with that number was answered, or that halted: what is answered to it was written, and its events were played.
   pub record Answers (c : Core) (number : ℕ) (text : Option (List ℕ)) (new : Heap D g) (told : Bool) (before after : List ℕ) (result : Result (Unit {0}) Halt) : Type 0 where
     pub between : List ℕ
     pub fault : IsTrue told → Wrote result before (fault_of number text) between
     pub plays : PlaysCore c (named text) new told between after result
 
-  -- On a disk that tells: likewise, and each step says what it left on the disk.
+  -- On a modelled disk: likewise, and each step says what it left on the disk.
   pub record AnswersOn (s : Super) (c : Core) (number : ℕ) (text : Option (List ℕ)) (old new : Heap D g) (told : Bool) (before after : List ℕ) (result : Result (Unit {0}) Halt) : Type 0 where
     pub between : List ℕ
     pub fault : IsTrue told → Wrote result before (fault_of number text) between
@@ -143,7 +143,7 @@ module _ {D : Type 0} {g : Ghosts D} where
     Ends (Err (Halted h)) texts c between =
         HaltsAtLine tells left texts c new told between after h ⊎ PlaysEnding tells left texts c new told between after (Err h) ⊎ ((h ≡ halt.NoMemory) × StopsThere c new told between after)
 
-    -- what was played behind the lines that were answered: the events that were made, and the core that they led to
+    -- what was played after the lines that were answered: the events that were made, and the core that they led to
     abbrev pub lines_last : (result : Result Next Break) (texts : List (Option (List ℕ))) (c : Core) (between : List ℕ) → EndsLines result texts c between → List Event × Core
     lines_last (Ok n) texts c between ended = ([], c)
     lines_last (Err ReadFault) texts c between ended = ([], c)
@@ -172,7 +172,7 @@ module _ {D : Type 0} {g : Ghosts D} where
   abbrev pub last_of : (tells : Bool) (left rest : List ℕ) (c : Core) (new : Heap D g) (told : Bool) (before after : List ℕ) (result : Result Next Break) → Serves tells left rest c new told before after result → List Event × Core
   last_of tells left rest c new told before after result serves = session_last tells left rest new told after result (map (λ a. a.text) serves.answered) serves.core serves.between serves.ended
 
-  -- On a disk that tells: the events of the lines that were answered were made, and those that were played last, and each step says what it
+  -- On a modelled disk: the events of the lines that were answered were made, and those that were played last, and each step says what it
   -- left on the disk.
   pub record MakesSession (s : Super) (c : Core) (old new : Heap D g) (answered : List Answered) (last : List Event × Core) (result : Result Next Break) : Type 0 where
     pub own : AllByRecursion IsOfSession (asked answered ++ last.0)

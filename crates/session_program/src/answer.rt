@@ -1,5 +1,5 @@
-//! One line is answered.
-ghost use Rattle.std.specs.Prelude.{◌≡◌, Some, Err, IsTrue};
+//! Answers one line.
+ghost use Rattle.std.specs.Prelude.{◌≡◌, Some, Ok, Err, IsTrue};
 ghost use Rattle.heap_core.specs.HeapState.{heap_disk};
 ghost use Rattle.heap_core.specs.Refinement.{IsCore, IsHeap};
 ghost use Rattle.heap_model.specs.Core.{Core};
@@ -20,7 +20,7 @@ use script_text::read_text;
 use std::alloc::Global;
 
 /// Answers a line: its events are made, and their lines written. An empty line has no answer. One that is not in the grammar is answered
-/// so, and a `reopen` that it was not the time for.
+/// so, and so is a `reopen` that was not allowed then.
 pub fn answer<D: Disk, K: Sink>(
     alloc: Global,
     heap: &mut Heap<D>,
@@ -28,7 +28,7 @@ pub fn answer<D: Disk, K: Sink>(
     text: &[u8],
     sink: &mut K,
 ) -> Result<(), Halt>
-    ensures disk { PlaysDisk D.Disk (heap_disk heap.old) (heap_disk heap.new) (played_device result) }
+    ensures disk { PlaysDisk D.Disk (heap_disk heap.old) (heap_disk heap.new) (played_device result) (result ≡ Ok tt) }
     ensures sink { StreamCause (K.faults sink.old) (K.faults sink.new) (result ≡ Err Halt.WriteFault) }
     ensures core { (c : Core) → IsCore c heap.old → IsRunning c → Answers c number (Some text.now) heap.new K.tells (K.written sink.old) (K.written sink.new) result }
     ensures plays { IsTrue D.tells → (of : Super) (c : Core) → IsHeap of c heap.old → IsRunning c → AnswersOn of c number (Some text.now) heap.old heap.new K.tells (K.written sink.old) (K.written sink.new) result }
@@ -42,7 +42,7 @@ pub fn answer<D: Disk, K: Sink>(
     }
 }
 
-/// Writes what is said against a line that is not in the grammar.
+/// Writes the answer to a line that is not in the grammar.
 fn object<K: Sink>(alloc: Global, number: u64, text: &[u8], sink: &mut K) -> Result<(), WriteError>
     ensures sink { StreamCause (K.faults sink.old) (K.faults sink.new) (result ≡ Err SinkFailed) }
     ensures wrote { IsTrue K.tells → WroteText result (K.written sink.old) (said_against number text.now) (K.written sink.new) }

@@ -1,4 +1,4 @@
-//! A session with the heap that is there: each line that comes is answered before the next one is read. The program over it is
+//! A session with the existing heap: each line that comes is answered before the next one is read. The program over it is
 //! `heap_session`.
 #![tactic(auto)]
 

@@ -1,4 +1,4 @@
-//! A line `reopen` parts a session: behind it the heap is closed, and opened again for the lines that follow.
+//! A line `reopen` divides a session: after it the heap is closed, and opened again for the lines that follow.
 ghost use Rattle.std.specs.Prelude.{◌≡◌, ◌≢◌, [], IsTrue, IsFalse, bytes_eq};
 ghost use Rattle.heap_core.specs.Refinement.{IsCore};
 ghost use Rattle.heap_model.specs.Core.{Core};
@@ -9,7 +9,7 @@ use disk_model::Disk;
 use graph_model::{FIRST_SESSION, LAST_SESSION};
 use heap_core::Heap;
 
-/// What comes behind a part of a session.
+/// What follows a part of a session.
 #[derive(Clone, Copy, Debug, PartialEq, Eq)]
 pub enum Next {
     /// Nothing.
@@ -18,15 +18,15 @@ pub enum Next {
     Reopen,
 }
 
-/// Whether a line asks that the heap be opened again.
+/// Whether a line requests that the heap be opened again.
 pub fn asks_reopen(text: &[u8]) -> bool
     ensures { result ≡ bytes_eq text.now reopen_line }
 {
     matches!(text, b"reopen")
 }
 
-/// Whether a line parts the session there: it asks for that, and no session has a transaction and no records are pending, so that
-/// nothing is to be done before the heap is closed.
+/// Whether a line divides the session there: it asks for that, and no session has a transaction and no records are pending, so that
+/// nothing has to be done before the heap is closed.
 pub fn parts_session<D: Disk>(heap: &Heap<D>, text: &[u8]) -> bool
     ensures line { IsTrue result → text.now ≡ reopen_line }
     ensures idle { (c : Core) → IsCore c heap.now → IsTrue result → ending c ≡ [] }

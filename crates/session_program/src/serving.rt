@@ -8,13 +8,13 @@ ghost use Rattle.heap_core.specs.Refinement.{IsCore, IsHeap};
 ghost use Rattle.heap_model.specs.Core.{Core};
 ghost use Rattle.image_plan.specs.declared.superblock.Super.{Super};
 ghost use Rattle.heap_program.specs.declared.play.Halt.TheVariants as halt;
-ghost use Rattle.heap_program.specs.Causes.{DiskRose, StreamCause, RunsDisk, PlaysDisk};
+ghost use Rattle.heap_program.specs.Causes.{DiskRose, StreamCause, RunsDisk, CountsStay, IsFaultless, PlaysDisk};
 ghost use Rattle.heap_program.specs.Headline.{OfTold, BlamesNoImage, IsOfImage};
 ghost use Rattle.heap_program.specs.Play.{IsRunning};
 ghost use Rattle.heap_program.specs.Stored.{IsStored, stored_core, stored_calls};
 ghost use Rattle.heap_recovery.specs.Faults.{IsLeftOf};
-ghost use Rattle.heap_program.specs.Refusals.{IsFault, IsWordFault, IsToldOf, IsToldOfEach, EndsRefused, IsLeftAlone, LeavesAlone};
-ghost use Rattle.session_program.specs.Ending.{IsSessionEnd, session_device, next_of};
+ghost use Rattle.heap_program.specs.Refusals.{IsFault, IsWordFault, CallsOfOneOpening, fault_calls, IsToldOf, IsToldOfEach, EndsRefused, IsLeftAlone, LeavesAlone};
+ghost use Rattle.session_program.specs.Ending.{IsSessionEnd, session_device, IsUncut, next_of};
 ghost use Rattle.session_program.specs.Session.{OfInput, ServesLines, ServesLinesOn, Serves, ServesOn, ServesHeap};
 ghost use Rattle.session_program.specs.Parts.{ServesParts};
 ghost use Rattle.session_program.specs.Served.{IsServed};
@@ -29,11 +29,11 @@ use heap_program::{Halt, Status, play_ending};
 use line_reader::{LineReader, Taken};
 use std::alloc::Global;
 
-/// More than come: so the number of a line can be counted.
+/// More lines than a session can have: so the number of a line can be counted.
 const MOST_TURNS: u64 = u64::MAX - 1;
 
-/// Serves a session on the heap that is there: answers the lines that `source` gives, each before the next one is read. A line `reopen`
-/// parts it: the heap is closed, which is told, and opened again for the lines that follow. Behind the last line the sessions that have a
+/// Serves a session on the existing heap: answers the lines that `source` gives, each before the next one is read. A line `reopen`
+/// divides it: the heap is closed, which is reported, and opened again for the lines that follow. After the last line the sessions that have a
 /// transaction abort, ascending, and pending records are forced.
 pub fn serve<D: Disk, S: Source, K: Sink>(
     alloc: Global,
@@ -46,9 +46,11 @@ pub fn serve<D: Disk, S: Source, K: Sink>(
     ensures read_fault { StreamCause (S.faults source.old) (S.faults source.new) (result.0 ≡ Status.ReadFault) }
     ensures write_fault { StreamCause (K.faults sink.old) (K.faults sink.new) (result.0 ≡ Status.WriteFault) }
     ensures disk_fault { RunsDisk D.Disk disk result.1 (result.0 ≡ Status.DiskFault) }
+    // A session that is done, or was refused by its image, or whose source failed, met no fault of the disk.
+    ensures unfaulted { IsFaultless result.0 → CountsStay D.Disk disk result.1 }
     ensures restarts { IsTrue D.tells → D.restarts result.1 ≡ D.restarts disk }
 
-    // Parts were served, each on the disk that the one before it left: what is promised of a session in which no line parts it is promised of each.
+    // Parts were served, each on the disk that the one before it left: what is promised of a session without such a line is promised of each.
     ensures parts { (held : List ℕ) × ServesParts D.Disk S.Source K.Sink (record { disk = disk; held = []; source = source.old; sink = sink.old }) result.0 (record { disk = result.1; held = held; source = source.new; sink = sink.new }) }
 {
     let mut reader = match LineReader::new(alloc) {
@@ -68,11 +70,11 @@ pub fn serve<D: Disk, S: Source, K: Sink>(
             }
         }
     }
-    // So many parts don't come either.
+    // There are never that many parts either.
     (Status::NoMemory, disk)
 }
 
-/// Serves a part of it: opens the heap, and answers lines up to a `reopen` for which it is the time, or to the end of the input.
+/// Serves a part of it: opens the heap, and answers lines up to a `reopen` that is allowed, or to the end of the input.
 fn serve_part<D: Disk, S: Source, K: Sink>(
     alloc: Global,
     disk: D,
@@ -88,18 +90,20 @@ fn serve_part<D: Disk, S: Source, K: Sink>(
     ensures read_fault { StreamCause (S.faults source.old) (S.faults source.new) (result.0 ≡ Status.ReadFault) }
     ensures write_fault { StreamCause (K.faults sink.old) (K.faults sink.new) (result.0 ≡ Status.WriteFault) }
     ensures disk_fault { RunsDisk D.Disk disk result.1 (result.0 ≡ Status.DiskFault) }
+    // A session that is done, or was refused by its image, or whose source failed, met no fault of the disk.
+    ensures unfaulted { IsFaultless result.0 → CountsStay D.Disk disk result.1 }
 
     // On any disk: the heap was not opened, and nothing was read or written; or the lines that were taken were answered in their order.
     ensures serves { ((result.0 ≢ Status.Done) × (source.new ≡ source.old) × (sink.new ≡ sink.old)) ⊎ OfInput S.tells result.2 (reader.old.held ++ S.left source.old) (reader.new.held ++ S.left source.new) (S.left source.new) (λ part rest. ServesHeap D.Disk (IsOfImage D.tells (D.bytes disk)) S.tells part rest result.1 result.0 result.2 K.tells (K.written sink.old) (K.written sink.new)) }
 
-    // On a modelled disk, with the heap that is there: nothing was done to the disk but in the opening and in events, and each moment of it is told.
+    // On a modelled disk, with the existing heap: nothing was done to the disk but in the opening and in events, and each moment of it is described.
     ensures served { OfTold D.tells (D.bytes disk) (D.may_leave disk) ((stored : IsStored (D.bytes disk)) → OfInput S.tells result.2 (reader.old.held ++ S.left source.old) (reader.new.held ++ S.left source.new) (S.left source.new) (λ part rest. IsServed D.Disk (stored_calls stored) S.tells part rest (stored_core stored) disk result.1 result.0 result.2 K.tells (K.written sink.old) (K.written sink.new))) }
     ensures restarts { IsTrue D.tells → D.restarts result.1 ≡ D.restarts disk }
-    // Without a fault it is done, if memory is there.
+    // Without a fault it is done, if memory suffices.
     ensures complete { OfTold D.tells (D.bytes disk) (D.may_leave disk) (IsStored (D.bytes disk) → ¬ Rose (S.faults source.old) (S.faults source.new) → ¬ Rose (K.faults sink.old) (K.faults sink.new)
         → ¬ DiskRose (D.faults disk) (D.stops disk) (D.faults result.1) (D.stops result.1) → (result.0 ≡ Status.Done) ⊎ (result.0 ≡ Status.NoMemory)) }
 
-    // A status against the image tells what is so, and an image that can't be opened gives its own; nothing is read or written then.
+    // A status against the image is true of it, and an image that can't be opened gives its own; nothing is read or written then.
     ensures unwritten { ¬ BlamesNoImage result.0 → (source.new ≡ source.old) × (sink.new ≡ sink.old) }
     ensures refused { IsTrue D.tells → IsToldOf result.0 (D.bytes disk) }
     ensures refused_at_end { IsTrue D.tells → Only (D.bytes disk) (D.may_leave disk) → IsToldOfEach result.0 (D.may_leave result.1) }
@@ -109,6 +113,8 @@ fn serve_part<D: Disk, S: Source, K: Sink>(
     ensures keeps_fault { IsTrue D.tells → Only (D.bytes disk) (D.may_leave disk) → (expected : Status) → IsFault expected (D.bytes disk) → LeavesOnly D.moment D.left_since disk result.1 (IsFault expected) }
     // One that is damaged at an address keeps its log, or has that log rolled back, and each byte outside of the log is as it was.
     ensures keeps_log { OfTold D.tells (D.bytes disk) (D.may_leave disk) (IsWordFault (D.bytes disk) → LeavesOnly D.moment D.left_since disk result.1 (IsLeftOf (D.bytes disk))) }
+    // It makes the writes and syncs of one opening of it: all where it tells the damage, and no more where the disk fails.
+    ensures opens_once { IsTrue D.tells → (fault : IsWordFault (D.bytes disk)) → CallsOfOneOpening (fault_calls fault) (D.passed disk) (D.passed result.1) result.0 }
 {
     let mut heap = match Heap::open(alloc, disk) {
         Ok(heap) => heap,
@@ -130,7 +136,7 @@ fn serve_all<D: Disk, S: Source, K: Sink>(
 ) -> Result<Next, Break>
     requires fresh { IsTrue S.tells → IsFalse reader.old.passing }
     ensures fresh { result ≡ Ok Next.Reopen → IsTrue S.tells → IsFalse reader.new.passing }
-    ensures disk { PlaysDisk D.Disk (heap_disk heap.old) (heap_disk heap.new) (session_device result) }
+    ensures disk { PlaysDisk D.Disk (heap_disk heap.old) (heap_disk heap.new) (session_device result) (IsUncut result) }
     ensures source { StreamCause (S.faults source.old) (S.faults source.new) (result ≡ Err Break.ReadFault) }
     ensures sink { StreamCause (K.faults sink.old) (K.faults sink.new) (result ≡ Err (Break.Halted halt.WriteFault)) }
     ensures core { (c : Core) → IsCore c heap.old → IsRunning c → OfInput S.tells (next_of result) (reader.old.held ++ S.left source.old) (reader.new.held ++ S.left source.new) (S.left source.new) (λ part rest. Serves S.tells part rest c heap.new K.tells (K.written sink.old) (K.written sink.new) result) }
@@ -145,7 +151,7 @@ fn serve_all<D: Disk, S: Source, K: Sink>(
     }
 }
 
-/// Answers one line after another, up to one that parts the session.
+/// Answers one line after another, up to one that divides the session.
 fn serve_lines<D: Disk, S: Source, K: Sink>(
     alloc: Global,
     heap: &mut Heap<D>,
@@ -155,7 +161,7 @@ fn serve_lines<D: Disk, S: Source, K: Sink>(
 ) -> Result<Next, Break>
     requires fresh { IsTrue S.tells → IsFalse reader.old.passing }
     ensures fresh { result ≡ Ok Next.Reopen → IsTrue S.tells → IsFalse reader.new.passing }
-    ensures disk { PlaysDisk D.Disk (heap_disk heap.old) (heap_disk heap.new) (session_device result) }
+    ensures disk { PlaysDisk D.Disk (heap_disk heap.old) (heap_disk heap.new) (session_device result) (IsUncut result) }
     ensures source { StreamCause (S.faults source.old) (S.faults source.new) (result ≡ Err Break.ReadFault) }
     ensures sink { StreamCause (K.faults sink.old) (K.faults sink.new) (result ≡ Err (Break.Halted halt.WriteFault)) }
     ensures core { (c : Core) → IsCore c heap.old → IsRunning c → OfInput S.tells (next_of result) (reader.old.held ++ S.left source.old) (reader.new.held ++ S.left source.new) (S.left source.new) (λ part rest. ServesLines S.tells part rest c heap.new K.tells (K.written sink.old) (K.written sink.new) result) }
@@ -172,6 +178,6 @@ fn serve_lines<D: Disk, S: Source, K: Sink>(
         }
         number += 1;
     }
-    // So many turns don't come; a session that took them would have used up its memory.
+    // There are never that many turns; a session that took them would have used up its memory.
     Err(Break::Halted(Halt::NoMemory))
 }

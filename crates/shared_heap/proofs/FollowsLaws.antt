@@ -1,4 +1,4 @@
--- What a heap becomes by one event more.
+-- What a heap becomes by one more event.
 use Rattle.std.proofs.Common.{◌≡◌, ℕ, List, [], ◌∷◌, ◌++◌, Result, Ok, Err, sym, refl, ap, ◌∙◌, subst, arith, append_assoc, append-nil}
 use Rattle.std.proofs.lemmas.List.{map-append}
 use Rattle.std.specs.Prelude.{IsTrue, MatchResult, IfOk, OnErr}
@@ -26,8 +26,8 @@ use Rattle.heap_model.specs.CoreCrash.{IsCommitPrefix}
 use Rattle.heap_model.proofs.Step.Calls.{run_step}
 use Rattle.core_laws.proofs.Run.Events.{run_reached}
 use Rattle.core_laws.specs.Valid.{IsReached}
-use Rattle.shared_heap.proofs.Lists.{all_last, all_weaker}
-use Rattle.shared_heap.specs.Follows.{events_of, StaysDisk, Reaches, ReachesOn, IsCaused, Follows}
+use Rattle.shared_heap.proofs.Lists.{all_last, all_parts, all_weaker}
+use Rattle.shared_heap.specs.Follows.{events_of, StaysDisk, Reaches, ReachesOn, IsCaused, IsUncut, Follows}
 use Rattle.shared_heap.specs.Shared.{Told}
 
 module _ {D : Type 0} (g : Ghosts D) where
@@ -41,7 +41,7 @@ module _ {D : Type 0} {g : Ghosts D} where
   pub stays_none : (disk : D) → StaysDisk g disk disk
   stays_none disk = record { extent = refl; origin = refl; faults_kept = omega arith; stops_kept = omega arith; restarts = λ told. refl }
 
-  -- one call more, whatever it was answered
+  -- one more call, whatever it was answered
   pub stays_on : {T : Type 0} (old mid new : D) (result : Result T DiskError) → StaysDisk g old mid → KeepsDisk g mid new result → StaysDisk g old new
   stays_on old mid new result stays kept = record {
     extent = kept.extent ∙ stays.extent;
@@ -59,6 +59,7 @@ module _ {D : Type 0} {g : Ghosts D} where
     sessions = tt;
     disk = stays_none (heap_disk heap);
     causes = tt;
+    still = λ none. (refl, refl);
     core = λ c is reached. record { core = c; run = refl; is = is };
     holds = λ tells s c is reached. record { core = c; steps = (refl, refl); is = is };
   }
@@ -98,7 +99,7 @@ module _ {D : Type 0} {g : Ghosts D} where
           is = n.2;
         }
 
-    -- One event more.
+    -- One more event.
     pub follows_step : Follows first new
     follows_step =
         record {
@@ -109,11 +110,15 @@ module _ {D : Type 0} {g : Ghosts D} where
           causes = all_last (IsCaused first new) f.since entry (all_weaker (IsCaused first old) (IsCaused first new)
               (λ earlier cause. caused_until g (heap_disk first) (heap_disk old) (heap_disk new) earlier.reply kept.cause.faults_kept kept.cause.stops_kept cause) f.since f.causes)
               (caused_since g (heap_disk first) (heap_disk old) (heap_disk new) reply f.disk.faults_kept f.disk.stops_kept (caused_once g (heap_disk old) (heap_disk new) reply kept.cause));
+          still = λ none.
+              let parts = all_parts IsUncut f.since entry none in
+              let before = f.still parts.0 in
+              (kept.cause.faults_still (λ is. let never = sym parts.1 ∙ is in cc never) ∙ before.0, kept.cause.stops_still (λ is. let never = sym parts.1 ∙ is in cc never) ∙ before.1);
           core = reaches;
           holds = reaches_on;
         }
 
-  -- An event to which memory was refused.
+  -- An event that ran out of memory.
   pub follows_still : (first old new : Heap D g) → history_of new ≡ history_of old → heap_disk new ≡ heap_disk old → ((c : Core) → IsCore c old → IsCore c new) → Follows first old → Follows first new
   follows_still first old new same still kept f = record {
     since = f.since;
@@ -122,6 +127,7 @@ module _ {D : Type 0} {g : Ghosts D} where
     disk = subst (λ (disk : D). StaysDisk g (heap_disk first) disk) (sym still) f.disk;
     causes = all_weaker (IsCaused first old) (IsCaused first new)
         (λ entry cause. subst (λ (disk : D). IsCausedBy g (heap_disk first) disk entry.reply) (sym still) cause) f.since f.causes;
+    still = λ none. let before = f.still none in (ap g.faults still ∙ before.0, ap g.stops still ∙ before.1);
     core = λ c is reached. let r = f.core c is reached in record { core = r.core; run = r.run; is = kept r.core r.is };
     holds = λ tells s c is reached.
         let r = f.holds tells s c is reached in
@@ -150,7 +156,7 @@ module _ {D : Type 0} {g : Ghosts D} where
   pub follows_told : (first now : Heap D g) (seen : List Entry) → seen ≡ history_of now → Follows first now → Told first seen
   follows_told first now seen same f c is reached = let r = f.core c is reached in (f.since, r.core, same ∙ f.history, r.run, sym r.is.history ∙ sym same)
 
-  -- What it has become goes on as a core that was reached, and a crash leaves first commits of it.
+  -- What it has become continues as a core that was reached, and a crash leaves a commit prefix of it.
   pub follows_keeps : (first now : Heap D g) → Follows first now → IsTrue g.tells → (s : Super) (c : Core) → IsHeap s c first → IsReached c
       → (d : Core) × IsHeap s d now × IsReached d × ((image : List ℕ) → g.may_leave (heap_disk now) image → IsCommitPrefix d image)
   follows_keeps first now f tells s c is reached =

@@ -11,12 +11,12 @@ use Rattle.turn_lock.specs.Merging.{entries_of}
 use Rattle.turn_lock.specs.Passes.{label_of, mine_of}
 
 module _ {D : Type 0} {g : Ghosts D} where
-  -- A worker has a pass of a shared heap by which it may send its events.
+  -- A worker has a pass of a shared heap with which it may send its events.
   pub record HasPass (station : Station (Caller D g)) : Type 0 where
     pub pass : IsPass station.calls.heap.now station.calls.pass
     pub events : All (MaySend (label_of station.calls.pass)) station.worker.events.items
 
-  -- It has sent them by it, or ended sooner: what is new among the pass's own entries is what it sent.
+  -- It has sent them with it, or ended sooner: what is new among the pass's own entries is what it sent.
   pub record HasSent (old new : Station (Caller D g)) : Type 0 where
     pub worker : new.worker ≡ old.worker
     pub pass : IsPass new.calls.heap.now new.calls.pass

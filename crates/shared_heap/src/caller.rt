@@ -6,7 +6,7 @@ use heap_workers::HeapCalls;
 use std::alloc::AllocError;
 use std::sync::Wait;
 
-/// A shared heap with one of its passes. A worker calls it as it would any heap.
+/// A shared heap with one of its passes. A worker calls it like any heap.
 #[derive(Drop)]
 pub struct Caller<'a, D: Disk> {
     pub heap: &'a SharedHeap<D>,

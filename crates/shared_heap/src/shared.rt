@@ -36,7 +36,7 @@ impl<D: Disk> SharedHeap<D> {
     ghost use Rattle.turn_lock.specs.Passes.{pass_numbers, label_of, mine_of, seen_of, parts_of, front_of, IsNew, IsSamePass, HasSameTurns};
     ghost use Rattle.turn_lock.specs.Turning.{EachOnce, IsBeginning, StandIn, places, times, total};
 
-    /// Shares a heap, with one pass for each label, in their order: the number of a session, or 0. Where memory is refused the heap comes back.
+    /// Shares a heap, with one pass for each label, in their order: the number of a session, or 0. If memory runs out the heap is given back.
     pub fn new(
         alloc: Global,
         heap: Heap<D>,
@@ -67,7 +67,7 @@ impl<D: Disk> SharedHeap<D> {
         }
     }
 
-    /// Waits for a turn, and makes one event in it. Want of memory adds nothing.
+    /// Waits for a turn, and makes one event in it. If memory runs out, nothing is added to the history.
     pub fn call<R: Wait>(
         &self,
         rt: &R,
@@ -78,7 +78,7 @@ impl<D: Disk> SharedHeap<D> {
         requires event { MaySend (label_of pass.old) event }
         ensures pass { IsPass self.now pass.new × IsSamePass pass.old pass.new }
         ensures seen { IsBeginning (seen_of pass.old) (seen_of pass.new) }
-        // The answer is the last entry that the pass has seen, behind all that it had seen, and one more of its own.
+        // The answer is the last entry that the pass has seen, after all that it had seen, and one more of its own.
         ensures answered { MatchResult result (λ reply. (before : List Entry) × IsBeginning (seen_of pass.old) before × (seen_of pass.new ≡ before ++ record { event = event; reply = reply } ∷ []) × (mine_of pass.new ≡ mine_of pass.old ++ (length before, record { event = event; reply = reply }) ∷ [])) (λ _. mine_of pass.new ≡ mine_of pass.old) }
         // So it is the core's at that place of the history.
         ensures core { Told (handed_in self.now) (seen_of pass.new) }
@@ -104,19 +104,19 @@ impl<D: Disk> SharedHeap<D> {
         self.lock.front(pass)
     }
 
-    /// Ends the sharing with all passes, and gives the heap. It waits for nobody.
+    /// Ends the sharing with all passes, and returns the heap. It does not wait.
     pub fn close(self, mut passes: Vec<Pass<D>>) -> Heap<D>
         requires each { AllByRecursion (IsPass self) passes.items }
         requires all { (number : ℕ) → number < passes_of self.lock → 0 < total (λ p. times number (pass_numbers p)) passes.items }
         // One history: each entry of a pass stands at its place, and each place since the heap was shared is one pass's, once.
         ensures stand { AllByRecursion (λ p. StandIn (history_of result) (mine_of p)) passes.items }
         ensures once { EachOnce (λ k. total (λ p. times k (places (mine_of p))) passes.items) (length (history_of (handed_in self))) (length (history_of result)) }
-        // And all that any pass saw is how it begins.
+        // And all that any pass saw is a prefix of it.
         ensures seen { AllByRecursion (λ p. IsBeginning (seen_of p) (history_of result)) passes.items }
-        // It is a run of the core that was handed in, on any disk and on one that tells; the disk's counts say why it failed.
+        // It is a run of the core that was handed in, on any disk and on a modelled one; the disk's counts say why it failed.
         ensures follows { Follows (handed_in self) result }
         ensures front { AllByRecursion (λ p. front_of p ≤ acknowledged (history_of result)) passes.items }
-        // Each image that a crash leaves of it stands for first commits of that core, and has as many as any pass was told.
+        // Each image that a crash leaves of it stands for the first commits of that core, at least as many as the front that any pass knows.
         ensures crash { IsTrue D.tells → (s : Super) (c : Core) → IsHeap s c (handed_in self) → IsReached c → (d : Core) × IsHeap s d result × IsReached d × ((image : List ℕ) → D.may_leave (heap_disk result) image → (k : ℕ) × StandsForFirst d k image × AllByRecursion (λ p. front_of p ≤ k) passes.items) }
     {
         let last = passes.pop().unwrap();
@@ -129,7 +129,7 @@ impl<D: Disk> SharedHeap<D> {
         heap
     }
 
-    // All passes become one.
+    // Joins all passes into one.
     fn join_all(&self, mut pass: Pass<D>, mut passes: Vec<Pass<D>>) -> Pass<D>
         requires pass { IsOpen self.now pass }
         requires each { AllByRecursion (IsPass self.now) passes.items }
@@ -150,7 +150,7 @@ impl<D: Disk> SharedHeap<D> {
     }
 }
 
-/// A heap is shared by threads, and a pass goes from one to another, wherever the disk may.
+/// Threads may share a heap, and a pass may be sent from one to another, if the disk may.
 pub fn cross_threads<D: Disk + Send>() {
     is_sync::<SharedHeap<D>>();
     is_send::<SharedHeap<D>>();

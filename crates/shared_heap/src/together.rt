@@ -8,7 +8,7 @@ use heap_workers::{Gate, Station, work_all};
 use std::sync::Wait;
 use std::thread::Threads;
 
-/// Each worker sends its events by its own pass, in a thread of its own where one can be made.
+/// Each worker sends its events with its own pass, in a thread of its own if one can be started.
 pub fn work_together<D: Disk + Send, G: Gate + Sync, R: Threads + Wait + Sync>(
     rt: &R,
     stations: &mut [Station<Caller<'_, D>>],

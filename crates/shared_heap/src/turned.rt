@@ -10,7 +10,7 @@ use heap_core::Heap;
 use std::alloc::AllocError;
 use turn_lock::Turns;
 
-/// A heap, with how long its history was when it was shared, and how many turns have added nothing since, by remainder of 2^64.
+/// A heap, with the length of its history when it was shared, and the number of turns since that added nothing, modulo 2^64.
 #[derive(Drop)]
 pub struct Turned<D: Disk> {
     pub(crate) heap: Heap<D>,
@@ -34,7 +34,7 @@ impl<D: Disk> Turns for Turned<D> {
     ghost follows = { λ first now. Follows first.heap now.heap };
 }
 
-/// How many commits a reply acknowledges, 0 where it acknowledges none.
+/// How many commits a reply acknowledges, 0 if it acknowledges none.
 pub(crate) fn acknowledged_by(reply: &Reply) -> u64
     ensures { result ≡ acknowledges reply.now }
 {
@@ -47,7 +47,7 @@ pub(crate) fn acknowledged_by(reply: &Reply) -> u64
 impl<D: Disk> Turned<D> {
     ghost use Rattle.shared_heap.specs.Follows.{Follows};
 
-    /// Makes one step, or counts that memory was refused.
+    /// Makes one step, or counts that memory ran out.
     pub(crate) fn step(&mut self, event: Event) -> Result<Reply, AllocError>
         requires { IsOfSession event }
         ensures recorded { MatchResult result (λ reply. history_of self.new.heap ≡ history_of self.old.heap ++ record { event = event; reply = reply } ∷ []) (λ _. history_of self.new.heap ≡ history_of self.old.heap) }

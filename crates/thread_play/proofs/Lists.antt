@@ -6,7 +6,7 @@ use Rattle.std.specs.Option.{option_map}
 use Rattle.std.specs.List.{AllByRecursion}
 use Rattle.turn_lock.specs.Turning.{total}
 
--- An item of a list that was turned round stands as far from the other end.
+-- An item of a reversed list stands as far from the other end.
 pub get_reverse : {X : Type 0} (xs : List X) (i : ℕ) (x : X) → slice_get (reverse xs) i ≡ Some x → (i < length xs) × (slice_get xs (length xs - 1 - i) ≡ Some x)
 get_reverse xs i x at =
     let within : i < length xs = omega (arith, slice_get_within (reverse xs) i x at, length-reverse xs) in
@@ -20,7 +20,7 @@ get_map f [] i y at = absurd (none-some y at)
 get_map f (x ∷ xs) zero y at = (x, refl, same_Some (f x) y at)
 get_map f (x ∷ xs) (suc i) y at = get_map f xs i y at
 
--- the same where each item became another thing
+-- the same where each item was mapped
 pub get_reverse_map : {X Y : Type 0} (f : X → Y) (xs : List X) (i : ℕ) (y : Y) → slice_get (reverse (map f xs)) i ≡ Some y → (x : X) × (i < length xs) × (slice_get xs (length xs - 1 - i) ≡ Some x) × (f x ≡ y)
 get_reverse_map f xs i y at =
     let back = get_reverse (map f xs) i y at in

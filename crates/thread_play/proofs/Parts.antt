@@ -18,14 +18,14 @@ nothing_begun tries (event ∷ events) some =
     let made : Makes tries event [] last = record { again = tt; last_is = inl (some, refl, refl) } in
     (last ∷ [], ([], last, [], refl, made, refl))
 
--- all that is sent is how it begins
+-- all that is sent has it as its beginning
 pub played_is_begun : (tries : ℕ) (events : List Event) (part : List Entry) → Played tries events part → IsBegun tries events part
 played_is_begun tries events part played = ([], subst (Played tries events) (sym (append-nil part)) played)
 
 not_ok : {E : Type 0} (e : E) → IsOk {T = Unit {0}} (Err e) → ⊥
 not_ok e is = cc
 
--- what one worker's own end tells of its part holds of the end of all
+-- what one worker's own end says of its part holds for the end of all
 pub part_of_all : {P Q : Type 0} (own end : Result (Unit {0}) AllocError) → (IsOk end → IsOk own) → (P → Q) → MatchResult own (λ _. P) (λ _. Q) → MatchResult end (λ _. P) (λ _. Q)
 part_of_all (Ok done) (Ok all) so weak part = part
 part_of_all (Ok done) (Err e) so weak part = weak part
@@ -36,7 +36,7 @@ ok_both : {E : Type 0} (a b : Result (Unit {0}) E) → (IsOk (result_and a b) �
 ok_both (Ok a) b = ((λ ok. (refl, ok)), (λ _ ok. ok))
 ok_both (Err e) b = ((λ ok. absurd (not_ok e ok)), (λ ok _. absurd (not_ok e ok)))
 
--- all ends are good where one more is, and the others were
+-- all ends are good if one more is, and the others were
 pub end_more : {X E : Type 0} (end_of : X → Result (Unit {0}) E) (x : X) (xs : List X) (end new : Result (Unit {0}) E) → new ≡ result_and end (end_of x) → (IsOk end ↔ All (λ s. IsOk (end_of s)) xs) → IsOk new ↔ All (λ s. IsOk (end_of s)) (x ∷ xs)
 end_more end_of x xs end new is so =
     let both = ok_both end (end_of x) in (

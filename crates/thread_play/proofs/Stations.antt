@@ -23,7 +23,7 @@ use Rattle.thread_play.proofs.Lists.{get_reverse_map, get_map_from_end}
 use Rattle.thread_play.proofs.Parts.{nothing_begun, played_is_begun, part_of_all}
 
 module _ {D : Type 0} {g : Ghosts D} (shared : SharedHeap D g) where
-  -- Where nothing was sent, each pass has the beginning of its worker's part.
+  -- If nothing was sent, each pass has the beginning of its worker's part.
   pub unplayed : (end : Result (Unit {0}) AllocError) (workers : List Worker) (passes : List (Pass (Turned D g) Entry)) → IsErr end → AreNew shared passes → ArePlayed shared end workers passes
   unplayed end workers passes refused new = record {
     count = new.count;
@@ -47,7 +47,7 @@ module _ {D : Type 0} {g : Ghosts D} (shared : SharedHeap D g) where
         let worker : slice_get workers i ≡ Some station.worker = ap (λ l. slice_get l i) are.workers_are ∙ get_map_from_end (λ (s : Station (Caller D g)). s.worker) stations i station within here in
         (pass, worker, new.each i station.calls.pass pass)
 
-    -- each worker may send its events by its pass
+    -- each worker may send its events with its pass
     pub stations_ready : AreWorkers workers → All HasPass stations
     stations_ready of j d lt =
         let station : Station (Caller D g) = get_or stations j d in

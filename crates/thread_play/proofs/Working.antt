@@ -64,7 +64,7 @@ none_placed : (n place : ℕ) → total (λ (placed : List (ℕ × Entry)). time
 none_placed zero place = refl
 none_placed (suc n) place = omega (arith, none_placed n place)
 
--- Where memory was refused before any event, the history has none behind its beginning.
+-- If memory ran out before any event, the history has none after its beginning.
 pub nothing_worked : (tries : ℕ) (lines : List Line) (history : List Entry) (e : AllocError) → 0 < tries → IsWorked tries lines (length history) history (Err e)
 nothing_worked tries lines history e some =
     let none : List (ℕ × Entry) = [] in record {

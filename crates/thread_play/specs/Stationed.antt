@@ -23,7 +23,7 @@ pub record AreWorkers (workers : List Worker) : Type 0 where
   pub count : length workers ≡ 34
   pub each : (i : ℕ) (worker : Worker) → slice_get workers i ≡ Some worker → All (MaySend (label_at i)) worker.events.items
 
--- what a worker has sent, or the beginning of that, where memory was refused to some worker
+-- what a worker has sent, or a prefix of that, if some worker ran out of memory
 abbrev pub HasPart : Result (Unit {0}) AllocError → Worker → List Entry → Type 0
 HasPart end worker part = MatchResult end (λ _. Played worker.tries worker.events.items part) (λ _. IsBegun worker.tries worker.events.items part)
 
@@ -49,7 +49,7 @@ module _ {D : Type 0} {g : Ghosts D} (shared : SharedHeap D g) where
     pub count : length passes ≡ 34
     pub each : (i : ℕ) (pass : Pass (Turned D g) Entry) → slice_get passes i ≡ Some pass → IsUnused i pass
 
-  -- Each pass is back from the worker of its place, and has of its own what that has sent.
+  -- Each pass is back from the worker of its place, and its own entries are what that has sent.
   pub record ArePlayed (end : Result (Unit {0}) AllocError) (workers : List Worker) (passes : List (Pass (Turned D g) Entry)) : Type 0 where
     pub count : length passes ≡ 34
     pub pass_is : (i : ℕ) (pass : Pass (Turned D g) Entry) → slice_get passes i ≡ Some pass → IsPass shared pass × (pass_numbers pass ≡ i ∷ [])

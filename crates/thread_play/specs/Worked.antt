@@ -9,12 +9,12 @@ use Rattle.script_workers.specs.Workers.{worker_events}
 use Rattle.turn_lock.specs.Merging.{Rise, entries_of}
 use Rattle.turn_lock.specs.Turning.{EachOnce, StandIn, places, times, total}
 
--- what one worker has sent of a script, or the beginning of that, where memory was refused to some worker
+-- what one worker has sent of a script, or a prefix of that, if some worker ran out of memory
 abbrev pub IsPart : ℕ → List Line → Result (Unit {0}) AllocError → ℕ → List Entry → Type 0
 IsPart tries lines end number part = MatchResult end (λ _. Played tries (worker_events number lines) part) (λ _. IsBegun tries (worker_events number lines) part)
 
--- Behind so many entries a history has those of the workers of a script, and no others: each place is one worker's, once, with the entry that stands
--- there; each worker's places ascend, and its entries are what it sends of its lines.
+-- After its first `before` entries a history has those of the workers of a script, and no others: each place is one worker's, once, with the entry
+-- that stands there; each worker's places ascend, and its entries are what it sends of its lines.
 pub record IsWorked (tries : ℕ) (lines : List Line) (before : ℕ) (history : List Entry) (end : Result (Unit {0}) AllocError) : Type 0 where
   pub mine : List (List (ℕ × Entry))
   pub count : length mine ≡ 34

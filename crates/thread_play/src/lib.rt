@@ -1,4 +1,4 @@
-//! A script is played on one heap by a thread for each worker.
+//! Plays a script on one heap with a thread for each worker.
 #![tactic(auto)]
 
 mod play;

@@ -24,8 +24,8 @@ const LABELS: [u32; 34] = [
     27, 28, 29, 30, 31, 32, 0, 0,
 ];
 
-/// Plays a script on a heap with a thread for each worker, where one can be made. The heap comes back however it ends: with all that the workers have
-/// sent, or where memory was refused with the beginning of that.
+/// Plays a script on a heap with a thread for each worker, if one can be started. The heap comes back however it ends: with all that the workers have
+/// sent, or with a prefix of that if memory ran out.
 pub fn play_together<D: Disk + Send, G: Gate + Sync, R: Threads + Wait + Sync>(
     rt: &R,
     alloc: Global,
@@ -52,7 +52,7 @@ pub fn play_together<D: Disk + Send, G: Gate + Sync, R: Threads + Wait + Sync>(
     }
 }
 
-// Each pass goes to the worker of its number, and comes back with what that has sent. Where memory is refused at once nothing was sent.
+// Each pass goes to the worker of its number, and comes back with what that has sent. If memory runs out at once nothing was sent.
 fn work_by<D: Disk + Send, G: Gate + Sync, R: Threads + Wait + Sync>(
     rt: &R,
     alloc: Global,
@@ -95,7 +95,7 @@ fn stations_of<'a, D: Disk>(
     Ok(stations)
 }
 
-// The passes of the stations, in their first order, and whether memory was refused to one of them.
+// The passes of the stations, in their first order, and whether one of them ran out of memory.
 fn give_back<D: Disk>(
     mut stations: Vec<Station<Caller<'_, D>>>,
     passes: &mut Vec<Pass<D>>,

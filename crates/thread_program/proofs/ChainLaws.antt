@@ -66,7 +66,7 @@ module _ {D : Type 0} (g : Ghosts D) where
       let rest = steps_kept steps.0 d steps.1 new events steps.3 in
       (omega (arith, cause.faults_kept, rest.0), omega (arith, cause.stops_kept, rest.1))
 
-  -- Behind a failure no step calls the disk, so each is answered as the core says.
+  -- After a failure no step calls the disk, so each is answered as the core says.
   failed_steps : (c d : Core) (old new : D) (events : List Event) → HasFailed (account c.history) c → AreSteps (HeapStep g) c old events d new
       → (d ≡ after_events c events) × HasFailed (account d.history) d × (g.passed new ≡ g.passed old)
   failed_steps c d old new [] failed steps = (steps.0, subst (λ (x : Core). HasFailed (account x.history) x) (sym steps.0) failed, ap g.passed steps.1)

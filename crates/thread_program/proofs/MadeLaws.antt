@@ -1,4 +1,4 @@
--- What workers make, and the events that end a run behind them.
+-- What workers make, and the events that end a run after them.
 use Rattle.std.proofs.Common.{◌≡◌, ◌≢◌, ◌⊎◌, inl, inr, ⊎_elim, ℕ, List, [], ◌++◌, length, None, Result, Ok, Err, refl, sym, ap, ◌∙◌, subst, append-nil}
 use Rattle.std.specs.Prelude.{IsOk, IsErr}
 use Rattle.std.specs.List.{AllByRecursion}

@@ -11,7 +11,7 @@ use Rattle.heap_program.specs.declared.status.Status.TheVariants as status
 use Rattle.heap_program.proofs.NextRun.{IsLeftToNext}
 use Rattle.thread_program.specs.Together.{IsPlayedTogether}
 
--- Behind a run that the disk did not end, and in which it did not fail, nothing is unsynced, and a heap is there with the graph of the first commits.
+-- After a run that the disk did not end, and in which it did not fail, nothing is unsynced, and a heap is there with the graph of the first commits.
 pub left_by_workers : {D : Type 0} (g : Ghosts D) (tries : ℕ) (lines : List Line) (at_opening : ℕ) (c : Core) (start mid : D) (result : Status) (told : Bool) (before after : List ℕ)
     → (played : IsPlayedTogether g tries lines at_opening c start mid result told before after) → result ≢ status.DiskFault → (account played.runs.core.history).failed ≡ None → g.may_leave mid (g.bytes mid)
     → IsLeftToNext played.runs.core (g.bytes mid) (g.may_leave mid)

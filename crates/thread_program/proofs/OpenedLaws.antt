@@ -27,21 +27,21 @@ use Rattle.core_laws.proofs.Run.Ending.{ending_of_session}
 use Rattle.core_laws.proofs.Run.Events.{run_reached}
 use Rattle.disk_model.proofs.KeepsLaws.{rose_until}
 use Rattle.shared_heap.specs.Follows.{events_of, StaysDisk, Reaches, ReachesOn, Follows}
-use Rattle.heap_program.specs.Causes.{DiskRose}
+use Rattle.heap_program.specs.Causes.{DiskRose, CountsStay}
 use Rattle.heap_program.proofs.Causes.{disk_rose_since}
 use Rattle.heap_program.specs.Headline.{IsEndOfPlay}
 use Rattle.heap_program.specs.Play.{IsRunning, MadeAll}
 use Rattle.thread_program.specs.Ended.{EndsBy}
 use Rattle.thread_program.specs.Together.{IsCutAmong, RunsByWorkers, StepsTogether}
 use Rattle.thread_program.specs.Written.{WritesAll}
-use Rattle.thread_program.proofs.CauseLaws.{failed_caused}
+use Rattle.thread_program.proofs.CauseLaws.{failed_caused, unfailed_uncut}
 use Rattle.thread_program.proofs.ChainLaws.{Whole, Short, ChainEnds, chain_ends, heap_run}
 use Rattle.thread_program.proofs.EndedLaws.{is_none}
 use Rattle.thread_program.proofs.WrittenLaws.{writes_nothing}
 use Rattle.thread_program.proofs.MadeLaws.{of_all, made_together, cut_run, last_all, whole_unfailed}
 use Rattle.thread_program.proofs.PrintsLaws.{runs_by}
 
--- No event that ends a run is made where memory was refused to a worker.
+-- No event that ends a run is made if a worker ran out of memory.
 abbrev pub ends_at_once : (c : Core) (r : Result (Unit {0}) AllocError) (rose : Type 0) (reaches : List Event → Core → Type 0) → is_err r ≡ true → reaches [] c → EndsBy c r rose reaches
 ends_at_once c r rose reaches err reached = record {
   made = [];
@@ -54,7 +54,7 @@ ends_at_once c r rose reaches err reached = record {
   cause = λ ok. absurd (false≢true (sym (ap is_err ok) ∙ err));
 }
 
--- How a run goes on behind its workers, and what it writes.
+-- How a run continues after its workers, and what it writes.
 pub record GoesOn (end r : Result (Unit {0}) AllocError) (made : List Event) (core : Core) (result : Status) (told : Bool) (before after : List ℕ) : Type 0 where
   pub none : IsErr end → made ≡ []
   pub refused : IsErr end → result ≡ status.NoMemory
@@ -67,11 +67,11 @@ pub record GoesOn (end r : Result (Unit {0}) AllocError) (made : List Event) (co
   pub late : IsTrue told → (after ≡ before) ⊎ (r ≡ Ok tt)
 
 -- one that has no error is done
-ok_is : (r : Result (Unit {0}) AllocError) → is_err r ≡ false → (r ≡ Ok tt) × IsOk r
+pub ok_is : (r : Result (Unit {0}) AllocError) → is_err r ≡ false → (r ≡ Ok tt) × IsOk r
 ok_is (Ok done) none = (refl, refl)
 ok_is (Err e) none = absurd (false≢true (sym none))
 
--- memory was refused, and nothing is written
+-- memory ran out, and nothing is written
 pub goes_refused : (end r : Result (Unit {0}) AllocError) (made : List Event) (core : Core) (told : Bool) (before : List ℕ) → (IsErr end → made ≡ []) → GoesOn end r made core status.NoMemory told before before
 goes_refused end r made core told before none = record {
   none = none;
@@ -155,7 +155,7 @@ module _ {D : Type 0} {g : Ghosts D} (tries : ℕ) (lines : List Line) (s : Supe
       (λ (cut : Short g c made core (heap_disk old) (heap_disk new)). record { runs = runs (inr cut.0); steps = chain; heap = ended.reached.1; most = cut.3 })
       ends
 
--- The workers left a heap that goes on from the one that was opened.
+-- The workers left a heap that continues from the one that was opened.
 module _ {D : Type 0} {g : Ghosts D} (c : Core) (running : IsRunning c) (old mid new : Heap D g) (f : Follows old mid) where
   abbrev pub sent_by : List Event
   sent_by = events_of f.since
@@ -207,7 +207,20 @@ module _ {D : Type 0} {g : Ghosts D} (c : Core) (running : IsRunning c) (old mid
               (omega (arith, second.faults_kept, second.stops_kept)) (failed_caused old mid (history_of old) f.since f.causes began since)
         ]
 
-  -- On one that tells.
+    -- no fault of the disk was ignored before the events that end a run, if the heap has not failed in the end
+    pub ends_still : (r : Result (Unit {0}) AllocError) (rose : Type 0) → EndsCore r rose → failed_at new ≡ None → CountsStay g (heap_disk old) (heap_disk mid)
+    ends_still r rose ended unfailed =
+        let none : (account ended.core.history).failed ≡ None = sym ended.reached.1.memory.failure ∙ unfailed in
+        let before : (account reach.core.history).failed ≡ None = ⊎_elim (λ (is : (account reach.core.history).failed ≡ None). is)
+        (λ (failed : (account reach.core.history).failed ≢ None).
+        let here : IsRun reach.core [] ended.core = subst (λ (l : List Event). IsRun reach.core l ended.core) (ended.none failed) ended.reached.0 in
+        absurd (failed (ap (λ (x : Core). (account x.history).failed) (sym here) ∙ none)))
+        (is_none (account reach.core.history).failed) in
+        let uncut = unfailed_uncut (history_of old) f.since (ap (λ (h : List Entry). (account h).failed) (sym f.history ∙ reach.is.history) ∙ before) in
+        let same = f.still uncut.1 in
+        record { faults = same.0; stops = same.1 }
+
+  -- On a modelled one.
   module _ (tells : IsTrue g.tells) (s : Super) (is : IsHeap s c old) where
     abbrev pub reach_on : ReachesOn s c f.since old mid
     reach_on = f.holds tells s c is running.reached

@@ -1,4 +1,4 @@
--- What a run of workers promises on a disk that tells.
+-- What a run of workers promises on a modelled disk.
 use Rattle.std.proofs.Common.{◌≡◌, inl, ⊎_elim, ℕ, ◌+◌, ◌≤◌, List, length, Bool, None, refl, sym, ap, ◌∙◌, subst, arith}
 use Rattle.std.specs.Prelude.{IsTrue}
 use Rattle.counts.specs.Count.{counted}
@@ -26,7 +26,7 @@ use Rattle.core_laws.proofs.Step.Sound.{reached_agrees}
 use Rattle.script_text.specs.declared.line.Line.{Line}
 use Rattle.heap_program.specs.declared.status.Status.{Status}
 use Rattle.heap_program.specs.declared.status.Status.TheVariants as status
-use Rattle.heap_program.specs.Causes.{DiskRose, Unharmed}
+use Rattle.heap_program.specs.Causes.{CountsStay, DiskRose, Unharmed}
 use Rattle.heap_program.specs.Headline.{lasting, KeepsThroughout}
 use Rattle.heap_program.specs.Play.{IsRunning}
 use Rattle.heap_program.proofs.Behind.{HasImages, played_behind}
@@ -45,6 +45,7 @@ pub record OpenedOn {D : Type 0} (g : Ghosts D) (at_opening : ℕ) (c : Core) (s
   pub restarts : g.restarts opened ≡ g.restarts start
   pub faults : g.faults start ≤ g.faults opened
   pub stops : g.stops start ≤ g.stops opened
+  pub counts : CountsStay g start opened
   pub no_first_stop : at_opening ≡ 0 → g.stops start ≡ 0 → g.stops opened ≡ 0
 
 module _ {D : Type 0} {g : Ghosts D} (tells : IsTrue g.tells) (s : Super) (c : Core) (running : IsRunning c) (at_opening : ℕ) (start : D) (old new : Heap D g) (opened : OpenedOn g at_opening c start old.disk)
@@ -85,6 +86,7 @@ module _ {D : Type 0} {g : Ghosts D} (tells : IsTrue g.tells) (s : Super) (c : C
     passed = λ u some. opened.passed;
     few = omega (arith, opened.passed);
     restarts = opened.restarts;
+    still = λ some. opened.counts;
     stopped = new.disk;
     steps = own_steps g start tells c core old.disk new.disk made made_by.steps;
     rest = begins g.moment g.left_since new.disk (IsCommitPrefix core) (λ image since. kept image (opened.has.now new.disk image since));

@@ -88,7 +88,7 @@ module _ {D : Type 0} (g : Ghosts D) (now : (disk : D) (image : List ℕ) → g.
   script_together start final tries is_script at_opening c result told before after reached unfailed plays =
       safe_together start final tries is_script at_opening c plays.lines result told before after reached unfailed plays.script plays.played
 
-  -- So it says in short of a new heap and of one that was there, once the script is read.
+  -- So it says in short of a new heap and of an existing one, once the script is read.
   pub runs_safely : (fresh : Option ℕ) (tries : ℕ) (is_script : List Line → Type 0) (old new : D) (result : Status) (told : Bool) (before after : List ℕ) → IfSome fresh IsPages
       → RunsTogether g fresh tries is_script old new result told before after → RunsTogetherSafely g fresh tries is_script old new result told before after
   runs_safely (Some pages) tries is_script old new result told before after within (inl none) = inl none
@@ -98,7 +98,7 @@ module _ {D : Type 0} (g : Ghosts D) (now : (disk : D) (image : List ℕ) → g.
   runs_safely None tries is_script old new result told before after within (inr plays) =
       inr (λ stored. script_together old new tries is_script (stored_calls stored) (stored_core stored) result told before after (stored_running g stored).reached (stored_running g stored).unfailed (plays stored))
 
--- A run that ended before it did anything with the disk, since its script was bad or could not be read, or memory was refused.
+-- A run that ended before it did anything with the disk, since its script was bad or could not be read, or memory ran out.
 pub not_read : {D : Type 0} (g : Ghosts D) (disk : D) → Only (g.bytes disk) (g.may_leave disk) → ((image : List ℕ) → g.left_since disk (g.moment disk) image → g.may_leave disk image)
     → (fresh : Option ℕ) (tries : ℕ) (is_script : List Line → Type 0) (by : Status) (told : Bool) (before : List ℕ) → IsInputError by → RunsTogether g fresh tries is_script disk disk by told before before
 not_read g disk only now None tries is_script by told before input = inl (record { reason = input; same = refl; nothing = λ t. refl })

@@ -17,7 +17,7 @@ use Rattle.core_laws.proofs.Step.Sound.{sound_valid}
 use Rattle.heap_program.specs.Play.{MadeAll}
 use Rattle.thread_program.specs.Together.{IsCutAmong}
 
--- Behind a failure no event calls the disk, so each is answered as the core says, and the failure stays.
+-- After a failure no event calls the disk, so each is answered as the core says, and the failure stays.
 pub failed_run : (c d : Core) (events : List Event) → HasFailed (account c.history) c → IsRun c events d → (d ≡ after_events c events) × HasFailed (account d.history) d
 failed_run c d [] failed run = (run, subst (λ (x : Core). HasFailed (account x.history) x) (sym run) failed)
 failed_run c d (event ∷ events) failed (reply, mid, inl whole, rest) = failed_run (after c event) d events (failed_stays c event failed) (subst (λ (m : Core). IsRun m events d) whole.1 rest)
@@ -51,7 +51,7 @@ cut_failed c d made reached unfailed of cut =
     let behind = failed_run (with_entry mid cut.event cut.reply) d cut.behind failed (subst (IsRun (with_entry mid cut.event cut.reply) cut.behind) (sym cut.reached) (whole_run (with_entry mid cut.event cut.reply) cut.behind)) in
     behind.1
 
--- A disk that has failed is told so.
+-- A disk that has failed is reported so.
 pub failed_some : (c : Core) → HasFailed (account c.history) c → (account c.history).failed ≢ None
 failed_some c failed none = let is = failed.failed in cc
 

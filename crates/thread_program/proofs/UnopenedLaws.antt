@@ -109,6 +109,7 @@ module _ {D : Type 0} (g : Ghosts D) {bytes : List ℕ} (stored : IsStored bytes
           passed = λ u made. absurd (made refl);
           few = few;
           restarts = restarts;
+          still = λ some. absurd (some refl);
           stopped = final;
           steps = (refl, refl);
           rest = begins g.moment g.left_since final (IsCommitPrefix c) (λ image since. left image (now image since));

@@ -26,7 +26,7 @@ module _ (c : Core) (before : List ℕ) where
   abbrev graph : List ℕ
   graph = graph_text (serial c.g0 (sealed c.history))
 
-  -- nothing was written, since memory was refused
+  -- nothing was written, since memory ran out
   pub writes_nothing : WritesAll c NoMemory before before
   writes_nothing = record { front = none_written before (lines ++ graph); failed = λ failed. ((λ is. cc), none_written before lines); fault = λ is. absurd is; whole = λ is. cc }
 
@@ -41,7 +41,7 @@ module _ (c : Core) (before : List ℕ) where
       let front = whole_front before lines after all in
       record { front = front_more before lines graph after front; failed = λ failed. ((λ is. cc), front); fault = λ is. all; whole = λ is. cc }
 
-  -- the graph was to be written behind the lines
+  -- the graph was to be written after the lines
   pub writes_graph : (r : Result (Unit {0}) WriteError) (between after : List ℕ) → between ≡ before ++ lines → (account c.history).failed ≡ None → WroteText r between graph after → WritesAll c (status_after r) before after
   writes_graph r between after all unfailed wrote = record {
     front = then_front before lines graph between after all (wrote_some r between graph after wrote);

@@ -15,7 +15,7 @@ is_played_out (Err halt.DiskFault) = true
 is_played_out (Err halt.Stopped) = true
 is_played_out (Err other) = false
 
--- Of the events that end a run these were made, and reached a core: the first of them where memory was refused, all of them else, or the first up to
+-- Of the events that end a run these were made, and reached a core: the first of them if memory ran out, otherwise all of them, or the first up to
 -- one in which the disk failed or stopped. None is made where it had done so before.
 pub record EndsBy (c : Core) (result : Result (Unit {0}) AllocError) (rose : Type 0) (reaches : List Event → Core → Type 0) : Type 0 where
   pub made : List Event
@@ -25,5 +25,5 @@ pub record EndsBy (c : Core) (result : Result (Unit {0}) AllocError) (rose : Typ
   pub parts : ending c ≡ made ++ unmade
   pub none : (account c.history).failed ≢ None → made ≡ []
   pub all : result ≡ Ok tt → (unmade ≡ []) ⊎ ((account core.history).failed ≢ None)
-  -- it fails only where a count of the disk's failures and stops rose
+  -- it fails only if a count of the disk's failures and stops rose
   pub cause : result ≡ Ok tt → (account c.history).failed ≡ None → (account core.history).failed ≢ None → rose

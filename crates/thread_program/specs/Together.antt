@@ -36,7 +36,7 @@ use Rattle.heap_program.specs.Play.{lines_text, WroteFront, MadeAll}
 use Rattle.heap_program.specs.Stored.{IsStored, stored_core, stored_calls}
 use Rattle.thread_program.specs.Written.{WritesAll}
 
--- The disk failed or stopped in one of these events, as its reply says. Those behind it were answered `failed`: other workers had them at hand still.
+-- The disk failed or stopped in one of these events, as its reply says. Those after it were answered `failed`: other workers were still sending them.
 pub record IsCutAmong (c : Core) (made : List Event) (d : Core) : Type 0 where
   pub before : List Event
   pub event : Event
@@ -46,12 +46,12 @@ pub record IsCutAmong (c : Core) (made : List Event) (d : Core) : Type 0 where
   pub cut : IsCutShort (after_events c before) event reply
   pub reached : d ≡ after_events (with_entry (after_events c before) event reply) behind
 
--- The events that end a run, or the first of these, where each worker has sent all and the disk has done all of that; and else none.
+-- The events that end a run, or the first of these, if each worker has sent all and the disk has done all of that; and otherwise none.
 abbrev pub AreLast : Core → List Event → Core → List Event → Result (Unit {0}) AllocError → Type 0
 AreLast c sent between last end = (last ≡ []) ⊎ (IsOk end × MadeAll c sent between × ((unmade : List Event) × (ending between ≡ last ++ unmade)))
 
 -- The workers of a script sent events to a heap that was opened as the core c: each those of its own lines, in their order, with the answers that the
--- history has at their places, and no place is left over. Behind them come none, or those that end a run.
+-- history has at their places, and no place is left over. After them come none, or those that end a run.
 pub record MakesTogether (tries : ℕ) (lines : List Line) (c : Core) (made : List Event) (d : Core) (result : Status) : Type 0 where
   pub sent : List Event
   pub last : List Event
@@ -59,19 +59,19 @@ pub record MakesTogether (tries : ℕ) (lines : List Line) (c : Core) (made : Li
   pub between : Core
   pub run : IsRun c sent between
   pub rest : IsRun between last d
-  -- whether each worker has sent all; else they have begun, since memory was refused to one of them, or the heap was not opened
+  -- whether each worker has sent all; else they have begun, since one of them ran out of memory, or the heap was not opened
   pub workers_end : Result (Unit {0}) AllocError
   pub worked : IsWorked tries lines (length c.history) between.history workers_end
   pub refused : IsErr workers_end → (result ≡ status.NoMemory) ⊎ ((result ≡ status.DiskFault) × (made ≡ []))
   pub last_are : AreLast c sent between last workers_end
   -- in a run that is done each worker has sent all, the events that end a run followed, and the disk did all that it was asked
   pub done : result ≡ status.Done → IsOk workers_end × (last ≡ ending between) × MadeAll c made d
-  -- where output is refused the last of these was made, unless the disk had failed or stopped
+  -- if output is refused the last of these was made, unless the disk had failed or stopped
   pub behind : result ≡ status.WriteFault → MadeAll c made d → last ≡ ending between
   -- the disk did all that it was asked, or it failed or stopped in one event
   pub outcome : MadeAll c made d ⊎ IsCutAmong c made d
 
--- the events in which the disk was asked: none behind the one in which it failed or stopped
+-- the events in which the disk was asked: none after the one in which it failed or stopped
 abbrev pub events_asked : {c d : Core} {made : List Event} → MadeAll c made d ⊎ IsCutAmong c made d → List Event
 events_asked {made = made} (inl all) = made
 events_asked (inr cut) = cut.before ++ cut.event ∷ []
@@ -88,14 +88,14 @@ pub record RunsByWorkers (tries : ℕ) (lines : List Line) (c : Core) (result : 
   -- a script of the events that a run has made, if it is done, asks a play for just these: what ends a run is among them
   pub again : result ≡ status.Done → all_events None c made ≡ made
   pub written : IsTrue told → WritesAll core result before after
-  -- where memory was refused to a worker nothing is written
+  -- if a worker ran out of memory nothing is written
   pub nothing : IsErr together.workers_end → IsTrue told → after ≡ before
-  -- where something is written the last of the events that end a run was made, unless the disk failed or stopped
+  -- if something is written the last of the events that end a run was made, unless the disk failed or stopped
   pub late : IsTrue told → MadeAll c made core → (after ≡ before) ⊎ (together.last ≡ ending together.between)
   pub end : IsEndOfPlay result
 
 -- On any disk: a heap was opened with some graph, and workers sent their events to it. What was opened is `from` where that says. The disk failed or
--- stopped in an event only where its counts of that rose, unless memory was refused and nothing written.
+-- stopped in an event only if its counts of that rose, unless memory ran out and nothing was written.
 pub record PrintsTogether (from : Super → List (List Record) → Pages → (ℕ → ℕ) → Type 0) (rose : Type 0) (tries : ℕ) (lines : List Line) (result : Status) (told : Bool) (before after : List ℕ) : Type 0 where
   pub first : Core
   pub opened : IsOpened first
@@ -112,25 +112,25 @@ abbrev pub PrintsSomeTogether : (Super → List (List Record) → Pages → (ℕ
 PrintsSomeTogether from rose tries lines result told before after = EndsUnwritten result told before after ⊎ PrintsTogether from rose tries lines result told before after
 
 module _ {D : Type 0} {g : Ghosts D} where
-  -- On a disk that tells: likewise, and each step says what it left on the disk.
+  -- On a modelled disk: likewise, and each step says what it left on the disk.
   pub record StepsTogether (tries : ℕ) (lines : List Line) (s : Super) (c : Core) (old new : Heap D g) (result : Status) (told : Bool) (before after : List ℕ) : Type 0 where
     pub runs : RunsByWorkers tries lines c result told before after
     pub steps : AreSteps (HeapStep g) c (heap_disk old) runs.made runs.core (heap_disk new)
     pub heap : IsHeap s runs.core new
-    -- none of them calls the disk behind the one in which it failed or stopped
+    -- none of them calls the disk after the one in which it failed or stopped
     pub most : g.passed (heap_disk new) ≤ counted (total_calls c (events_asked runs.together.outcome)) (g.passed (heap_disk old))
 
 module _ {D : Type 0} (g : Ghosts D) where
-  -- Workers sent events on a disk whose heap was opened as the core c, with so many calls at the opening: what is said of the disk in a play without a stop
-  -- is said of it in the one history that they made.
+  -- Workers sent events on a disk whose heap was opened as the core c, with `at_opening` calls at the opening: what is said of the disk in a play
+  -- without a stop is said of it in the one history that they made.
   pub record IsPlayedTogether (tries : ℕ) (lines : List Line) (at_opening : ℕ) (c : Core) (start final : D) (result : Status) (told : Bool) (before after : List ℕ) : Type 0 where
     pub runs : RunsByWorkers tries lines c result told before after
     pub disk : KeepsThroughout g None at_opening c runs.made runs.core start final
-    -- nothing comes behind the last event
+    -- nothing comes after the last event
     pub still : final ≡ disk.stopped
-    -- each event makes the calls that it is said to make, also behind a failure
+    -- each event makes the calls that it is said to make, even after a failure
     pub steps : AreSteps (HeapStep g) c disk.opened runs.made runs.core final
-    -- no stop came first where no event was made and the opening writes nothing, on a disk that had met none
+    -- no stop came first if no event was made and the opening writes nothing, on a disk that had met none
     pub no_first_stop : at_opening ≡ 0 → runs.made ≡ [] → g.stops start ≡ 0 → g.stops final ≡ 0
     -- without a fault the disk did all that it was asked
     pub exact : Unharmed g start final → MadeAll c runs.made runs.core
@@ -158,7 +158,7 @@ module _ {D : Type 0} (g : Ghosts D) where
     pub format : IsFormatted g (made_super pages) old made
     pub plays : PlaysTogether tries is_script 0 (made_core pages (g.bytes made)) made new result told before after
 
-  -- Either a heap was made and a script was played on it by its workers, or none was made; or it was played on the heap that was there, for each graph that
+  -- Either a heap was made and a script was played on it by its workers, or none was made; or it was played on the existing heap, for each graph that
   -- stands in it, or that run did not begin.
   abbrev pub RunsTogether : Option ℕ → ℕ → (List Line → Type 0) → D → D → Status → Bool → List ℕ → List ℕ → Type 0
   RunsTogether (Some pages) tries is_script old new result told before after =
@@ -182,7 +182,7 @@ module _ {D : Type 0} (g : Ghosts D) where
     pub few : g.passed opened ≤ counted at_opening (g.passed start)
     pub stopped : D
     pub steps : AreSteps (LastingStep g None core start final) c opened made core stopped
-    -- Each commit had the replies that the commits have one after another.
+    -- Each commit had the replies that it has when the commits are run one after another.
     pub replies : replies_of_commits core.history ≡ serial_replies core.g0 (commits core.history)
     -- Nothing is printed but a prefix of all lines and of the graph of the sealed transactions.
     pub front : IsTrue told → WroteFront before (lines_text core.history ++ graph_text (serial core.g0 (sealed core.history))) after
@@ -190,7 +190,7 @@ module _ {D : Type 0} (g : Ghosts D) where
     pub printed : result ≡ status.Done → IsTrue told → (lasting core ≤ length (sealed core.history)) × (after ≡ before ++ (lines_text core.history ++ graph_text (serial core.g0 (sealed core.history))))
         × ((image : List ℕ) → g.may_leave final image → StandsFor (serial core.g0 (sealed core.history)) (core.before + length (sealed core.history)) image)
 
-  -- Either no heap was made, or it is crash safe from then on; or the heap that was there is crash safe, or the run did not begin.
+  -- Either no heap was made, or it is crash safe from then on; or the existing heap is crash safe, or the run did not begin.
   abbrev pub RunsTogetherSafely : Option ℕ → ℕ → (List Line → Type 0) → D → D → Status → Bool → List ℕ → List ℕ → Type 0
   RunsTogetherSafely (Some pages) tries is_script old new result told before after =
       IsNotMade g (made_super pages) old new result told before after

@@ -8,8 +8,8 @@ use Rattle.heap_program.specs.declared.status.Status.TheVariants.{Done}
 use Rattle.heap_program.specs.Headline.{graph_text, IsOfDisk}
 use Rattle.heap_program.specs.Play.{lines_text, WroteFront}
 
--- The lines of a core's history were written, and then its graph: all of that where the run is done, and else a first part. Where the disk has failed or
--- stopped the run is not done and no graph is written, and where its status tells that all lines are.
+-- The lines of a core's history were written, and then its graph: all of that if the run is done, and otherwise a prefix. If the disk has failed or
+-- stopped the run is not done and no graph is written, and if its status says so all lines are.
 pub record WritesAll (c : Core) (result : Status) (before after : List ℕ) : Type 0 where
   pub front : WroteFront before (lines_text c.history ++ graph_text (serial c.g0 (sealed c.history))) after
   pub failed : (account c.history).failed ≢ None → (result ≢ Done) × WroteFront before (lines_text c.history) after

@@ -1,12 +1,12 @@
 //! The events that end a run of workers.
-ghost use Rattle.std.specs.Prelude.{◌≡◌, IsTrue};
+ghost use Rattle.std.specs.Prelude.{◌≡◌, None, Ok, IsTrue};
 ghost use Rattle.core_laws.specs.Valid.{IsReached};
 ghost use Rattle.graph_model.specs.declared.event.Event.{Event};
-ghost use Rattle.heap_core.specs.HeapState.{heap_disk};
+ghost use Rattle.heap_core.specs.HeapState.{failed_at, heap_disk};
 ghost use Rattle.heap_core.specs.Refinement.{IsCore, IsHeap};
 ghost use Rattle.heap_core.specs.Steps.{HeapStep, AreSteps};
 ghost use Rattle.heap_model.specs.Core.{Core, IsRun};
-ghost use Rattle.heap_program.specs.Causes.{DiskRose};
+ghost use Rattle.heap_program.specs.Causes.{DiskRose, CountsStay};
 ghost use Rattle.image_plan.specs.declared.superblock.Super.{Super};
 ghost use Rattle.shared_heap.specs.Follows.{StaysDisk};
 ghost use Rattle.thread_program.specs.Ended.{EndsBy, is_played_out};
@@ -17,9 +17,11 @@ use heap_io::Discard;
 use heap_program::{Halt, play_ending};
 use std::alloc::{AllocError, Global};
 
-/// Makes the events that end a run, unless the disk has failed or stopped. Where it does so in one of them, the history tells.
+/// Makes the events that end a run, unless the disk has failed or stopped. If it does so in one of them, the history says so.
 pub fn make_ending<D: Disk>(alloc: Global, heap: &mut Heap<D>) -> Result<(), AllocError>
     ensures disk { StaysDisk D.Disk (heap_disk heap.old) (heap_disk heap.new) }
+    // Where it has not failed then, no fault of the disk was ignored.
+    ensures still { (c : Core) → IsCore c heap.old → IsReached c → result ≡ Ok tt → failed_at heap.new ≡ None → CountsStay D.Disk (heap_disk heap.old) (heap_disk heap.new) }
     ensures core { (c : Core) → IsCore c heap.old → IsReached c
         → EndsBy c result (DiskRose (D.faults (heap_disk heap.old)) (D.stops (heap_disk heap.old)) (D.faults (heap_disk heap.new)) (D.stops (heap_disk heap.new)))
         (λ made core. IsRun c made core × IsCore core heap.new) }
@@ -36,7 +38,7 @@ pub fn make_ending<D: Disk>(alloc: Global, heap: &mut Heap<D>) -> Result<(), All
     Err(AllocError)
 }
 
-/// Whether a play made all its events, or the disk failed or stopped in the last one. No line is refused by a sink that lets all go, so else memory was.
+/// Whether a play made all its events, or the disk failed or stopped in the last one. A sink that discards all refuses no line, so else memory ran out.
 fn is_played_out(played: Result<(), Halt>) -> bool
     ensures { result ≡ is_played_out played }
 {

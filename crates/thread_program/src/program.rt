@@ -17,15 +17,15 @@ ghost use Rattle.command_words.specs.declared.commands.Stop.{Stop};
 ghost use Rattle.page_redo.specs.Pages.{Pages};
 ghost use Rattle.heap_model.specs.Image.{IsShaped};
 ghost use Rattle.heap_model.specs.Opening.{IsFound};
-ghost use Rattle.heap_program.specs.Causes.{DiskRose, StreamCause, RunsDisk};
-ghost use Rattle.heap_program.specs.Commands.{makes, superblock_numbers, restarts_of, IsPlay, IsEndOf, CanRun, RunsFormat, PrintsGraph, WritesText, formatted_line};
+ghost use Rattle.heap_program.specs.Causes.{DiskRose, StreamCause, RunsDisk, CountsStay};
+ghost use Rattle.heap_program.specs.Commands.{makes, superblock_numbers, restarts_of, IsPlay, IsEndOf, MeetsNoFault, CanRun, RunsFormat, PrintsGraph, WritesText, formatted_line};
 ghost use Rattle.heap_program.specs.CrashSafe.{RunsSafely};
 ghost use Rattle.thread_program.specs.Together.{EndsUnwritten, PrintsTogether, RunsTogether, RunsTogetherSafely};
 ghost use Rattle.heap_program.specs.Load.{RunsLoad, SummarizesSome};
 ghost use Rattle.heap_program.specs.Headline.{OfTold, PrintsRun, IsOfOwnImage, Runs, IsUntouching, EndsUnread, EndsUnmade, BlamesNoImage, RestartsDisk, graph_text, stop_after};
 ghost use Rattle.heap_program.specs.Playable.{IsReadFrom};
 ghost use Rattle.heap_recovery.specs.Faults.{IsLeftOf};
-ghost use Rattle.heap_program.specs.Refusals.{IsFault, IsWordFault, CallsOfOneOpening, fault_calls, IsToldOf, IsToldOfEach, EndsRefused, IsLeftAlone, LeavesAlone};
+ghost use Rattle.heap_program.specs.Refusals.{IsFault, IsWordFault, CallsOfOneOpening, CallsAtMostOneOpening, fault_calls, IsToldOf, IsToldOfEach, EndsRefused, IsLeftAlone, LeavesAlone};
 ghost use Rattle.script_text.specs.Script.{script};
 
 use crate::threads::run_threads;
@@ -38,8 +38,9 @@ use std::alloc::Global;
 use std::sync::Wait;
 use std::thread::Threads;
 
-/// Does what the words of the command line say: makes a heap on `disk`, plays the script that `source` gives, alone or by its workers, or a load, on a new heap
-/// or on the one that is there, or opens it; and writes the replies and the graph, or a summary, to `sink`. Each worker passes `gate` before each event of its lines (tested).
+/// Does what the words of the command line say: makes a heap on `disk`, plays the script that `source` gives, alone or by its workers, or a load, on a
+/// new heap or on the existing one, or opens it; and writes the replies and the graph, or a summary, to `sink`. Each worker passes `gate` before
+/// each event of its lines (tested).
 pub fn run<D: Disk + Send, S: Source, K: Sink, G: Gate + Sync, R: Threads + Wait + Sync>(
     rt: &R,
     alloc: Global,
@@ -52,7 +53,7 @@ pub fn run<D: Disk + Send, S: Source, K: Sink, G: Gate + Sync, R: Threads + Wait
     // Which words are a command.
     ensures usage { result.0 ≡ Status.Usage → command (map string_bytes words.now) ≡ None }
     ensures usage_told { command (map string_bytes words.now) ≡ None → (result.0 ≡ Status.Usage) ⊎ (result.0 ≡ Status.NoMemory) }
-    // Which scripts are bad, and where; nothing but reading it goes before.
+    // Which scripts are bad, and where; nothing is done before the script is read.
     ensures script_fault { IsTrue S.tells → (line : ℕ) → result.0 ≡ Status.Script line → script (S.left source.old) ≡ Err (Fault line) }
     ensures script_told { IsTrue S.tells → (asked : Command) → command (map string_bytes words.now) ≡ Some asked → IsPlay asked → (line : ℕ) → script (S.left source.old) ≡ Err (Fault line) → EndsUnread (Status.Script line) result.0 }
     // Which disks are too small.
@@ -65,6 +66,8 @@ pub fn run<D: Disk + Send, S: Source, K: Sink, G: Gate + Sync, R: Threads + Wait
     ensures read_fault { StreamCause (S.faults source.old) (S.faults source.new) (result.0 ≡ Status.ReadFault) }
     ensures write_fault { StreamCause (K.faults sink.old) (K.faults sink.new) (result.0 ≡ Status.WriteFault) }
     ensures disk_fault { RunsDisk D.Disk disk result.1 (result.0 ≡ Status.DiskFault) }
+    // At a status that leaves no room for a fault of the disk, its counts of faults and of stops are as they were.
+    ensures unfaulted { (asked : Command) → command (map string_bytes words.now) ≡ Some asked → restarts_of asked ≡ 0 → MeetsNoFault asked result.0 → CountsStay D.Disk disk result.1 }
 
     // A run that ends before it makes or opens a heap leaves the disk and the sink as they were.
     ensures untouched { IsUntouching result.0 → (result.1 ≡ disk) × (sink.new ≡ sink.old) }
@@ -75,7 +78,7 @@ pub fn run<D: Disk + Send, S: Source, K: Sink, G: Gate + Sync, R: Threads + Wait
     // A crash at any moment keeps what was acknowledged or forced by then.
     ensures crash_safe { OfTold D.tells (D.bytes disk) (D.may_leave disk) ((fresh : Option ℕ) (stop : Option Stop) → command (map string_bytes words.now) ≡ Some (asked.Play fresh stop)
         → RunsSafely D.Disk fresh stop (IsReadFrom S.tells (S.left source.old)) disk result.1 result.0 K.tells (K.written sink.old) (K.written sink.new)) }
-    // The sentence that the stable heap is for, whole: the script was played on a heap, a new one or the one that was there.
+    // The main theorem, whole: the script was played on a heap, a new one or the existing one.
     ensures headline { OfTold D.tells (D.bytes disk) (D.may_leave disk) ((fresh : Option ℕ) (stop : Option Stop) → command (map string_bytes words.now) ≡ Some (asked.Play fresh stop)
         → Runs D.Disk fresh stop (IsReadFrom S.tells (S.left source.old)) disk result.1 result.0 K.tells (K.written sink.old) (K.written sink.new)) }
 
@@ -96,7 +99,7 @@ pub fn run<D: Disk + Send, S: Source, K: Sink, G: Gate + Sync, R: Threads + Wait
         → (s : Super) (batches : List (List Record)) (stored : Pages) → (shaped : IsShaped s batches stored (D.bytes disk)) → (born : Bool) (places : Places) (g : Graph) → IsFound s batches stored shaped.log born places g
         → PrintsGraph D.Disk s batches stored g disk result.1 result.0 K.tells (K.written sink.old) (K.written sink.new)) }
 
-    // A load was played on a heap, a new one or the one that was there: the same is said of its events as of a play's, with every moment. Its summary
+    // A load was played on a heap, a new one or the existing one: the same is said of its events as of a play's, with every moment. Its summary
     // was written: how many they are, how often they were answered so, and how many objects their graph has.
     ensures loads { OfTold D.tells (D.bytes disk) (D.may_leave disk) ((seed count : ℕ) (fresh : Option ℕ) → command (map string_bytes words.now) ≡ Some (asked.Load seed count fresh)
         → RunsLoad D.Disk fresh seed count disk result.1 result.0 K.tells (K.written sink.old) (K.written sink.new)) }
@@ -113,8 +116,8 @@ pub fn run<D: Disk + Send, S: Source, K: Sink, G: Gate + Sync, R: Threads + Wait
     // On any disk, without a stop a status against the image comes before anything is written.
     ensures unwritten { (asked : Command) → command (map string_bytes words.now) ≡ Some asked → restarts_of asked ≡ 0 → ¬ BlamesNoImage result.0 → sink.new ≡ sink.old }
 
-    // Which images are no heap or damaged, and where: such an image gives its own status, with nothing written. Each status against an image tells
-    // what is so, unless the disk was restarted, which only a stop asks for. A heap that the run makes is never refused.
+    // Which images are no heap or damaged, and where: such an image gives its own status, with nothing written. Each status against an image is
+    // true of it, unless the disk was restarted, which only a stop asks for. A heap that the run makes is never refused.
     ensures refuses { OfTold D.tells (D.bytes disk) (D.may_leave disk) ((asked : Command) (expected : Status) → command (map string_bytes words.now) ≡ Some asked → makes asked ≡ None
         → IsFault expected (D.bytes disk) → EndsRefused expected result.0 × (sink.new ≡ sink.old)) }
     // At each moment a crash leaves such an image with the same fault.
@@ -123,10 +126,12 @@ pub fn run<D: Disk + Send, S: Source, K: Sink, G: Gate + Sync, R: Threads + Wait
     // One that is damaged at an address keeps its log, or has that log rolled back, and each byte outside of the log is as it was.
     ensures keeps_log { OfTold D.tells (D.bytes disk) (D.may_leave disk) ((asked : Command) → command (map string_bytes words.now) ≡ Some asked → makes asked ≡ None
         → IsWordFault (D.bytes disk) → LeavesOnly D.moment D.left_since disk result.1 (IsLeftOf (D.bytes disk))) }
-    // Where no stop was asked, a run makes the writes and syncs of one opening of it: all where it tells the damage, and no more where the disk fails.
+    // Where no stop was asked, a run makes the writes and syncs of one opening of it: all if it reports the damage, and no more if the disk fails.
     ensures opens_once { IsTrue D.tells → (asked : Command) → command (map string_bytes words.now) ≡ Some asked → makes asked ≡ None → restarts_of asked ≡ 0 → (fault : IsWordFault (D.bytes disk)) → CallsOfOneOpening (fault_calls fault) (D.passed disk) (D.passed result.1) result.0 }
+    // With a stop too it makes no more of them, unless the disk was restarted, and none if memory runs out.
+    ensures opens_few { IsTrue D.tells → (asked : Command) → command (map string_bytes words.now) ≡ Some asked → makes asked ≡ None → (Rose (D.restarts disk) (D.restarts result.1) → restarts_of asked ≡ 0) → (fault : IsWordFault (D.bytes disk)) → CallsAtMostOneOpening (fault_calls fault) (D.passed disk) (D.passed result.1) result.0 }
     ensures refused { IsTrue D.tells → (asked : Command) → command (map string_bytes words.now) ≡ Some asked → makes asked ≡ None → (Rose (D.restarts disk) (D.restarts result.1) → restarts_of asked ≡ 0) → IsToldOf result.0 (D.bytes disk) }
-    // With a stop too, such a status tells what is so of the disk that is given back: of what it reads as, and of each image that a crash may leave.
+    // With a stop too, such a status is true of the disk that is given back: of what it reads as, and of each image that a crash may leave.
     ensures refused_at_end { OfTold D.tells (D.bytes disk) (D.may_leave disk) (IsToldOfEach result.0 (D.may_leave result.1)) }
     // An image that is no heap, or is damaged but not at an address, is left as it was, whatever the end: no stop that is asked for comes in its opening.
     ensures left_alone { IsTrue D.tells → (asked : Command) → command (map string_bytes words.now) ≡ Some asked → makes asked ≡ None → (expected : Status) → IsFault expected (D.bytes disk) → IsLeftAlone expected → LeavesAlone D.Disk disk result.1 }
@@ -147,7 +152,7 @@ pub fn run<D: Disk + Send, S: Source, K: Sink, G: Gate + Sync, R: Threads + Wait
         Ok(Command::Threads { fresh, tries }) => {
             run_threads(rt, alloc, fresh, tries, disk, source, sink, gate)
         }
-        // Which command it is can't be told then.
+        // Then the words don't say which command it is.
         Err(CommandError::NoMemory) => (Status::NoMemory, disk),
         _ => run_alone(alloc, words, disk, source, sink),
     }

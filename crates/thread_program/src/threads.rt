@@ -1,4 +1,4 @@
-//! The command that plays a script by its workers, on a heap that is made afresh or on the one that is there.
+//! The command that plays a script by its workers, on a new heap or on the existing one.
 ghost use Rattle.std.specs.Prelude.{◌≡◌, ◌≢◌, ◌⊎◌, ℕ, ◌<◌, ◌≤◌, List, [], None, Some, Ok, Err, IfSome, IsTrue};
 ghost use Rattle.counts.specs.Count.{Rose};
 ghost use Rattle.disk_model.specs.Disk.{Only};
@@ -9,7 +9,7 @@ ghost use Rattle.command_words.specs.Limits.{IsPages};
 ghost use Rattle.heap_core.specs.HeapState.{failed_at, heap_disk};
 ghost use Rattle.heap_core.specs.Refinement.{IsCore, IsHeap};
 ghost use Rattle.heap_model.specs.Core.{Core};
-ghost use Rattle.heap_program.specs.Causes.{DiskRose, StreamCause, RunsDisk, IsOpenedEnd};
+ghost use Rattle.heap_program.specs.Causes.{DiskRose, StreamCause, RunsDisk, CountsStay, IsFaultless, IsOpenedEnd};
 ghost use Rattle.heap_program.specs.Headline.{OfTold, IsEndOfPlay, IsOfImage, IsOfOwnImage, CanPlay, IsUntouching, EndsUnread, EndsUnmade, BlamesNoImage};
 ghost use Rattle.heap_program.specs.Play.{IsRunning};
 ghost use Rattle.heap_program.specs.Playable.{IsScript, IsReadFrom};
@@ -35,8 +35,8 @@ use std::sync::Wait;
 use std::thread::Threads;
 use thread_play::play_together;
 
-/// Plays the script that `source` gives with a thread for each of its workers, where one can be made, on a heap that is made afresh with `fresh` pages in
-/// each space, or on the one that is there. All is written when the last worker has ended.
+/// Plays the script that `source` gives with a thread for each of its workers, if one can be started, on a new heap with `fresh` pages in
+/// each space, or on the existing one. All is written when the last worker has ended.
 pub fn run_threads<D: Disk + Send, S: Source, K: Sink, G: Gate + Sync, R: Threads + Wait + Sync>(
     rt: &R,
     alloc: Global,
@@ -58,6 +58,7 @@ pub fn run_threads<D: Disk + Send, S: Source, K: Sink, G: Gate + Sync, R: Thread
     ensures read_fault { StreamCause (S.faults source.old) (S.faults source.new) (result.0 ≡ Status.ReadFault) }
     ensures write_fault { StreamCause (K.faults sink.old) (K.faults sink.new) (result.0 ≡ Status.WriteFault) }
     ensures disk_fault { RunsDisk D.Disk disk result.1 (result.0 ≡ Status.DiskFault) }
+    ensures unfaulted { IsFaultless result.0 → CountsStay D.Disk disk result.1 }
     ensures untouched { IsUntouching result.0 → (result.1 ≡ disk) × (sink.new ≡ sink.old) }
     ensures read_whole { IsTrue S.tells → result.0 ≡ Status.Done → S.left source.new ≡ [] }
 
@@ -91,7 +92,7 @@ pub fn run_threads<D: Disk + Send, S: Source, K: Sink, G: Gate + Sync, R: Thread
     }
 }
 
-/// Plays a script by its workers on the heap that is there.
+/// Plays a script by its workers on the existing heap.
 fn play_by_workers<D: Disk + Send, K: Sink, G: Gate + Sync, R: Threads + Wait + Sync>(
     rt: &R,
     alloc: Global,
@@ -106,6 +107,7 @@ fn play_by_workers<D: Disk + Send, K: Sink, G: Gate + Sync, R: Threads + Wait + 
 
     ensures end { IsOpenedEnd result.0 }
     ensures disk { RunsDisk D.Disk disk result.1 (result.0 ≡ Status.DiskFault) }
+    ensures unfaulted { IsFaultless result.0 → CountsStay D.Disk disk result.1 }
     ensures sink { StreamCause (K.faults sink.old) (K.faults sink.new) (result.0 ≡ Status.WriteFault) }
     ensures restarts { IsTrue D.tells → D.restarts result.1 ≡ D.restarts disk }
     ensures unwritten { ¬ BlamesNoImage result.0 → sink.new ≡ sink.old }
@@ -129,7 +131,7 @@ fn play_by_workers<D: Disk + Send, K: Sink, G: Gate + Sync, R: Threads + Wait + 
     }
 }
 
-/// Plays a script by its workers on an open heap, makes the events that end a run, and writes what came of all of them. Where memory is refused to a worker
+/// Plays a script by its workers on an open heap, makes the events that end a run, and writes the outcome of all of them. If a worker runs out of memory
 /// nothing is written.
 fn play_opened<D: Disk + Send, K: Sink, G: Gate + Sync, R: Threads + Wait + Sync>(
     rt: &R,
@@ -147,6 +149,7 @@ fn play_opened<D: Disk + Send, K: Sink, G: Gate + Sync, R: Threads + Wait + Sync
     ensures disk { StaysDisk D.Disk (heap_disk heap) (heap_disk result.1) }
     ensures sink { StreamCause (K.faults sink.old) (K.faults sink.new) (result.0 ≡ Status.WriteFault) }
     ensures failed { result.0 ≡ Status.DiskFault → failed_at result.1 ≢ None }
+    ensures still { (c : Core) → IsCore c heap → IsRunning c → result.0 ≡ Status.Done → CountsStay D.Disk (heap_disk heap) (heap_disk result.1) }
     ensures caused { (c : Core) → IsCore c heap → IsRunning c → failed_at result.1 ≢ None
         → DiskRose (D.faults (heap_disk heap)) (D.stops (heap_disk heap)) (D.faults (heap_disk result.1)) (D.stops (heap_disk result.1)) ⊎ ((result.0 ≡ Status.NoMemory) × (sink.new ≡ sink.old)) }
     ensures core { (c : Core) → IsCore c heap → IsRunning c → c.history ≡ []

@@ -50,7 +50,7 @@ returns-in-Ok-clause-cut g c tells core k at_first at_only =
     } in
     rw (c.into_inner.ensures, c.close.ensures, sym inner) cut
 
--- it did not, and was let go
+-- it did not, and its outcome is ignored
 pub returns-else-eq-clause-cut : goal.returns-else-eq-clause-cut
 returns-else-eq-clause-cut g c tells core k at_first at_only =
     let d = g.D.Disk in
@@ -81,7 +81,7 @@ returns-else-eq-clause-cut g c tells core k at_first at_only =
     } in
     rw (c.into_inner-disk.ensures, sym inner) cut
 
--- memory was refused
+-- memory ran out
 pub returns-then-eq-clause-cut : goal.returns-then-eq-clause-cut
 returns-then-eq-clause-cut g c tells core k at_first at_only =
     let d = g.D.Disk in

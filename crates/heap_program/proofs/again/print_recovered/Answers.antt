@@ -123,7 +123,7 @@ returns-in-Err-clause-keeps_fault g c tells only expected fault =
 pub returns-clause-keeps_fault : goal.returns-clause-keeps_fault
 returns-clause-keeps_fault g c tells only expected fault = absurd (not_opened expected (g.D.Disk.bytes c.args.disk) fault (c.in-Ok.ensures.not_heap tells) (c.in-Ok.ensures.damaged tells))
 
--- a status against the image tells of what a crash may leave now
+-- a status against the image is true of what a crash may leave now
 pub returns-in-Err-clause-refused_at_end : goal.returns-in-Err-clause-refused_at_end
 returns-in-Err-clause-refused_at_end g c tells only =
     told_each g.D.Disk c.in-Err.e c.from.result c.args.disk c.in-Err.disk c.from.ensures (c.in-Err.ensures.refused tells) (c.in-Err.ensures.moments_not_heap tells only) (c.in-Err.ensures.moments_damaged tells only)

@@ -14,7 +14,7 @@ use Rattle.heap_program.proofs.Counts.{rose_once, rose_twice}
 use Rattle.heap_program.proofs.RunLaws.{restarts_all}
 use Rattle.heap_program.proofs.again.start_again.Goals as goal
 
--- a restart leaves one of the images that the crash could leave, and so does the opening behind it
+-- a restart leaves one of the images that the crash could leave, and so does the opening after it
 pub returns-in-None-clause-moments : goal.returns-in-None-clause-moments
 returns-in-None-clause-moments g c tells core base leaves =
     let d = g.D.Disk in
@@ -97,7 +97,7 @@ returns-in-Ok-clause-restarts g c tells =
     rw c.in-Some.is (restarts_all 2 _ _ _
     (c.print_recovered-in-Ok.ensures.restarts tells ∙ (c.restart.ensures.restarts tells).restarts ∙ ap raised (c.in-Ok.ensures.restarts tells ∙ started.restarts)))
 
--- memory was refused in the opening that was to be cut off
+-- memory ran out in the opening that was to be cut off
 pub returns-in-Err-clause-moments : goal.returns-in-Err-clause-moments
 returns-in-Err-clause-moments g c tells core base leaves =
     let d = g.D.Disk in
@@ -146,7 +146,7 @@ returns-in-Err-clause-started g c tells =
     let started = subst (λ x. Restarts d x c.restart-disk.result) c.into_inner.ensures (c.restart-disk.ensures.restarts tells) in
     rose_once _ _ (c.in-Err.ensures.restarts tells ∙ started.restarts)
 
--- What a crash leaves has the fault of the image, so it is told again.
+-- What a crash leaves has the fault of the image, so it is reported again.
 pub returns-in-None-clause-refuses : goal.returns-in-None-clause-refuses
 returns-in-None-clause-refuses g c tells expected leaves =
     let d = g.D.Disk in
@@ -161,7 +161,7 @@ returns-in-Ok-clause-refuses g c tells expected leaves =
     let cut = c.in-Ok.ensures.refuses tells started.only expected (leaves (d.bytes c.restart-disk.result) started.left) in
     c.print_recovered-in-Ok.ensures.refuses tells expected (cut (d.bytes c.restart.result) again.left)
 
--- At each moment, in a restart and in each opening behind one, the fault stays.
+-- At each moment, in a restart and in each opening after one, the fault stays.
 pub returns-in-None-clause-keeps_fault : goal.returns-in-None-clause-keeps_fault
 returns-in-None-clause-keeps_fault g c tells expected leaves =
     let d = g.D.Disk in
@@ -200,7 +200,7 @@ returns-in-Err-clause-keeps_fault g c tells expected leaves =
     opening_then d.moment d.left_since old first c.in-Err.disk (IsFault expected) (IsFault expected) moved
     (c.in-Err.ensures.keeps_fault tells started.only expected (leaves (d.bytes first) started.left)) (λ image same. same)
 
--- The last opening reads what the last restart left, so its status tells of that.
+-- The last opening reads what the last restart left, so its status is true of that.
 pub returns-in-None-clause-refused_at_end : goal.returns-in-None-clause-refused_at_end
 returns-in-None-clause-refused_at_end g c tells = c.print_recovered.ensures.refused_at_end tells (c.restart-disk.ensures.restarts tells).only
 

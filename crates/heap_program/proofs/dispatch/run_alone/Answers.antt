@@ -1,4 +1,4 @@
-use Rattle.std.proofs.Common.{◌≡◌, inl, ℕ, Option, Some, None, Err, refl, sym, ap, ◌∙◌, subst}
+use Rattle.std.proofs.Common.{◌≡◌, inl, ℕ, Option, Some, None, Err, refl, sym, ap, ◌∙◌, subst, arith}
 use Rattle.std.specs.Prelude.{IfSome}
 use Rattle.command_words.specs.declared.commands.Command.TheVariants as asked
 use Rattle.command_words.specs.declared.commands.CommandError.{CommandError}
@@ -7,11 +7,11 @@ use Rattle.command_words.specs.declared.commands.Command.{Command}
 use Rattle.command_words.specs.Limits.{IsPages, IsWithin}
 use Rattle.heap_core.specs.Format.{heap_of}
 use Rattle.heap_model.proofs.Opening.Opened.{address_found}
-use Rattle.heap_program.specs.Commands.{makes, restarts_of, CanRun}
+use Rattle.heap_program.specs.Commands.{makes, restarts_of, MeetsNoFault, CanRun}
 use Rattle.heap_program.specs.Headline.{made_super}
 use Rattle.heap_program.proofs.CommandLaws.{same_play, same_load, command_not_done, graph_unread, load_unread, play_ends, unread_ends, format_told_each, format_sound, no_stop, not_made, load_made}
 use Rattle.heap_program.specs.Refusals.{fault_calls}
-use Rattle.heap_program.proofs.RefusalLaws.{alone_untouched, command_once}
+use Rattle.heap_program.proofs.RefusalLaws.{alone_untouched, command_once, once_few}
 use Rattle.heap_program.proofs.RunLaws.{runs_safely, end_done}
 use Rattle.heap_program.proofs.WordFaults.{untouched_log}
 use Rattle.heap_program.proofs.dispatch.run_alone.Goals as goal
@@ -87,7 +87,7 @@ returns-in-Play-clause-unwritten g c which is none against =
     let same : which ≡ asked.Play c.in-Play.fresh c.in-Play.stop = cc (is, c.in-Ok.ensures.read, c.in-Play.is) in
     c.run_play.ensures.unwritten (no_stop c.in-Play.stop (subst (λ (x : Command). restarts_of x ≡ 0) same none)) against
 
--- a disk that was started again where a stop was asked is not told of
+-- nothing is said of a disk that was restarted if a stop was asked
 pub returns-in-Play-clause-refused : goal.returns-in-Play-clause-refused
 returns-in-Play-clause-refused g c tells which is none unstarted =
     let same : which ≡ asked.Play c.in-Play.fresh c.in-Play.stop = cc (is, c.in-Ok.ensures.read, c.in-Play.is) in
@@ -99,7 +99,7 @@ returns-in-Play-clause-left_alone g c tells which is none expected fault alone =
     let same : which ≡ asked.Play c.in-Play.fresh c.in-Play.stop = cc (is, c.in-Ok.ensures.read, c.in-Play.is) in
     c.run_play.ensures.left_alone tells (not_made c.in-Play.fresh c.in-Play.stop (subst (λ (x : Command). makes x ≡ None) same none)) expected fault alone
 
--- a run that did not come to the disk left it alone
+-- a run that did not reach the disk left it alone
 pub returns-in-Err-clause-left_alone : goal.returns-in-Err-clause-left_alone
 returns-in-Err-clause-left_alone g c tells which is none expected fault alone = alone_untouched g.D.Disk c.args.disk (λ image since. g.met.D.Disk.only_now tells c.args.disk image since)
 
@@ -180,3 +180,47 @@ returns-in-Load-clause-opens_once g c tells which is none unstopped fault =
 
 pub returns-in-Graph-clause-opens_once : goal.returns-in-Graph-clause-opens_once
 returns-in-Graph-clause-opens_once g c tells which is none unstopped fault = c.run_graph.ensures.opens_once tells fault
+
+-- with a stop they are no more
+
+pub returns-in-Err-clause-opens_few : goal.returns-in-Err-clause-opens_few
+returns-in-Err-clause-opens_few g c tells which is none unstarted fault =
+    let n = fault_calls fault in
+    let k = g.D.Disk.passed c.args.disk in
+    rw c.from.ensures (once_few n k k _ (command_once n k c.in-Err.e))
+
+pub returns-in-Play-clause-opens_few : goal.returns-in-Play-clause-opens_few
+returns-in-Play-clause-opens_few g c tells which is none unstarted fault =
+    let same : which ≡ asked.Play c.in-Play.fresh c.in-Play.stop = cc (is, c.in-Ok.ensures.read, c.in-Play.is) in
+    c.run_play.ensures.opens_few tells (not_made c.in-Play.fresh c.in-Play.stop (subst (λ (x : Command). makes x ≡ None) same none))
+    (λ rose. no_stop c.in-Play.stop (subst (λ (x : Command). restarts_of x ≡ 0) same (unstarted rose))) fault
+
+pub returns-in-Load-clause-opens_few : goal.returns-in-Load-clause-opens_few
+returns-in-Load-clause-opens_few g c tells which is none unstarted fault =
+    let same : which ≡ asked.Load c.in-Load.seed c.in-Load.count c.in-Load.fresh = cc (is, c.in-Ok.ensures.read, c.in-Load.is) in
+    once_few (fault_calls fault) _ _ c.run_load.result.0 (c.run_load.ensures.opens_once tells (load_made c.in-Load.seed c.in-Load.count c.in-Load.fresh (subst (λ (x : Command). makes x ≡ None) same none)) fault)
+
+pub returns-in-Graph-clause-opens_few : goal.returns-in-Graph-clause-opens_few
+returns-in-Graph-clause-opens_few g c tells which is none unstarted fault = once_few (fault_calls fault) _ _ c.run_graph.result.0 (c.run_graph.ensures.opens_once tells fault)
+
+-- no fault of the disk is ignored
+
+pub returns-in-Play-clause-unfaulted : goal.returns-in-Play-clause-unfaulted
+returns-in-Play-clause-unfaulted g c which is unstopped none =
+    let same : which ≡ asked.Play c.in-Play.fresh c.in-Play.stop = cc (is, c.in-Ok.ensures.read, c.in-Play.is) in
+    c.run_play.ensures.unfaulted (no_stop c.in-Play.stop (subst (λ (x : Command). restarts_of x ≡ 0) same unstopped)) (subst (λ (x : Command). MeetsNoFault x c.run_play.result.0) same none)
+
+pub returns-in-Format-clause-unfaulted : goal.returns-in-Format-clause-unfaulted
+returns-in-Format-clause-unfaulted g c which is unstopped none =
+    let same : which ≡ asked.Format c.in-Format.numbers = cc (is, c.in-Ok.ensures.read, c.in-Format.is) in
+    c.run_format.ensures.unfaulted (subst (λ (x : Command). MeetsNoFault x c.run_format.result.0) same none)
+
+pub returns-in-Graph-clause-unfaulted : goal.returns-in-Graph-clause-unfaulted
+returns-in-Graph-clause-unfaulted g c which is unstopped none =
+    let same : which ≡ asked.Graph = cc (is, c.in-Ok.ensures.read, c.in-Graph.is) in
+    c.run_graph.ensures.unfaulted (subst (λ (x : Command). MeetsNoFault x c.run_graph.result.0) same none)
+
+pub returns-in-Load-clause-unfaulted : goal.returns-in-Load-clause-unfaulted
+returns-in-Load-clause-unfaulted g c which is unstopped none =
+    let same : which ≡ asked.Load c.in-Load.seed c.in-Load.count c.in-Load.fresh = cc (is, c.in-Ok.ensures.read, c.in-Load.is) in
+    c.run_load.ensures.unfaulted (subst (λ (x : Command). MeetsNoFault x c.run_load.result.0) same none)

@@ -4,6 +4,8 @@ use Rattle.heap_program.specs.Load.{PlaysLoad}
 use Rattle.heap_program.proofs.CommandLaws.{opened_load, format_load}
 use Rattle.heap_program.proofs.PlayOpen.{new_stored, no_calls}
 use Rattle.heap_program.proofs.RunLaws.{large_made, end_sound}
+use Rattle.heap_program.proofs.Unfaulted.{counts_on, keeps_counts, format_counts, not_disk}
+use Rattle.heap_program.specs.Causes.{IsFaultless}
 use Rattle.heap_program.proofs.loading.run_load.Goals as goal
 
 pub returns-in-None-clause-ends : goal.returns-in-None-clause-ends
@@ -31,7 +33,7 @@ returns-in-Ok-clause-loads g c tells only =
     let first = made_core pages (d.bytes c.in-Ok.disk) in
     rw c.in-Some.is (inr (record {
       made = c.in-Ok.disk;
-      format = record { moments = e.moments tells only; empty = made.0; zeros = e.empty tells; kept = e.outside tells; outside = e.moments_outside tells only; only = made.1; passed = (e.passes tells (large_made _ _ e.small)).ok; restarts = e.disk.restarts tells };
+      format = record { moments = e.moments tells only; empty = made.0; zeros = e.empty tells; kept = e.outside tells; outside = e.moments_outside tells only; only = made.1; passed = (e.passes tells (large_made _ _ e.small)).ok; restarts = e.disk.restarts tells; still = keeps_counts d c.args.disk c.in-Ok.disk tt e.disk };
       plays = subst (λ (n : ℕ). PlaysLoad d c.args.seed c.args.count n first c.in-Ok.disk final.1 final.0 k.tells (k.written c.args.sink.now) (k.written c.load_whole-in-Ok.new.sink)) (no_calls (made_super pages)) played;
     }))
 
@@ -53,3 +55,12 @@ returns-in-Ok-clause-refused_at_end g c tells only = c.load_whole-in-Ok.ensures.
 
 pub returns-in-None-clause-opens_once : goal.returns-in-None-clause-opens_once
 returns-in-None-clause-opens_once g c tells unmade fault = c.load_whole.ensures.opens_once tells fault
+
+-- no fault of the disk was ignored
+pub returns-in-Ok-clause-unfaulted : goal.returns-in-Ok-clause-unfaulted
+returns-in-Ok-clause-unfaulted g c none =
+    let d = g.D.Disk in
+    counts_on d _ _ _ (keeps_counts d c.args.disk c.in-Ok.disk tt c.in-Ok.ensures.disk) (c.load_whole-in-Ok.ensures.unfaulted none)
+
+pub returns-in-Err-clause-unfaulted : goal.returns-in-Err-clause-unfaulted
+returns-in-Err-clause-unfaulted g c none = format_counts g.D.Disk c.args.disk c.in-Err.disk c.in-Err.e c.in-Err.ensures.disk (not_disk _ (subst IsFaultless c.from.ensures none))

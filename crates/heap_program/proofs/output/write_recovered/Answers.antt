@@ -11,7 +11,7 @@ use Rattle.heap_program.proofs.output.write_recovered.Goals as goal
 pub returns-in_err-line-clause-wrote : goal.returns-in_err-line-clause-wrote
 returns-in_err-line-clause-wrote g c = λ tells core is reached. wrote_nothing _ _ _ c.from_residual.ensures.0
 
--- the line tells the commits since then
+-- the line has the commits since then
 pub returns-in_err-put_all-clause-wrote : goal.returns-in_err-put_all-clause-wrote
 returns-in_err-put_all-clause-wrote g c = λ tells core is reached.
     let count : c.count_since-commits.result ≡ commits_since c.args.before (min (core.before + length (sealed core.history)) greatest) = c.count_since-commits.ensures ∙ ap (commits_since c.args.before) (c.commits.ensures core is) in
@@ -20,7 +20,7 @@ returns-in_err-put_all-clause-wrote g c = λ tells core is reached.
     wrote_less _ _ (recovered_line (commits_since c.args.before (min (core.before + length (sealed core.history)) greatest))) (graph_text (serial core.g0 (sealed core.history))) _ failed
     (wrote_front _ _ c.as_bytes.result.now _ _ failed (c.as_bytes.ensures.value ∙ text) (c.in_err-put_all.ensures.front tells))
 
--- and the graph is written behind it
+-- and the graph is written after it
 pub returns-clause-wrote : goal.returns-clause-wrote
 returns-clause-wrote g c = λ tells core is reached.
     let count : c.count_since-commits.result ≡ commits_since c.args.before (min (core.before + length (sealed core.history)) greatest) = c.count_since-commits.ensures ∙ ap (commits_since c.args.before) (c.commits.ensures core is) in

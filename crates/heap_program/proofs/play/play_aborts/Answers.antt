@@ -11,13 +11,13 @@ use Rattle.heap_program.proofs.PlayCore.{core_none}
 use Rattle.heap_program.proofs.PlayLaws.{plays_none}
 use Rattle.heap_program.proofs.play.play_aborts.Goals as goal
 
--- behind the last session all have aborted
+-- after the last session all have aborted
 all_aborted : (s : ℕ) (c : Core) → 33 ≤ s → s ≤ 33 → aborting_until (s - 1) c ≡ aborting c
 all_aborted s c low high = let last : s - 1 ≡ 32 = omega arith in ap (λ (n : ℕ). aborting_until n c) last ∙ until_last c
 
 pub loop-s-init : goal.loop-s-init
 loop-s-init g c = record {
-  disk = played_none g.D.Disk (heap_disk c.args.heap.now) tt;
+  disk = played_none g.D.Disk (heap_disk c.args.heap.now) tt (Unit {0});
   sink = omega arith;
   core = λ core is running. core_none core c.args.heap.now g.K.Sink.tells (g.K.Sink.written c.args.sink.now) is;
   plays = λ tells of core is running. plays_none of core c.args.heap.now g.K.Sink.tells (g.K.Sink.written c.args.sink.now) is;
@@ -50,7 +50,7 @@ loop-s-preserved g c =
     let s = c.loop-s.s in
     let same : s ≡ (s + 1) - 1 = omega arith in
     record {
-      disk = played_on g.D.Disk _ _ _ (Ok tt) (Ok tt) i.disk c.in_ok-play_abort.ensures.disk;
+      disk = played_on g.D.Disk _ _ _ (Ok tt) (Ok tt) tt (λ well. refl) i.disk c.in_ok-play_abort.ensures.disk;
       sink = omega (arith, i.sink, c.in_ok-play_abort.ensures.sink.kept);
       core = λ core is running.
           let P : ℕ → Type 0 = λ n. PlaysCore core (aborting_until n core) c.play_abort.new.heap k.tells (k.written c.args.sink.now) (k.written c.play_abort.new.sink) (Ok tt) in

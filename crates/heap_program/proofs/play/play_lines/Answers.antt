@@ -12,7 +12,7 @@ use Rattle.heap_program.proofs.play.play_lines.Goals as goal
 
 pub loop-line-init : goal.loop-line-init
 loop-line-init g c = record {
-  disk = played_none g.D.Disk (heap_disk c.args.heap.now) tt;
+  disk = played_none g.D.Disk (heap_disk c.args.heap.now) tt (Unit {0});
   sink = omega arith;
   core = λ core is running. core_none core c.args.heap.now g.K.Sink.tells (g.K.Sink.written c.args.sink.now) is;
   plays = λ tells of core is running. plays_none of core c.args.heap.now g.K.Sink.tells (g.K.Sink.written c.args.sink.now) is;
@@ -35,7 +35,7 @@ loop-line-preserved g c =
     let k = g.K.Sink in
     let i = c.loop-line.invariant in
     record {
-      disk = played_on g.D.Disk _ _ _ (Ok tt) (Ok tt) i.disk c.in_ok-play_line.ensures.disk;
+      disk = played_on g.D.Disk _ _ _ (Ok tt) (Ok tt) tt (λ well. refl) i.disk c.in_ok-play_line.ensures.disk;
       sink = omega (arith, i.sink, c.in_ok-play_line.ensures.sink.kept);
       core = λ core is running. core_more core c.args.lines.now c.loop-line.line-index _ c.loop-line-test.true (record { running = running; sessions = c.requires }) c.loop-line.heap c.play_line.new.heap k.tells (k.written c.args.sink.now) (k.written c.loop-line.sink) (k.written c.play_line.new.sink) (Ok tt)
           (i.core core is running) (λ d is_core is_ready. c.in_ok-play_line.ensures.core d is_core is_ready.running);

@@ -16,7 +16,7 @@ invariant-loop-line g l =
     let k = g.K.Sink in
     let well : Result (Unit {0}) DiskError = Ok tt in
     record {
-      disk : PlaysDisk g.D.Disk (heap_disk l.fn.heap) (heap_disk l.heap) well;
+      disk : PlaysDisk g.D.Disk (heap_disk l.fn.heap) (heap_disk l.heap) well (Unit {0});
       sink : k.faults l.fn.sink ≤ k.faults l.sink;
       core : (c : Core) → IsCore c l.fn.heap → IsRunning c → PlaysCore c (events (take l.line-index l.lines)) l.heap k.tells (k.written l.fn.sink) (k.written l.sink) (Ok tt);
       plays : IsTrue g.D.Disk.tells → (of : Super) (c : Core) → IsHeap of c l.fn.heap → IsRunning c → Plays of c (events (take l.line-index l.lines)) l.fn.heap l.heap k.tells (k.written l.fn.sink) (k.written l.sink) (Ok tt);

@@ -15,7 +15,7 @@ use Rattle.heap_model.proofs.Run.Opening.{SameOpening}
 use Rattle.heap_model.specs.CoreRuns.{total_calls}
 use Rattle.heap_model.specs.Image.{IsLegal, Holds}
 use Rattle.heap_model.proofs.Shaped.{shaped_image}
-use Rattle.heap_model.specs.Opening.{opened, rollback_of}
+use Rattle.heap_model.specs.Opening.{opened, rollback_of, opening_calls}
 use Rattle.page_store.specs.Gates.{open_gates}
 use Rattle.heap_program.proofs.CoreSteps.{all_playable}
 use Rattle.heap_program.specs.Headline.{IsExact, KeepsThroughout, Reopens, StartsAgain, EndsUnopened, RestartsDisk, starts_asked, PrintsSome, IsOfImage}
@@ -32,12 +32,13 @@ use Rattle.heap_program.proofs.PrintRecovered.{whole_count, fails_few, fails_non
 use Rattle.heap_program.proofs.Statuses.{early_none, early_some, halt_end, halt_not_done, open_not_done, open_fault}
 use Rattle.heap_recovery.specs.declared.at.At.TheVariants.{Address}
 use Rattle.heap_recovery.proofs.FaultLaws.{shaped_readable}
-use Rattle.heap_recovery.specs.Faults.{IsNoHeap, IsFaultAt, IsLogLeft, IsLeftOf}
+use Rattle.heap_recovery.specs.Faults.{IsNoHeap, IsFaultAt, IsReadable, IsLogLeft, IsLeftOf}
 use Rattle.heap_program.specs.Refusals.{IsFault, IsWordFault, LeavesAlone}
-use Rattle.heap_program.proofs.RefusalLaws.{told_status, told_each, end_told, end_told_each, only_read, refused_by, not_opened, fault_moments, left_moments, at_end}
+use Rattle.heap_program.proofs.RefusalLaws.{told_status, told_each, end_told, end_told_each, only_read, refused_by, not_opened, fault_moments, left_moments, at_end, opens_few}
 use Rattle.heap_program.proofs.Reopened.{refused_memory}
 use Rattle.heap_program.proofs.RunLaws.{restarts_none}
 use Rattle.heap_program.proofs.PlayPrints.{prints_unplayed, prints_again, prints_early}
+use Rattle.heap_program.proofs.Unfaulted.{sum_stays}
 use Rattle.heap_program.proofs.playing.play_stopped.Goals as goal
 
 -- the heap was not opened
@@ -196,6 +197,11 @@ returns-in-None-clause-played g c tells stored only =
       passed = λ u some. fuse_passes old.disk start n tells began_old u passed;
       few = fuse_most old.disk start n tells began_old (omega (arith, passed));
       restarts = e.disk.restarts tells ∙ ap d.restarts inner;
+      still = λ some.
+          let sum = e.disk.cause.faults_still (λ is. cc) ∙ ap (λ x. d.faults x + d.stops x) inner in
+          let kept = subst (λ x. (d.faults x ≤ d.faults (fuse_inner old.disk)) × (d.stops x ≤ d.stops (fuse_inner old.disk))) began_old (old.disk.faults_kept, old.disk.stops_kept) in
+          let same = sum_stays _ _ _ _ kept.0 kept.1 sum in
+          record { faults = same.0; stops = same.1 };
       stopped = stopped;
       steps = steps;
       rest = leaves_commits d plays.core base stopped final rest;
@@ -272,6 +278,11 @@ returns-in-Some-clause-played g c tells stored only =
       passed = λ u some. fuse_passes old.disk start n tells began_old u passed;
       few = fuse_most old.disk start n tells began_old (omega (arith, passed));
       restarts = e.disk.restarts tells ∙ ap d.restarts inner;
+      still = λ some.
+          let sum = e.disk.cause.faults_still (λ is. cc) ∙ ap (λ x. d.faults x + d.stops x) inner in
+          let kept = subst (λ x. (d.faults x ≤ d.faults (fuse_inner old.disk)) × (d.stops x ≤ d.stops (fuse_inner old.disk))) began_old (old.disk.faults_kept, old.disk.stops_kept) in
+          let same = sum_stays _ _ _ _ kept.0 kept.1 sum in
+          record { faults = same.0; stops = same.1 };
       stopped = final;
       steps = steps;
       rest = begins d.moment d.left_since final (IsCommitPrefix plays.core) (λ image since. keep image (g.met.D.Disk.only_now tells final image since));
@@ -330,14 +341,14 @@ returns-in-None-clause-restarts g c tells =
     subst (λ (n : ℕ). RestartsDisk (starts_asked c.args.stop.again) c.start_again-in-None.result.0 n (r c.start_again-in-None.result.1))
     (ap (λ x. r (fuse_inner x)) c.close.ensures ∙ c.play_lines-played.ensures.disk.restarts tells ∙ c.in-Ok.ensures.disk.restarts tells ∙ ap r c.new.ensures.inner) (c.start_again-in-None.ensures.restarts tells)
 
--- an opening that is refused starts no disk again
+-- an opening that is refused restarts no disk
 pub returns-in-Err-clause-restarts : goal.returns-in-Err-clause-restarts
 returns-in-Err-clause-restarts g c tells =
     let r = g.D.Disk.restarts in
     restarts_none (starts_asked c.args.stop.again) _ _ _ (λ done. absurd (open_not_done c.in-Err.e (sym c.from.ensures ∙ done)))
     (ap r c.into_inner.ensures ∙ c.in-Err.ensures.disk.restarts tells ∙ ap r c.new.ensures.inner)
 
--- it ended before the disk was started again
+-- it ended before the disk was restarted
 pub returns-in-Some-clause-restarts : goal.returns-in-Some-clause-restarts
 returns-in-Some-clause-restarts g c tells =
     let r = g.D.Disk.restarts in
@@ -393,14 +404,14 @@ returns-in-Some-clause-left_alone g c tells expected fault alone =
     let at = subst (λ x. IsFault expected (d.bytes x)) (sym c.new.ensures.inner) fault in
     absurd (not_opened expected (d.bytes (fuse_inner c.new.result)) at (c.in-Ok.ensures.not_heap tells) (c.in-Ok.ensures.damaged tells))
 
--- a status against the image tells what is so of it
+-- a status against the image is true of it
 pub returns-in-Err-clause-refused : goal.returns-in-Err-clause-refused
 returns-in-Err-clause-refused g c tells unstarted =
     let d = g.D.Disk in
     let told = subst (λ x. opening_refusals.IsToldOf c.in-Err.e (d.bytes x)) c.new.ensures.inner (c.in-Err.ensures.refused tells) in
     rw c.from.ensures (told_status c.in-Err.e (d.bytes c.args.disk) told)
 
--- else the disk was started again, or the run ended in its events
+-- else the disk was restarted, or the run ended in its events
 pub returns-then-eq-clause-refused : goal.returns-then-eq-clause-refused
 returns-then-eq-clause-refused g c tells unstarted =
     let r = g.D.Disk.restarts in
@@ -490,7 +501,7 @@ returns-in-Some-clause-keeps_fault g c tells only expected fault =
     let at = subst (λ x. IsFault expected (d.bytes x)) (sym c.new.ensures.inner) fault in
     absurd (not_opened expected (d.bytes (fuse_inner c.new.result)) at (c.in-Ok.ensures.not_heap tells) (c.in-Ok.ensures.damaged tells))
 
--- a status against the image tells of what a crash may leave now
+-- a status against the image is true of what a crash may leave now
 pub returns-in-Err-clause-refused_at_end : goal.returns-in-Err-clause-refused_at_end
 returns-in-Err-clause-refused_at_end g c tells only =
     let d = g.D.Disk in
@@ -551,4 +562,40 @@ pub returns-in-Some-clause-keeps_log : goal.returns-in-Some-clause-keeps_log
 returns-in-Some-clause-keeps_log g c tells only fault =
     let d = g.D.Disk in
     let at = subst (λ x. IsWordFault (d.bytes x)) (sym c.new.ensures.inner) fault in
+    absurd (c.in-Ok.ensures.damaged tells (Address at.0) at.1)
+
+-- an opening that is refused makes no more calls than one does, and none if memory ran out
+pub returns-in-Err-clause-opens_few : goal.returns-in-Err-clause-opens_few
+returns-in-Err-clause-opens_few g c tells unstarted fault =
+    let d = g.D.Disk in
+    let start = c.args.disk in
+    let fuse = c.in-Err.fuse in
+    let e = c.in-Err.ensures in
+    let s = fault.1.0 in
+    let batches = fault.1.1 in
+    let state = fault.1.2 in
+    let n = opening_calls s batches in
+    let began = same_disk _ _ (e.disk.origin ∙ c.new.ensures.origin) in
+    let readable = subst (λ x. IsReadable s batches state (d.bytes x)) (sym c.new.ensures.inner) fault.1.3 in
+    let passes = subst (λ p. ErrorPasses n p (fuse_passed fuse) c.in-Err.e) c.new.ensures.passed (e.passes_readable tells s batches state readable) in
+    let at = subst (λ x. IsWordFault (d.bytes x)) (sym c.new.ensures.inner) fault in
+    rw c.into_inner.ensures (rw c.from.ensures (opens_few n (d.passed start) (d.passed (fuse_inner fuse)) (d.bytes (fuse_inner c.new.result)) c.in-Err.e at (e.refused tells)
+    (λ memory. fuse_none fuse start tells began (fails_none n 0 (fuse_passed fuse) c.in-Err.e memory passes))
+    (fuse_most fuse start n tells began (fails_few n (fuse_passed fuse) (few_calls s batches) c.in-Err.e passes))))
+
+-- else the disk was started again
+pub returns-then-eq-clause-opens_few : goal.returns-then-eq-clause-opens_few
+returns-then-eq-clause-opens_few g c tells unstarted fault =
+    let r = g.D.Disk.restarts in
+    absurd (unstarted (subst (λ (n : ℕ). Rose n (r c.start_again.result.1)) (c.in-Err.ensures.disk.restarts tells ∙ ap r c.new.ensures.inner) (c.start_again.ensures.started tells)))
+
+-- and it is not opened
+pub returns-in-None-clause-opens_few : goal.returns-in-None-clause-opens_few
+returns-in-None-clause-opens_few g c tells unstarted fault =
+    let at = subst (λ x. IsWordFault (g.D.Disk.bytes x)) (sym c.new.ensures.inner) fault in
+    absurd (c.in-Ok.ensures.damaged tells (Address at.0) at.1)
+
+pub returns-in-Some-clause-opens_few : goal.returns-in-Some-clause-opens_few
+returns-in-Some-clause-opens_few g c tells unstarted fault =
+    let at = subst (λ x. IsWordFault (g.D.Disk.bytes x)) (sym c.new.ensures.inner) fault in
     absurd (c.in-Ok.ensures.damaged tells (Address at.0) at.1)

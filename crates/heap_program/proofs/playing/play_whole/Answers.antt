@@ -23,6 +23,8 @@ use Rattle.heap_program.proofs.Statuses.{written_end, halt_end, halt_not_done, o
 use Rattle.heap_program.proofs.PlayPrints.{reached, prints_early, prints_whole}
 use Rattle.heap_program.proofs.Reopened.{reads_only, refused_memory}
 use Rattle.heap_program.proofs.RunLaws.{end_sound}
+use Rattle.heap_program.proofs.Unfaulted.{counts_on, keeps_counts, open_counts, halt_faulty, not_disk}
+use Rattle.heap_program.specs.Causes.{IsFaultless}
 use Rattle.heap_program.proofs.playing.play_whole.Goals as goal
 
 pub returns-in-Err-clause-played : goal.returns-in-Err-clause-played
@@ -69,7 +71,7 @@ returns-in-Ok-play_all-clause-played g c tells stored only =
     let keeps = keeps_own s first running refl es playable old new k.tells before after (Ok tt) plays tells n c.args.disk images
     (stored_moments d stored c.args.disk old.disk (e.moments tells only s stored.batches stored.pages shaped))
     (opening_behind d first s stored.batches (d.bytes c.args.disk) c.args.disk old.disk (stored_super d stored) (e.moments_readable tells only s stored.batches shaped.log.state (shaped_readable s stored.batches stored.pages (d.bytes c.args.disk) shaped)))
-    (λ image left. stored_keeps d stored image (e.crash tells only s stored.batches stored.pages shaped image left)) passed (e.disk.restarts tells) in
+    (λ image left. stored_keeps d stored image (e.crash tells only s stored.batches stored.pages shaped image left)) passed (e.disk.restarts tells) (keeps_counts d c.args.disk old.disk tt e.disk) in
     let all = total_calls first plays.made in
     let calls : d.passed new.disk ≡ counted (n + all) (d.passed c.args.disk) = whole.1.passes ∙ ap (counted all) passed ∙ counted-add all n (d.passed c.args.disk) in
     rw (c.close.ensures, c.status_after-status.ensures) (ends_whole s first running refl es playable old new k.tells before after (Ok tt) plays d c.args.disk new.disk n keeps
@@ -103,7 +105,7 @@ returns-in-Err-play_all-clause-played g c tells stored only =
     let keeps = keeps_own s first running refl es playable old new k.tells before after (Err h) plays tells n c.args.disk images
     (stored_moments d stored c.args.disk old.disk (e.moments tells only s stored.batches stored.pages shaped))
     (opening_behind d first s stored.batches (d.bytes c.args.disk) c.args.disk old.disk (stored_super d stored) (e.moments_readable tells only s stored.batches shaped.log.state (shaped_readable s stored.batches stored.pages (d.bytes c.args.disk) shaped)))
-    (λ image left. stored_keeps d stored image (e.crash tells only s stored.batches stored.pages shaped image left)) passed (e.disk.restarts tells) in
+    (λ image left. stored_keeps d stored image (e.crash tells only s stored.batches stored.pages shaped image left)) passed (e.disk.restarts tells) (keeps_counts d c.args.disk old.disk tt e.disk) in
     let all = total_calls first plays.made in
     let sum = counted-add all n (d.passed c.args.disk) in
     let whole = λ (u : Unharmed d c.args.disk new.disk). exact_passes s first running refl es playable old new k.tells before after (Err h) plays (unharmed u) ∙ ap (counted all) passed ∙ sum in
@@ -186,7 +188,7 @@ returns-in-Ok-play_all-clause-keeps_fault g c tells only expected fault = absurd
 pub returns-in-Err-play_all-clause-keeps_fault : goal.returns-in-Err-play_all-clause-keeps_fault
 returns-in-Err-play_all-clause-keeps_fault g c tells only expected fault = absurd (not_opened expected (g.D.Disk.bytes c.args.disk) fault (c.in-Ok.ensures.not_heap tells) (c.in-Ok.ensures.damaged tells))
 
--- a status against the image tells of what a crash may leave now
+-- a status against the image is true of what a crash may leave now
 pub returns-in-Err-clause-refused_at_end : goal.returns-in-Err-clause-refused_at_end
 returns-in-Err-clause-refused_at_end g c tells only =
     told_each g.D.Disk c.in-Err.e c.from.result c.args.disk c.in-Err.disk c.from.ensures (c.in-Err.ensures.refused tells) (c.in-Err.ensures.moments_not_heap tells only) (c.in-Err.ensures.moments_damaged tells only)
@@ -225,3 +227,15 @@ returns-in-Ok-play_all-clause-opens_once g c tells fault = absurd (c.in-Ok.ensur
 
 pub returns-in-Err-play_all-clause-opens_once : goal.returns-in-Err-play_all-clause-opens_once
 returns-in-Err-play_all-clause-opens_once g c tells fault = absurd (c.in-Ok.ensures.damaged tells (Address fault.0) fault.1)
+
+-- no fault of the disk was ignored
+pub returns-in-Err-clause-unfaulted : goal.returns-in-Err-clause-unfaulted
+returns-in-Err-clause-unfaulted g c none = open_counts g.D.Disk c.args.disk c.in-Err.disk c.in-Err.e c.in-Err.ensures.disk (not_disk _ (subst IsFaultless c.from.ensures none))
+
+pub returns-in-Ok-play_all-clause-unfaulted : goal.returns-in-Ok-play_all-clause-unfaulted
+returns-in-Ok-play_all-clause-unfaulted g c none =
+    let d = g.D.Disk in
+    rw c.close.ensures (counts_on d _ _ _ (keeps_counts d c.args.disk c.in-Ok.heap.disk tt c.in-Ok.ensures.disk) (c.in-Ok-play_all.ensures.disk.still refl))
+
+pub returns-in-Err-play_all-clause-unfaulted : goal.returns-in-Err-play_all-clause-unfaulted
+returns-in-Err-play_all-clause-unfaulted g c none = absurd (halt_faulty c.in-Err-play_all.halt (subst IsFaultless c.from-in-Err-play_all.ensures none))

@@ -1,4 +1,4 @@
-use Rattle.std.proofs.Common.{◌≡◌, inr, ℕ, List, Some, None, Ok, sym, ap, ◌∙◌, subst}
+use Rattle.std.proofs.Common.{◌≡◌, inr, ℕ, List, Some, None, Ok, sym, ap, ◌∙◌, subst, arith}
 use Rattle.script_text.specs.declared.line.Line.{Line}
 use Rattle.heap_program.proofs.CoreSteps.{script_is}
 use Rattle.heap_model.specs.Ending.{all_events}
@@ -9,8 +9,10 @@ use Rattle.heap_program.specs.Refusals.{fault_calls}
 use Rattle.heap_program.proofs.PlayOpen.{new_stored, no_calls}
 use Rattle.heap_program.proofs.PlayPrints.{prints_script}
 use Rattle.heap_program.proofs.RunLaws.{large_made, not_read, end_sound}
-use Rattle.heap_program.proofs.RefusalLaws.{input_told_each, input_once, alone_untouched}
+use Rattle.heap_program.proofs.RefusalLaws.{input_told_each, input_once, once_few, alone_untouched}
 use Rattle.heap_program.proofs.WordFaults.{untouched_log}
+use Rattle.heap_program.proofs.Unfaulted.{counts_on, keeps_counts, format_counts, not_disk}
+use Rattle.heap_program.specs.Causes.{IsFaultless}
 use Rattle.heap_program.proofs.playing.run_play.Goals as goal
 
 pub play_script-requires : goal.play_script-requires
@@ -44,7 +46,7 @@ returns-in-Ok-format-clause-headline g c tells only =
     let es = all_events (stop_after c.args.stop) first (events lines) in
     rw c.in-Some.is (inr (record {
       made = c.in-Ok-format.disk;
-      format = record { moments = e.moments tells only; empty = made.0; zeros = e.empty tells; kept = e.outside tells; outside = e.moments_outside tells only; only = made.1; passed = (e.passes tells (large_made _ _ e.small)).ok; restarts = e.disk.restarts tells };
+      format = record { moments = e.moments tells only; empty = made.0; zeros = e.empty tells; kept = e.outside tells; outside = e.moments_outside tells only; only = made.1; passed = (e.passes tells (large_made _ _ e.small)).ok; restarts = e.disk.restarts tells; still = keeps_counts d c.args.disk c.in-Ok-format.disk tt e.disk };
       plays = record {
         lines = lines;
         script = record { bytes = read.0; script = read.1 ∙ ap (λ (ls : List Line). Ok ls) (sym c.deref-in-Ok-format.ensures.value); own = read.2 };
@@ -112,3 +114,20 @@ returns-in-Err-clause-opens_once g c tells none unstopped fault = input_once (fa
 
 pub returns-in-None-clause-opens_once : goal.returns-in-None-clause-opens_once
 returns-in-None-clause-opens_once g c tells unmade unstopped fault = c.play_script.ensures.opens_once tells unstopped fault
+
+-- with a stop they are no more
+pub returns-in-Err-clause-opens_few : goal.returns-in-Err-clause-opens_few
+returns-in-Err-clause-opens_few g c tells none unstarted fault = once_few (fault_calls fault) _ _ c.in-Err.status (input_once (fault_calls fault) (g.D.Disk.passed c.args.disk) c.in-Err.status c.in-Err.ensures.status)
+
+pub returns-in-None-clause-opens_few : goal.returns-in-None-clause-opens_few
+returns-in-None-clause-opens_few g c tells unmade unstarted fault = c.play_script.ensures.opens_few tells unstarted fault
+
+-- no fault of the disk was ignored
+pub returns-in-Ok-format-clause-unfaulted : goal.returns-in-Ok-format-clause-unfaulted
+returns-in-Ok-format-clause-unfaulted g c unstopped none =
+    let d = g.D.Disk in
+    counts_on d _ _ _ (keeps_counts d c.args.disk c.in-Ok-format.disk tt c.in-Ok-format.ensures.disk) (c.play_script-in-Ok-format.ensures.unfaulted unstopped none)
+
+pub returns-clause-unfaulted : goal.returns-clause-unfaulted
+returns-clause-unfaulted g c unstopped none =
+    format_counts g.D.Disk c.args.disk c.in-Err-format.disk c.in-Err-format.e c.in-Err-format.ensures.disk (not_disk _ (subst IsFaultless c.from.ensures none))

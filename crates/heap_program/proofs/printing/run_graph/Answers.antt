@@ -1,4 +1,4 @@
-use Rattle.std.proofs.Common.{◌≡◌, inr, arith, refl}
+use Rattle.std.proofs.Common.{◌≡◌, ◌≢◌, inr, arith, refl, subst}
 use Rattle.counts.specs.Count.{counted}
 use Rattle.graph_model.specs.Transaction.{serial}
 use Rattle.graph_model.specs.History.{sealed}
@@ -15,6 +15,9 @@ use Rattle.heap_program.proofs.Statuses.{open_end, open_not_done, written_end, w
 use Rattle.heap_program.proofs.Written.{none_written, wrote_some}
 use Rattle.heap_program.proofs.Reopened.{reads_only, refused_memory, outside_memory}
 use Rattle.heap_program.proofs.RunLaws.{end_sound}
+use Rattle.heap_program.proofs.Unfaulted.{keeps_counts, open_counts}
+use Rattle.heap_program.specs.declared.status.Status.{Status}
+use Rattle.heap_program.specs.declared.status.Status.TheVariants as status
 use Rattle.heap_program.proofs.printing.run_graph.Goals as goal
 
 pub returns-in-Ok-clause-graph : goal.returns-in-Ok-clause-graph
@@ -106,7 +109,7 @@ returns-in-Err-clause-keeps_fault g c tells only expected fault =
 pub returns-in-Ok-clause-keeps_fault : goal.returns-in-Ok-clause-keeps_fault
 returns-in-Ok-clause-keeps_fault g c tells only expected fault = absurd (not_opened expected (g.D.Disk.bytes c.args.disk) fault (c.in-Ok.ensures.not_heap tells) (c.in-Ok.ensures.damaged tells))
 
--- a status against the image tells of what a crash may leave now
+-- a status against the image is true of what a crash may leave now
 pub returns-in-Ok-clause-refused_at_end : goal.returns-in-Ok-clause-refused_at_end
 returns-in-Ok-clause-refused_at_end g c tells only = rw c.status_after-status.ensures (end_told_each _ _ (written_end c.write_graph.result))
 
@@ -132,3 +135,10 @@ returns-in-Err-clause-opens_once g c tells fault =
 
 pub returns-in-Ok-clause-opens_once : goal.returns-in-Ok-clause-opens_once
 returns-in-Ok-clause-opens_once g c tells fault = absurd (c.in-Ok.ensures.damaged tells (Address fault.0) fault.1)
+
+-- no fault of the disk was ignored
+pub returns-in-Err-clause-unfaulted : goal.returns-in-Err-clause-unfaulted
+returns-in-Err-clause-unfaulted g c none = open_counts g.D.Disk c.args.disk c.in-Err.disk c.in-Err.e c.in-Err.ensures.disk (subst (λ (s : Status). s ≢ status.DiskFault) c.from.ensures none)
+
+pub returns-in-Ok-clause-unfaulted : goal.returns-in-Ok-clause-unfaulted
+returns-in-Ok-clause-unfaulted g c none = rw c.close.ensures (keeps_counts g.D.Disk c.args.disk c.in-Ok.heap.disk tt c.in-Ok.ensures.disk)

@@ -21,7 +21,7 @@ pub rounds-init : goal.rounds-init
 rounds-init g c = (
   [],
   refl,
-  played_none g.D.Disk (heap_disk c.args.heap.now) tt,
+  played_none g.D.Disk (heap_disk c.args.heap.now) tt (Unit {0}),
   omega arith,
   (λ core is running. core_none core c.args.heap.now g.K.Sink.tells (g.K.Sink.written c.args.sink.now) is),
   (λ tells of core is running. plays_none of core c.args.heap.now g.K.Sink.tells (g.K.Sink.written c.args.sink.now) is),
@@ -52,7 +52,7 @@ rounds-preserved g c =
     let after = k.written c.play_lines.new.sink in (
       so_far.0 ++ round,
       parts,
-      played_on g.D.Disk _ _ _ (Ok tt) (Ok tt) so_far.2 c.in_ok-play_lines.ensures.disk,
+      played_on g.D.Disk _ _ _ (Ok tt) (Ok tt) tt (λ well. refl) so_far.2 c.in_ok-play_lines.ensures.disk,
       omega (arith, so_far.3, c.in_ok-play_lines.ensures.sink.kept),
       (λ core is running. core_round so_far.0 round rest all parts core (record { running = running; sessions = c.requires }) mid new k.tells before between after (Ok tt) (so_far.4 core is running)
           (λ d is_core is_ready. subst (λ (ls : List Line). PlaysCore d (events ls) new k.tells between after (Ok tt)) c.deref.ensures.value (c.in_ok-play_lines.ensures.core d is_core is_ready.running))),
@@ -99,7 +99,7 @@ returns-in_err-play_lines-clause-plays g c tells of core heap running =
     (λ d is_heap is_ready. subst (λ (ls : List Line). Plays of d (events ls) mid new k.tells between after (Err e)) c.deref.ensures.value (c.in_err-play_lines.ensures.plays tells of d is_heap is_ready.running))
     so_far.2.cause.faults_kept so_far.2.cause.stops_kept (λ never. cc))
 
--- memory was refused to the next round
+-- memory ran out for the next round
 pub returns-in_err-round-clause-core : goal.returns-in_err-round-clause-core
 returns-in_err-round-clause-core g c core is running =
     let k = g.K.Sink in

@@ -19,7 +19,7 @@ invariant-rounds g l =
     let well : Result (Unit {0}) DiskError = Ok tt in
     (done : List Line)
     × (lines_left l.fn.load ≡ done ++ lines_left l.load)
-    × PlaysDisk g.D.Disk (heap_disk l.fn.heap) (heap_disk l.heap) well
+    × PlaysDisk g.D.Disk (heap_disk l.fn.heap) (heap_disk l.heap) well (Unit {0})
     × (k.faults l.fn.sink ≤ k.faults l.sink)
     × ((c : Core) → IsCore c l.fn.heap → IsRunning c → PlaysCore c (events done) l.heap k.tells (k.written l.fn.sink) (k.written l.sink) (Ok tt))
     × (IsTrue g.D.Disk.tells → (of : Super) (c : Core) → IsHeap of c l.fn.heap → IsRunning c → Plays of c (events done) l.fn.heap l.heap k.tells (k.written l.fn.sink) (k.written l.sink) (Ok tt))

@@ -56,7 +56,7 @@ returns-in-Some-clause-core g c core is running =
     line_played core c.args.number (Some text) c.play_line.new.heap k.tells (k.written c.args.sink.now) (k.written c.play_line.new.sink) line c.play_line.result (names text (Some line) some found) (faults c.args.number text (Some line) some found)
     (c.play_line.ensures.core core is running)
 
--- likewise on a disk that tells
+-- likewise on a modelled disk
 pub returns-then-is_empty-clause-plays : goal.returns-then-is_empty-clause-plays
 returns-then-is_empty-clause-plays g c tells s core is running =
     let k = g.K.Sink in

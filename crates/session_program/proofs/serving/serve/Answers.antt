@@ -1,5 +1,7 @@
-use Rattle.std.proofs.Common.{◌≡◌, ◌∙◌, ℕ, ◌≤◌, suc, zero, [], refl, arith, sym}
+use Rattle.std.proofs.Common.{◌≡◌, ◌∙◌, ℕ, ◌≤◌, suc, zero, [], refl, arith, subst, sym}
 use Rattle.std.specs.Prelude.{IsTrue}
+use Rattle.heap_program.specs.Causes.{IsFaultless}
+use Rattle.heap_program.proofs.Unfaulted.{counts_on}
 use Rattle.heap_program.proofs.Written.{front_written}
 use Rattle.session_program.specs.Parts.{Place, ServesPart, Parts}
 use Rattle.session_program.proofs.PartLaws.{on_done, on_error, error_of, last_part, no_part, told_part, untold_part}
@@ -27,6 +29,7 @@ returns-in-End-clause-parts g c =
       read_fault = e.read_fault;
       write_fault = e.write_fault;
       disk_fault = e.disk_fault;
+      unfaulted = e.unfaulted;
       serves = e.serves;
       served = e.served;
       restarts = e.restarts;
@@ -38,6 +41,7 @@ returns-in-End-clause-parts g c =
       left_alone = e.left_alone;
       keeps_fault = e.keeps_fault;
       keeps_log = e.keeps_log;
+      opens_once = e.opens_once;
     } in
     (p.new.reader.held, last_part d s k old here l.invariant.parts.0 l.invariant.parts.1 p.result.0 p.result.2 closed part c.in-End.is)
 
@@ -58,6 +62,7 @@ returns-then-is_err-clause-parts g c =
       read_fault = e.read_fault;
       write_fault = e.write_fault;
       disk_fault = e.disk_fault;
+      unfaulted = e.unfaulted;
       serves = e.serves;
       served = e.served;
       restarts = e.restarts;
@@ -69,6 +74,7 @@ returns-then-is_err-clause-parts g c =
       left_alone = e.left_alone;
       keeps_fault = e.keeps_fault;
       keeps_log = e.keeps_log;
+      opens_once = e.opens_once;
     } in
     let failed = sym c.is_err.ensures.value ∙ c.if-is_err.true in
     (p.new.reader.held, untold_part d s k old here l.invariant.parts.0 l.invariant.parts.1 p.result.0 p.result.2 closed part c.in-Reopen.is c.put_all.new.sink (c.put_all.ensures.cause.failed (error_of c.put_all.result failed)) (λ t. front_written _ _ _ _ refl (on_error c.put_all.result failed (c.put_all.ensures.front t))))
@@ -90,6 +96,7 @@ loop-part-preserved g c =
       read_fault = e.read_fault;
       write_fault = e.write_fault;
       disk_fault = e.disk_fault;
+      unfaulted = e.unfaulted;
       serves = e.serves;
       served = e.served;
       restarts = e.restarts;
@@ -101,6 +108,7 @@ loop-part-preserved g c =
       left_alone = e.left_alone;
       keeps_fault = e.keeps_fault;
       keeps_log = e.keeps_log;
+      opens_once = e.opens_once;
     } in
     let i = l.invariant in
     record {
@@ -108,6 +116,7 @@ loop-part-preserved g c =
       source = omega (arith, i.source, e.read_fault.kept);
       sink = omega (arith, i.sink, e.write_fault.kept, c.put_all.ensures.cause.kept);
       disk = record { extent = e.disk_fault.extent ∙ i.disk.extent; origin = e.disk_fault.origin ∙ i.disk.origin; kept = omega (arith, i.disk.kept, e.disk_fault.kept); cause = λ never. absurd never };
+      counts = counts_on d _ _ _ i.counts (e.unfaulted (subst IsFaultless (sym (e.done c.in-Reopen.is)) tt));
       restarts = λ t. e.restarts t ∙ i.restarts t;
       parts = (suc i.parts.0, told_part d s k old here i.parts.0 i.parts.1 p.result.0 p.result.2 closed part c.in-Reopen.is c.put_all.new.sink c.put_all.ensures.cause.kept (λ t. on_done c.put_all.result (sym c.is_err.ensures.value ∙ c.if-is_err.false) (c.put_all.ensures.all t)));
     }
@@ -121,3 +130,7 @@ returns-clause-parts g c =
     let old : Place _ _ _ = record { disk = c.args.disk; held = []; source = c.args.source.now; sink = c.args.sink.now } in
     let here : Place _ _ _ = record { disk = l.disk; held = l.reader.held; source = l.source; sink = l.sink } in
     (l.reader.held, no_part d s k old here l.invariant.parts.0 l.invariant.parts.1)
+
+-- no fault of the disk was ignored
+pub returns-in-End-clause-unfaulted : goal.returns-in-End-clause-unfaulted
+returns-in-End-clause-unfaulted g c none = counts_on g.D.Disk _ _ _ c.loop-part.invariant.counts (c.serve_part-status.ensures.unfaulted none)

@@ -1,6 +1,6 @@
 use Rattle.std.proofs.Common.{◌≡◌, ℕ, ◌≤◌, []}
 use Rattle.std.specs.Prelude.{IsTrue, IsFalse}
-use Rattle.heap_program.specs.Causes.{RunsDisk}
+use Rattle.heap_program.specs.Causes.{RunsDisk, CountsStay}
 use Rattle.session_program.specs.Parts.{Parts}
 use Rattle.session_program.proofs.serving.serve.Given as goal
 
@@ -15,6 +15,7 @@ invariant-loop-part g l =
       source : s.faults l.fn.source ≤ s.faults l.source;
       sink : k.faults l.fn.sink ≤ k.faults l.sink;
       disk : RunsDisk d l.fn.disk l.disk ⊥;
+      counts : CountsStay d l.fn.disk l.disk;
       restarts : IsTrue d.tells → d.restarts l.disk ≡ d.restarts l.fn.disk;
       parts : (count : ℕ) × Parts d s k count (record { disk = l.fn.disk; held = []; source = l.fn.source; sink = l.fn.sink }) (record { disk = l.disk; held = l.reader.held; source = l.source; sink = l.sink });
     }

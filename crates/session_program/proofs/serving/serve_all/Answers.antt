@@ -61,7 +61,7 @@ returns-in_ok-play_ending-in-End-clause-core g c core is running =
     let o = subst P c.in-End.is (c.in_ok-serve_lines.ensures.core core is running) in
     record { part = o.part; rest = o.rest; input = o.input; is = session_whole s.tells o.part o.rest core k.tells w running mid c.play_ending.new.heap now (k.written c.play_ending.new.sink) next.End o.is (Ok tt) c.in_ok-play_ending-in-End.ensures.core }
 
--- likewise on a disk that tells
+-- likewise on a modelled disk
 pub returns-in_err-serve_lines-clause-plays : goal.returns-in_err-serve_lines-clause-plays
 returns-in_err-serve_lines-clause-plays g c tells of core is running =
     let s = g.S.Source in

@@ -27,7 +27,7 @@ loop-turn-init g c =
     let left = c.args.reader.now.held ++ s.left c.args.source.now in
     let w = k.written c.args.sink.now in
     record {
-      disk = played_none g.D.Disk (heap_disk c.args.heap.now) tt;
+      disk = played_none g.D.Disk (heap_disk c.args.heap.now) tt (Unit {0});
       source = omega arith;
       sink = omega arith;
       few = omega arith;
@@ -156,7 +156,7 @@ loop-turn-preserved g c =
           let heap = b.answer.new.heap in
           let after = k.written b.answer.new.sink in
           rw (b.heap-is, b.sink-is) (record {
-            disk = played_on g.D.Disk _ _ _ (Ok tt) (Ok tt) l.invariant.disk b.in_ok-answer-in-Line-2.ensures.disk;
+            disk = played_on g.D.Disk _ _ _ (Ok tt) (Ok tt) tt (λ well. refl) l.invariant.disk b.in_ok-answer-in-Line-2.ensures.disk;
             source = omega (arith, l.invariant.source, c.next.ensures.kept);
             sink = omega (arith, l.invariant.sink, b.in_ok-answer-in-Line-2.ensures.sink.kept);
             few = omega (arith, l.invariant.few);
@@ -205,7 +205,7 @@ returns-clause-core g c core is running =
     let so_far = l.invariant.core core is running in
     record { part = left; rest = s.left l.source; input = (refl, refl); is = lines_nothing s.tells left core l.heap l.heap passing passing stream stream l.number k.tells w now now so_far (s.left l.source) }
 
--- likewise on a disk that tells
+-- likewise on a modelled disk
 pub returns-in_err-text-clause-plays : goal.returns-in_err-text-clause-plays
 returns-in_err-text-clause-plays g c tells of core is running =
     let s = g.S.Source in

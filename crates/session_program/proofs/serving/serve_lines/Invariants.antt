@@ -18,7 +18,7 @@ invariant-loop-turn g l =
     let k = g.K.Sink in
     let well : Result (Unit {0}) DiskError = Ok tt in
     record {
-      disk : PlaysDisk g.D.Disk (heap_disk l.fn.heap) (heap_disk l.heap) well;
+      disk : PlaysDisk g.D.Disk (heap_disk l.fn.heap) (heap_disk l.heap) well (Unit {0});
       source : s.faults l.fn.source ≤ s.faults l.source;
       sink : k.faults l.fn.sink ≤ k.faults l.sink;
       few : l.number ≤ l.turn + 1;

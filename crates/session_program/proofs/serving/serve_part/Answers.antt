@@ -3,7 +3,7 @@ use Rattle.heap_core.specs.HeapState.{heap_disk}
 use Rattle.heap_model.proofs.Shaped.{shaped_image}
 use Rattle.heap_program.specs.declared.play.Halt.TheVariants as halt
 use Rattle.heap_program.specs.declared.status.Status.TheVariants as status
-use Rattle.heap_program.specs.Causes.{DiskRose, Unharmed}
+use Rattle.heap_program.specs.Causes.{DiskRose, IsFaultless, Unharmed}
 use Rattle.heap_program.specs.StatusOf.{open_status}
 use Rattle.heap_program.specs.Stored.{stored_core, stored_calls}
 use Rattle.heap_program.proofs.Causes.{rose_sum, rose_sum_stops, disk_rose_since}
@@ -12,14 +12,15 @@ use Rattle.heap_recovery.proofs.FaultLaws.{shaped_readable}
 use Rattle.heap_program.proofs.Behind.{opening_behind}
 use Rattle.heap_program.proofs.PlayOpen.{stored_running, stored_keeps, stored_moments, stored_super, opened_core}
 use Rattle.heap_program.proofs.PrintRecovered.{fails_most, fails_none}
-use Rattle.heap_program.proofs.RefusalLaws.{fault_moments, left_moments}
+use Rattle.heap_program.proofs.RefusalLaws.{fault_moments, left_moments, opens_once}
 use Rattle.heap_program.proofs.Reopened.{outside_memory, reads_only, refused_memory}
 use Rattle.heap_program.proofs.Statuses.{open_harm}
 use Rattle.heap_recovery.specs.declared.at.At.TheVariants.{Address}
 use Rattle.session_program.specs.declared.ending.Break.{Break}
 use Rattle.session_program.specs.declared.ending.Break.TheVariants.{Halted, ReadFault}
 use Rattle.session_program.proofs.Limits.{session_limits}
-use Rattle.session_program.proofs.ServedWhole.{served_opened, served_none, broken_memory}
+use Rattle.session_program.proofs.ServedWhole.{served_opened, served_none, broken_memory, broken_uncut}
+use Rattle.heap_program.proofs.Unfaulted.{counts_on, keeps_counts, open_counts, not_disk}
 use Rattle.session_program.proofs.serving.serve_part.Goals as goal
 
 pub returns-in-Ok-serve_all-clause-serves : goal.returns-in-Ok-serve_all-clause-serves
@@ -122,7 +123,7 @@ returns-in-Ok-serve_all-clause-served g c tells only stored =
           (stored_moments d stored c.args.disk old.disk (e.moments tells only stored.super stored.batches stored.pages shaped))
           (opening_behind d first stored.super stored.batches (d.bytes c.args.disk) c.args.disk old.disk (stored_super d stored) (e.moments_readable tells only stored.super stored.batches shaped.log.state (shaped_readable stored.super stored.batches stored.pages (d.bytes c.args.disk) shaped)))
           (λ image left. stored_keeps d stored image (e.crash tells only stored.super stored.batches stored.pages shaped image left))
-          (e.passes tells stored.super stored.batches stored.pages shaped).ok (e.disk.restarts tells) unharmed;
+          (e.passes tells stored.super stored.batches stored.pages shaped).ok (e.disk.restarts tells) (keeps_counts d c.args.disk old.disk tt e.disk) unharmed;
     })
 
 pub returns-in-Err-serve_all-clause-served : goal.returns-in-Err-serve_all-clause-served
@@ -148,10 +149,10 @@ returns-in-Err-serve_all-clause-served g c tells only stored =
           (stored_moments d stored c.args.disk old.disk (e.moments tells only stored.super stored.batches stored.pages shaped))
           (opening_behind d first stored.super stored.batches (d.bytes c.args.disk) c.args.disk old.disk (stored_super d stored) (e.moments_readable tells only stored.super stored.batches shaped.log.state (shaped_readable stored.super stored.batches stored.pages (d.bytes c.args.disk) shaped)))
           (λ image left. stored_keeps d stored image (e.crash tells only stored.super stored.batches stored.pages shaped image left))
-          (e.passes tells stored.super stored.batches stored.pages shaped).ok (e.disk.restarts tells) unharmed;
+          (e.passes tells stored.super stored.batches stored.pages shaped).ok (e.disk.restarts tells) (keeps_counts d c.args.disk old.disk tt e.disk) unharmed;
     })
 
--- Without a fault it is done, or memory was refused.
+-- Without a fault it is done, or memory ran out.
 pub returns-in-Err-clause-complete : goal.returns-in-Err-clause-complete
 returns-in-Err-clause-complete g c tells only stored no_source no_sink no_disk =
     let e = c.in-Err.ensures in
@@ -184,3 +185,30 @@ returns-in-Ok-serve_all-clause-keeps_log g c tells only fault = absurd (c.in-Ok.
 
 pub returns-in-Err-serve_all-clause-keeps_log : goal.returns-in-Err-serve_all-clause-keeps_log
 returns-in-Err-serve_all-clause-keeps_log g c tells only fault = absurd (c.in-Ok.ensures.damaged tells (Address fault.0) fault.1)
+
+-- it made the writes and syncs of one opening
+pub returns-in-Err-clause-opens_once : goal.returns-in-Err-clause-opens_once
+returns-in-Err-clause-opens_once g c tells fault =
+    let d = g.D.Disk in
+    rw c.from.ensures (opens_once (d.bytes c.args.disk) (d.passed c.args.disk) (d.passed c.in-Err.disk) c.in-Err.e fault (c.in-Err.ensures.refused tells) (c.in-Err.ensures.passes_readable tells))
+
+pub returns-in-Ok-serve_all-clause-opens_once : goal.returns-in-Ok-serve_all-clause-opens_once
+returns-in-Ok-serve_all-clause-opens_once g c tells fault = absurd (c.in-Ok.ensures.damaged tells (Address fault.0) fault.1)
+
+pub returns-in-Err-serve_all-clause-opens_once : goal.returns-in-Err-serve_all-clause-opens_once
+returns-in-Err-serve_all-clause-opens_once g c tells fault = absurd (c.in-Ok.ensures.damaged tells (Address fault.0) fault.1)
+
+-- no fault of the disk was ignored
+pub returns-in-Err-clause-unfaulted : goal.returns-in-Err-clause-unfaulted
+returns-in-Err-clause-unfaulted g c none = open_counts g.D.Disk c.args.disk c.in-Err.disk c.in-Err.e c.in-Err.ensures.disk (not_disk _ (subst IsFaultless c.from.ensures none))
+
+pub returns-in-Ok-serve_all-clause-unfaulted : goal.returns-in-Ok-serve_all-clause-unfaulted
+returns-in-Ok-serve_all-clause-unfaulted g c none =
+    let d = g.D.Disk in
+    rw c.close.ensures (counts_on d _ _ _ (keeps_counts d c.args.disk c.in-Ok.heap.disk tt c.in-Ok.ensures.disk) (c.in-Ok-serve_all.ensures.disk.still tt))
+
+pub returns-in-Err-serve_all-clause-unfaulted : goal.returns-in-Err-serve_all-clause-unfaulted
+returns-in-Err-serve_all-clause-unfaulted g c none =
+    let d = g.D.Disk in
+    let uncut = broken_uncut c.in-Err-serve_all.ended (subst IsFaultless c.break_status.ensures none) in
+    rw c.close-in-Err-serve_all.ensures (counts_on d _ _ _ (keeps_counts d c.args.disk c.in-Ok.heap.disk tt c.in-Ok.ensures.disk) (c.in-Err-serve_all.ensures.disk.still uncut))

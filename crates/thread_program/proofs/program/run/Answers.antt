@@ -1,14 +1,16 @@
-use Rattle.std.proofs.Common.{◌≡◌, ℕ, Option, None, Some, refl, ap, ◌∙◌, subst}
+use Rattle.std.proofs.Common.{◌≡◌, ℕ, Option, None, Some, refl, ap, ◌∙◌, subst, arith}
 use Rattle.std.specs.Prelude.{IfSome}
 use Rattle.command_words.specs.declared.commands.Command.TheVariants as asked
 use Rattle.command_words.specs.declared.commands.Command.{Command}
 use Rattle.command_words.specs.declared.commands.CommandError.TheVariants as asking
 use Rattle.command_words.specs.Limits.{IsPages, IsWithin}
-use Rattle.heap_program.specs.Commands.{makes}
+use Rattle.heap_program.specs.Commands.{makes, MeetsNoFault}
 use Rattle.heap_program.specs.Headline.{made_super}
 use Rattle.heap_program.specs.Playable.{IsReadFrom}
 use Rattle.heap_program.proofs.CommandLaws.{graph_unread}
 use Rattle.heap_program.proofs.WordFaults.{untouched_log}
+use Rattle.heap_program.proofs.RefusalLaws.{once_few}
+use Rattle.heap_program.specs.Refusals.{fault_calls}
 use Rattle.thread_program.proofs.SafeLaws.{runs_safely}
 use Rattle.thread_program.proofs.program.run.Goals as goal
 
@@ -56,3 +58,17 @@ pub returns-in-Ok-Threads-clause-opens_once : goal.returns-in-Ok-Threads-clause-
 returns-in-Ok-Threads-clause-opens_once g c tells which is none unstopped fault =
     let same : which ≡ asked.Threads c.in-Ok-Threads.fresh c.in-Ok-Threads.tries = cc (is, c.in-Ok-Threads.ensures.read, c.in-Ok-Threads.field-0-is) in
     c.run_threads.ensures.opens_once tells (threads_made c.in-Ok-Threads.fresh c.in-Ok-Threads.tries (subst (λ (x : Command). makes x ≡ None) same none)) fault
+
+pub returns-in-Ok-Threads-clause-opens_few : goal.returns-in-Ok-Threads-clause-opens_few
+returns-in-Ok-Threads-clause-opens_few g c tells which is none unstarted fault =
+    let same : which ≡ asked.Threads c.in-Ok-Threads.fresh c.in-Ok-Threads.tries = cc (is, c.in-Ok-Threads.ensures.read, c.in-Ok-Threads.field-0-is) in
+    once_few (fault_calls fault) _ _ c.run_threads.result.0 (c.run_threads.ensures.opens_once tells (threads_made c.in-Ok-Threads.fresh c.in-Ok-Threads.tries (subst (λ (x : Command). makes x ≡ None) same none)) fault)
+
+pub returns-in-Err-NoMemory-clause-opens_few : goal.returns-in-Err-NoMemory-clause-opens_few
+returns-in-Err-NoMemory-clause-opens_few g c tells which is none unstarted fault = refl
+
+-- no fault of the disk is ignored
+pub returns-in-Ok-Threads-clause-unfaulted : goal.returns-in-Ok-Threads-clause-unfaulted
+returns-in-Ok-Threads-clause-unfaulted g c which is unstopped none =
+    let same : which ≡ asked.Threads c.in-Ok-Threads.fresh c.in-Ok-Threads.tries = cc (is, c.in-Ok-Threads.ensures.read, c.in-Ok-Threads.field-0-is) in
+    c.run_threads.ensures.unfaulted (subst (λ (x : Command). MeetsNoFault x c.run_threads.result.0) same none)

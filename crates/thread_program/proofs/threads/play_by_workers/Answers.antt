@@ -17,6 +17,8 @@ use Rattle.heap_recovery.specs.declared.at.At.TheVariants.{Address}
 use Rattle.heap_recovery.proofs.FaultLaws.{shaped_readable}
 use Rattle.thread_program.proofs.PlayedLaws.{OpenedOn, played_together}
 use Rattle.thread_program.proofs.UnopenedLaws.{open_not_refused, unopened_together}
+use Rattle.heap_program.specs.Causes.{IsFaultless}
+use Rattle.heap_program.proofs.Unfaulted.{counts_on, keeps_counts, open_counts, faultless_done, not_disk}
 use Rattle.thread_program.proofs.threads.play_by_workers.Goals as goal
 
 pub returns-in-Err-clause-played : goal.returns-in-Err-clause-played
@@ -61,6 +63,7 @@ returns-in-Ok-clause-played g c tells stored only =
       here = λ image left. stored_keeps d stored image (e.crash tells only s stored.batches stored.pages shaped image left);
       passed = (e.passes tells s stored.batches stored.pages shaped).ok;
       restarts = e.disk.restarts tells;
+      counts = keeps_counts d c.args.disk old.disk tt e.disk;
       faults = e.disk.cause.faults_kept;
       stops = e.disk.cause.stops_kept;
       no_first_stop = λ none. e.no_first_stop tells s stored.batches stored.pages shaped (no_rollback (rollback_of s stored.batches) none);
@@ -136,7 +139,7 @@ returns-in-Err-clause-keeps_fault g c tells only expected fault =
 pub returns-in-Ok-clause-keeps_fault : goal.returns-in-Ok-clause-keeps_fault
 returns-in-Ok-clause-keeps_fault g c tells only expected fault = absurd (not_opened expected (g.D.Disk.bytes c.args.disk) fault (c.in-Ok.ensures.not_heap tells) (c.in-Ok.ensures.damaged tells))
 
--- a status against the image tells of what a crash may leave now
+-- a status against the image is true of what a crash may leave now
 pub returns-in-Err-clause-refused_at_end : goal.returns-in-Err-clause-refused_at_end
 returns-in-Err-clause-refused_at_end g c tells only =
     told_each g.D.Disk c.in-Err.e c.from.result c.args.disk c.in-Err.disk c.from.ensures (c.in-Err.ensures.refused tells) (c.in-Err.ensures.moments_not_heap tells only) (c.in-Err.ensures.moments_damaged tells only)
@@ -163,3 +166,14 @@ returns-in-Err-clause-opens_once g c tells fault =
 
 pub returns-in-Ok-clause-opens_once : goal.returns-in-Ok-clause-opens_once
 returns-in-Ok-clause-opens_once g c tells fault = absurd (c.in-Ok.ensures.damaged tells (Address fault.0) fault.1)
+
+-- no fault of the disk was ignored
+pub returns-in-Err-clause-unfaulted : goal.returns-in-Err-clause-unfaulted
+returns-in-Err-clause-unfaulted g c none = open_counts g.D.Disk c.args.disk c.in-Err.disk c.in-Err.e c.in-Err.ensures.disk (not_disk _ (subst IsFaultless c.from.ensures none))
+
+pub returns-in-Ok-clause-unfaulted : goal.returns-in-Ok-clause-unfaulted
+returns-in-Ok-clause-unfaulted g c none =
+    let d = g.D.Disk in
+    let some = opened_core d.tells (d.bytes c.args.disk) c.in-Ok.heap c.in-Ok.ensures.opens c.in-Ok.ensures.sound in
+    let done = faultless_done c.play_opened-status.result.0 c.play_opened-status.ensures.end none in
+    rw c.close.ensures (counts_on d _ _ _ (keeps_counts d c.args.disk c.in-Ok.heap.disk tt c.in-Ok.ensures.disk) (c.play_opened-status.ensures.still some.0 some.2 some.1.running done))

@@ -13,6 +13,8 @@ use Rattle.thread_program.proofs.SafeLaws.{not_read}
 use Rattle.thread_program.proofs.CauseLaws.{rose_from}
 use Rattle.thread_program.proofs.FormatLaws.{parts, not_formatted}
 use Rattle.thread_program.proofs.PrintsLaws.{prints_script}
+use Rattle.heap_program.specs.Causes.{IsFaultless}
+use Rattle.heap_program.proofs.Unfaulted.{counts_on, keeps_counts, format_counts, not_disk}
 use Rattle.thread_program.proofs.threads.run_threads.Goals as goal
 
 pub play_by_workers-requires-clause-script : goal.play_by_workers-requires-clause-script
@@ -45,7 +47,7 @@ returns-in-Ok-format-clause-headline g c tells only =
     let first = made_core pages (d.bytes c.in-Ok-format.disk) in
     rw c.in-Some.is (inr (record {
       made = c.in-Ok-format.disk;
-      format = record { moments = e.moments tells only; empty = made.0; zeros = e.empty tells; kept = e.outside tells; outside = e.moments_outside tells only; only = made.1; passed = (e.passes tells (large_made _ _ e.small)).ok; restarts = e.disk.restarts tells };
+      format = record { moments = e.moments tells only; empty = made.0; zeros = e.empty tells; kept = e.outside tells; outside = e.moments_outside tells only; only = made.1; passed = (e.passes tells (large_made _ _ e.small)).ok; restarts = e.disk.restarts tells; still = keeps_counts d c.args.disk c.in-Ok-format.disk tt e.disk };
       plays = record {
         lines = lines;
         script = record { bytes = read.0; script = read.1 ∙ ap (λ (ls : List Line). Ok ls) (sym c.deref-in-Ok-format.ensures.value); own = read.2 };
@@ -122,3 +124,12 @@ returns-in-Err-clause-opens_once g c tells none fault = input_once (fault_calls 
 
 pub returns-in-None-clause-opens_once : goal.returns-in-None-clause-opens_once
 returns-in-None-clause-opens_once g c tells unmade fault = c.play_by_workers.ensures.opens_once tells fault
+
+-- no fault of the disk was ignored
+pub returns-in-Ok-format-clause-unfaulted : goal.returns-in-Ok-format-clause-unfaulted
+returns-in-Ok-format-clause-unfaulted g c none =
+    let d = g.D.Disk in
+    counts_on d _ _ _ (keeps_counts d c.args.disk c.in-Ok-format.disk tt c.in-Ok-format.ensures.disk) (c.play_by_workers-in-Ok-format.ensures.unfaulted none)
+
+pub returns-clause-unfaulted : goal.returns-clause-unfaulted
+returns-clause-unfaulted g c none = format_counts g.D.Disk c.args.disk c.in-Err-format.disk c.in-Err-format.e c.in-Err-format.ensures.disk (not_disk _ (subst IsFaultless c.from.ensures none))

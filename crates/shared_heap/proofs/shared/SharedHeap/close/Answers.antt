@@ -41,7 +41,7 @@ returns-clause-once g c =
     (λ k. let all : total (λ p. times k (places (mine_of p))) c.args.passes.items ≡ _ = ap (total (λ p. times k (places (mine_of p)))) is ∙ total_last (λ p. times k (places (mine_of p))) c.pop.new.self.items c.unwrap-last.result in
     omega (arith, all, c.join_all-pass.ensures.places k)))
 
--- what any pass was told is acknowledged
+-- the front that any pass knows is acknowledged
 fronts : (g : _) (c : goal.After-close-heap g) → AllByRecursion (λ p. front_of p ≤ acknowledged (history_of c.close-heap.result.heap)) c.args.passes.items
 fronts g c =
     let is : c.args.passes.items ≡ c.pop.new.self.items ++ c.unwrap-last.result ∷ [] = c.pop.ensures.items ∙ ap (λ o. c.pop.new.self.items ++ option_to_list o) c.unwrap-last.ensures in
