@@ -17,6 +17,7 @@ use Rattle.image_plan.specs.declared.superblock.Super.{Super}
 use Rattle.log_records.specs.declared.Record.{Record}
 use Rattle.page_redo.specs.Pages.{Pages}
 use Rattle.commit_order.specs.SerialOrder.{HasPlainReplies}
+use Rattle.core_laws.proofs.Crash.Image.{commits-sealed}
 use Rattle.core_laws.proofs.Run.Calls.{of_session_front}
 use Rattle.core_laws.proofs.Run.Events.{run_reached}
 use Rattle.heap_model.specs.Core.{Core, IsRun}
@@ -42,7 +43,8 @@ use Rattle.heap_program.proofs.CoreSteps.{made_reached, script_is, all_playable}
 use Rattle.heap_program.proofs.PlayOpen.{stored_running}
 use Rattle.heap_program.proofs.PrintedImage.{ended_core, whole_count}
 use Rattle.black_box.specs.Stores.{Stores}
-use Rattle.black_box.specs.Told.{TellsRun, MakesNone, text_of}
+use Rattle.black_box.specs.Told.{HaveReplies, TellsRun, MakesNone, text_of}
+use Rattle.black_box.proofs.FitLaws.{run_fits, replies_so_far}
 use Rattle.black_box.proofs.History.{run_events, ending_ends}
 
 -- the events that were made are a run
@@ -53,7 +55,7 @@ made_run c d made (inr cut) =
     subst (λ (l : List Event). IsRun c l d) (sym it.parts)
     (run_step c (after_events c it.before) d it.before it.event cut.0 (whole_run c it.before) (inr (it.cut, it.reached)))
 
--- a run that made no heap ended so
+-- a run that made no heap ended with this status
 pub made_none : {D : Type 0} (g : Ghosts D) (s : Super) (old new : D) (result : Status) → IsUnmade g s old new result → MakesNone result
 made_none g s old new status.Done unmade = unmade
 made_none g s old new status.NoMemory unmade = tt
@@ -66,7 +68,7 @@ made_none g s old new status.NotHeap unmade = unmade
 made_none g s old new (status.Damaged at) unmade = unmade
 made_none g s old new (status.TooSmall size need) unmade = tt
 
--- all events of a play without a stop were made that is done
+-- in a play without a stop that is done, all events were made
 all_made : (calls : ℕ) (c : Core) (made behind : List Event) (d : Core) → (HasMade None c made behind d ⊎ StopsOpening None calls made) → (behind ≡ []) × MadeAll c made d
 all_made calls c made behind d (inl all) = all
 all_made calls c made behind d (inr stopped) = absurd stopped
@@ -76,7 +78,7 @@ sealed_first : (c : Core) → take (length (sealed c.history)) (commits c.histor
 sealed_first c = take-append_seam (sealed c.history) (option_to_list (account c.history).in_doubt)
 
 module _ {D : Type 0} (g : Ghosts D) where
-  -- The graph of a disk that is read, whatever is found in it.
+  -- The graph that is read from a disk, whatever is found there.
   abbrev pub PrintsEach : D → D → Status → Bool → List ℕ → List ℕ → Type 0
   PrintsEach old new result told text text' =
       (s : Super) (batches : List (List Record)) (stored : Pages) → (shaped : IsShaped s batches stored (g.bytes old)) → (born : Bool) (places : Places) (graph : Graph) → IsFound s batches stored shaped.log born places graph
@@ -130,12 +132,15 @@ module _ {D : Type 0} (g : Ghosts D) where
           };
           lines = written.lines;
           front = subst (λ x. Front x (sealed d.history)) same (subst (Front d.g0) last written.front);
+          fits = run_fits c d made fresh run;
           plain = subst (λ (x : Graph). HasPlainReplies x d.history) same at_end.locked.plain;
           replies = played.replies ∙ ap (λ (x : Graph). serial_replies x (commits d.history)) same;
+          so_far = λ first rest is. subst (λ (x : Graph). HaveReplies x first) same (replies_so_far d.g0 d.history first rest at_end.locked.plain at_end.locked.two_phase is);
           count = kept.0;
           least = first.kept;
           most = first.some;
           graph = found.3 ∙ stands.says.graph ∙ ap (λ (x : Graph). canon (serial x (take kept.0 (commits d.history)))) same;
+          certain = commits-sealed d at_end.sound;
           done = λ done.
               let ended = all_made calls c made behind d (played.run.done done) in
               let settled = ended_core c d made behind (events plays.lines) running.reached running.unfailed is.sessions played.run.parts ended.0 ended.1 in (
@@ -155,7 +160,7 @@ module _ {D : Type 0} (g : Ghosts D) where
       let image = g.bytes plays.made in
       inr (tells_script new_graph 0 (made_core pages image) told left plays.made new again result hears before after tells sink refl refl (record { reached = made_reached pages image plays.format.empty.log.shaped.limits; unfailed = refl }) plays.plays leaves only)
 
-  -- A play on the heap that is there.
+  -- A play on the heap on the disk.
   pub tells_stored : (begins : Graph) (told : Bool) (left : List ℕ) (old new again : D) (result : Status) (hears : Bool) (before after : List ℕ) → IsTrue told → IsTrue hears → Stores g begins old → Runs g None None (IsReadFrom told left) old new result hears before after
       → g.may_leave new (g.bytes again) → Only (g.bytes again) (g.may_leave again)
       → (kept : Graph) × Stores g kept again × ((IsInputError result × (after ≡ before) × (kept ≡ begins)) ⊎ ((read : List Line) × (script left ≡ Ok read) × TellsRun begins read result before after kept))

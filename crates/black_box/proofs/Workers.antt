@@ -48,7 +48,7 @@ entries_more c d (event ∷ made) run =
       ap (λ (l : List Event). event ∷ l) rest.2,
     )
 
--- what is sent behind the workers ends what they left open
+-- what is sent after the workers ends what they left open
 last_ends : (c : Core) (sent : List Event) (between : Core) (last : List Event) (end : Result (Unit {0}) AllocError) → AreLast c sent between last end → AllByRecursion EndsScript last
 last_ends c sent between last end (inl none) = subst (AllByRecursion EndsScript) (sym none) tt
 last_ends c sent between last end (inr some) =

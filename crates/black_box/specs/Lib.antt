@@ -1,4 +1,6 @@
+pub mod Asked
 pub mod Stores
+pub mod Tale
 pub mod Tales
 pub mod Told
 pub mod Workers

@@ -1,4 +1,4 @@
--- What lies between two runs.
+-- The state of the disk between two runs.
 use Rattle.std.specs.Prelude.{◌≡◌}
 use Rattle.graph_model.specs.Graph.{Graph}
 use Rattle.disk_model.specs.declared.disk.Disk.{Ghosts}

@@ -1,4 +1,4 @@
--- What a run of a script in threads and the graph behind it tell, in words of the plain model alone.
+-- What a run of a script in threads reports, and the graph after it, in words of the plain model alone.
 use Rattle.std.specs.Prelude.{◌≡◌, ℕ, ◌≤◌, List, ◌++◌, length, take, IsOk, Result}
 use Rattle.std.specs.List.{AllByRecursion}
 use Rattle.std.specs.declared.alloc.AllocError.{AllocError}
@@ -16,24 +16,24 @@ use Rattle.heap_program.specs.declared.status.Status.{Status}
 use Rattle.heap_program.specs.declared.status.Status.TheVariants.{Done}
 use Rattle.black_box.specs.Told.{EndsScript, events_of, text_of}
 
--- A run that ended so told a history that goes on from a graph, and a crash left another graph of it.
+-- A run that ended with this status has a history that continues from a graph, and a crash left another graph of it.
 pub record TellsWorkers (begins : Graph) (tries : ℕ) (script : List Line) (status : Status) (before after : List ℕ) (left : Graph) : Type 0 where
   pub history : List Entry
-  -- its entries are what the workers of the script sent, and then such as end what they left open
+  -- its entries are what the workers of the script sent, and then events that end what they left open
   pub sent : List Entry
   pub last : List Entry
   pub parts : history ≡ sent ++ last
   pub ends : AllByRecursion EndsScript (events_of last)
-  -- each worker sent all of its lines, or the beginning of that
+  -- each worker sent all of its lines, or a prefix of that
   pub end : Result (Unit {0}) AllocError
   pub worked : IsWorked tries script 0 sent end
   -- the run wrote nothing but a prefix of all lines and of the graph that they lead to
   pub front : WroteFront before (lines_text history ++ text_of (serial begins (sealed history))) after
   -- each call that was not refused had the reply of what its transaction saw, and each transaction a number that no object's name had
   pub plain : HasPlainReplies begins history
-  -- each committed transaction had the replies that it has where the commits are run one after another
+  -- each committed transaction had the replies that it has when the commits are run one after another
   pub replies : replies_of_commits history ≡ serial_replies begins (commits history)
-  -- the graph that was left is that of the first commits, among them all that were acknowledged, up to the names of objects
+  -- the graph that was left is that of a commit prefix that has all that were acknowledged, up to the names of objects
   pub count : ℕ
   pub least : acknowledged history ≤ count
   pub most : count ≤ length (commits history)

@@ -19,7 +19,7 @@ use thread_program::run;
 
 /// Runs the program with the words `play` on the script that `source` gives, and writes to `lines`. However that ends, at whichever call the disk
 /// failed or stopped, the disk is restarted as one of the images that a crash may leave of it, and the program runs with the words `graph`
-/// and writes to `text`. Gives both statuses and the disk.
+/// and writes to `text`. Returns both statuses and the disk.
 pub fn play_then_graph<
     D: Disk + Send,
     S: Source,

@@ -30,7 +30,7 @@ pub struct Turn<S: Drop, K: Drop> {
     pub status: Option<Status>,
 }
 
-/// Runs the program with the words `play` on the heap that is there, and restarts the disk however that ends.
+/// Runs the program with the words `play` on the heap on the disk, and restarts the disk however that ends.
 fn play_turn<
     D: Disk + Send,
     S: Source + Drop,
@@ -72,8 +72,8 @@ fn play_turns<
     disk
 }
 
-/// Runs the program with the words `fresh`, on the first turn's script, and then with the words `play` on that of each other turn. Behind each run the
-/// disk is restarted, as any of the images that a crash may leave of it. Then the program runs with the words `graph` and writes to `text`. Gives
+/// Runs the program with the words `fresh`, on the first turn's script, and then with the words `play` on that of each other turn. After each run the
+/// disk is restarted, as any of the images that a crash may leave of it. Then the program runs with the words `graph` and writes to `text`. Returns
 /// the status of that run and the disk.
 pub fn plays_then_graph<
     D: Disk + Send,
@@ -93,8 +93,8 @@ pub fn plays_then_graph<
     text: &mut K,
     gate: &G,
 ) -> (Status, D)
-    // Of a play on a new heap, plays on what each left, and a graph that was printed: the first made no heap and wrote nothing, or one
-    // history of all of them was told.
+    // Of a play on a new heap, plays on what each left, and a graph that was printed: the first made no heap and wrote nothing, or there
+    // is one history of all of them.
     ensures one_history { IsTrue D.tells → Only (D.bytes disk) (D.may_leave disk) → IsTrue S.tells → IsTrue K.tells
         → (pages : ℕ) → command (map string_bytes fresh.now) ≡ Some (asked.Play (Some pages) None) → command (map string_bytes play.now) ≡ Some (asked.Play None None)
         → command (map string_bytes graph.now) ≡ Some asked.Graph → result.0 ≡ Status.Done

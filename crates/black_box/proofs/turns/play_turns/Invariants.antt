@@ -7,7 +7,7 @@ use Rattle.black_box.specs.Stores.{Stores}
 use Rattle.black_box.specs.Tales.{TellTurns}
 use Rattle.black_box.proofs.turns.play_turns.Given as goal
 
--- the turns so far told what they did, and the others are as they were
+-- the turns so far reported what they did, and the others are as they were
 abbrev pub invariant-loop-turn : goal.invariant-loop-turn
 invariant-loop-turn g l =
     (length l.turns ≡ length l.initial.turns) × ((k : ℕ) (d : _) → l.turn-index ≤ k → get_or l.turns k d ≡ get_or l.initial.turns k d)

@@ -1,0 +1,79 @@
+//! One play of a script on a new heap, and the theorem on it in its shortest form.
+ghost use Rattle.std.specs.Prelude.{◌≡◌, ◌⊎◌, ◌++◌, ℕ, List, Ok, IfOk, OnOk, IfErr, OnErr, map, string_bytes, IsTrue};
+ghost use Rattle.black_box.specs.Asked.{AskPlay, AskGraph, IsReason};
+ghost use Rattle.black_box.specs.Tale.{Tells};
+ghost use Rattle.black_box.specs.Told.{MakesNone};
+ghost use Rattle.disk_model.specs.Disk.{Only};
+ghost use Rattle.graph_model.specs.Graph.{new_graph};
+ghost use Rattle.script_text.specs.Line.{events};
+ghost use Rattle.script_text.specs.Script.{script};
+
+use crate::asking::{Unasked, read_asked};
+use crate::one_run::play_then_graph;
+use disk_model::Disk;
+use heap_io::Sink;
+use heap_program::Status;
+use heap_workers::Gate;
+use script_text::Line;
+use std::alloc::Global;
+use std::sync::Wait;
+use std::thread::Threads;
+
+/// A script as it was read, and how the runs ended.
+#[derive(Drop)]
+pub struct TwoRuns {
+    /// The lines of the script.
+    pub script: Vec<Line>,
+    /// How the play ended.
+    pub played: Status,
+    /// How the run that printed the graph ended.
+    pub printed: Status,
+}
+
+/// Makes the calls of `play_then_graph` on a script of these bytes, which it reads first, as it does the words of both runs. If they ask for anything
+/// else, nothing is run. Returns the disk in each case.
+pub fn play_script_then_graph<D: Disk + Send, K: Sink, G: Gate + Sync, R: Threads + Wait + Sync>(
+    rt: &R,
+    alloc: Global,
+    play: &[String],
+    graph: &[String],
+    bytes: &[u8],
+    disk: D,
+    lines: &mut K,
+    text: &mut K,
+    gate: &G,
+) -> (Result<TwoRuns, Unasked>, D)
+    // Of a graph that was printed: the play wrote nothing and has a status of one that makes no heap, or one history explains what it wrote and the graph.
+    ensures one_tale { IsTrue D.tells → Only (D.bytes disk) (D.may_leave disk) → IsTrue K.tells → IfOk result.0 (λ runs. runs.printed ≡ Status.Done
+        → (MakesNone runs.played × (K.written lines.new ≡ K.written lines.old))
+        ⊎ ((written printed : List ℕ) × (K.written lines.new ≡ K.written lines.old ++ written) × (K.written text.new ≡ K.written text.old ++ printed)
+        × Tells new_graph (events runs.script.items) runs.played written printed)) }
+    // The script is the one that the bytes spell, and the words are those of a play on a new heap and of a graph.
+    ensures reads { IfOk result.0 (λ runs. script bytes.now ≡ Ok runs.script.items) }
+    ensures asked { OnOk result.0 (AskPlay (map string_bytes play.now) × AskGraph (map string_bytes graph.now)) }
+    // Unless memory runs out, an error comes only if the words or the script are otherwise, and nothing is run then.
+    ensures refused { IfErr result.0 (λ why. IsReason why (map string_bytes play.now) (map string_bytes graph.now) bytes.now) }
+    ensures untouched { OnErr result.0 ((result.1 ≡ disk) × (lines.new ≡ lines.old) × (text.new ≡ text.old)) }
+{
+    let (script, mut source) = match read_asked(alloc, play, graph, bytes) {
+        Ok(read) => read,
+        Err(why) => return (Err(why), disk),
+    };
+    let (played, printed, disk) = play_then_graph(
+        rt,
+        alloc,
+        play,
+        graph,
+        disk,
+        &mut source,
+        lines,
+        text,
+        gate,
+    );
+    let runs = TwoRuns {
+        script,
+        played,
+        printed,
+    };
+    (Ok(runs), disk)
+}
