@@ -1,13 +1,14 @@
 #!/usr/bin/env python3
 """Checks what has to be believed: the definitions behind the program's contract, and that specs/ holds nothing else.
 
-    docs/check_trusted.py [--list CLAUSE]
+    docs/check_trusted.py [--list CLAUSE | --text CLAUSE]
 
-A clause of `run`, or of `play_then_graph`, rests on the definitions that it cites, on those that these cite, and so on; and on what the traits
-promise that the call is generic in, as the disk's. Their numbers stand in a table of docs/GUARANTEE.md, with a digest of their texts and of the
-clauses', so that what has to be believed changes only where the page does. Each definition of specs/ has to be one that some contract
-rests on, free of proofs, and no contract may rest on one of proofs/. It prints what is wrong, and nothing where all is well. With
---list it prints the definitions behind one clause, or behind all with --list run, by file.
+A clause of `run`, of `play_script_then_graph` or of `play_then_graph` rests on the definitions that it cites, on those that these cite, and so on; and
+on what the traits promise that the call is generic in, as the disk's. Their numbers stand in a table of docs/GUARANTEE.md, with a digest of their
+texts and of the clauses', so that what has to be believed changes only where the page does. Each definition of specs/ has to be one that some
+contract rests on, free of proofs, and no contract may rest on one of proofs/. A record that README.md or that page quotes has to be quoted as it
+stands. It prints what is wrong, and nothing if all is well. With --list it prints the definitions behind one clause, or behind all with --list run, by
+file; with --text it prints the definitions themselves, with their comments: all that has to be read to believe the clause.
 """
 import collections
 import functools
@@ -20,7 +21,8 @@ import sys
 TOP = os.path.dirname(os.path.dirname(os.path.realpath(__file__)))
 PAGE = "docs/GUARANTEE.md"
 # the calls whose clauses are the theorems: where each stands, and its clauses with a row of their own
-RUN, BOX = ("crates/thread_program/src/program.rt", "run"), ("crates/black_box/src/one_run.rt", "play_then_graph")
+RUN = "crates/thread_program/src/program.rt", "run"
+BOX = {"one_tale": ("crates/black_box/src/told_run.rt", "play_script_then_graph"), "one_history": ("crates/black_box/src/one_run.rt", "play_then_graph")}
 TOKEN = re.compile(r"[^\s(){}\[\],;]+")
 USE = re.compile(r"^(?:pub )?use ([\w.]+)\.\{(.*)\}$")
 ALIAS = re.compile(r"^(?:pub )?use ([\w.]+) as (\w+)$")
@@ -274,18 +276,58 @@ def show(definitions):
         print(f"{path}: {', '.join(names)}")
 
 
+def paragraphs(path):
+    """The paragraphs of a file, each with the name that it defines, if it defines one."""
+    with open(path, encoding="utf-8") as file:
+        for it in re.split(r"\n\s*\n", file.read().strip("\n")):
+            lines = [line.strip() for line in it.split("\n")]
+            first = next((line for line in lines if line and not line.startswith(("--", "use ", "pub use "))), "")
+            yield it, ITEM.match(first)[1] if first else None
+
+
+def write_out(definitions):
+    """Prints definitions with their comments, those of the lowest crates first."""
+    with open(f"{TOP}/crates.txt", encoding="utf-8") as file:
+        order = [line.split(":")[0].split()[0] for line in file if ":" in line and not line.startswith("#")]
+    by_file = collections.defaultdict(set)
+    for where, name in definitions:
+        by_file[where].add(name)
+    for where in sorted(by_file, key=lambda it: (order.index(it.split(".")[1]), it)):
+        print(f"==== {os.path.relpath(modules()[where].path, TOP)}\n")
+        given = {name: it for it, name in paragraphs(modules()[where].path)}
+        for name, item in modules()[where].items.items():
+            if name in by_file[where]:
+                print(f"{given.get(name, item.text)}\n")
+
+
+def check_quotes():
+    """Records that a page quotes, line by line, without what only the language asks for: each has to be as it stands in specs/."""
+    plain = lambda text: [" ".join(re.sub(r"\bpub |: Type 0 where|\bwhere$|\s--.*", "", it).split()) for it in text.split("\n") if not it.strip().startswith("--")]
+    records = {item.name: plain(item.text) for module in modules().values() for item in module.items.values() if "record " in item.text.strip().split("\n")[0]}
+    for page in ("README.md", PAGE):
+        for quoted in re.findall(r"(?m)^    record .*\n(?:      .*\n)+", text_of(f"{TOP}/{page}")):
+            lines = [it for it in plain(quoted) if it]
+            name = lines[0].split()[1]
+            if "".join(lines).replace(" ", "") != "".join(records.get(name, [])).replace(" ", ""):
+                yield f"{page}: the record {name} is not quoted as it stands"
+
+
 def main():
     found = clauses(*RUN)
-    box = clauses(*BOX)
-    behind = {name: (of[name][0], closure(of[name][1])) for of, name in ((box, "one_history"), (found, "crash_safe"), (found, "headline"))}
+    told = {name: clauses(*call)[name] for name, call in BOX.items()}
+    told |= {name: found[name] for name in ("crash_safe", "headline")}
+    behind = {name: (texts, closure(cited)) for name, (texts, cited) in told.items()}
     behind["run"] = [it for texts, _ in found.values() for it in texts], closure(set().union(*(cited for _, cited in found.values())))
-    if sys.argv[1:2] == ["--list"]:
+    if sys.argv[1:2] in (["--list"], ["--text"]):
         name = sys.argv[2]
         definitions = behind[name][1] if name in behind else closure(found[name][1])
-        show(definitions)
-        print(*size(definitions))
+        if sys.argv[1] == "--text":
+            write_out(definitions)
+        else:
+            show(definitions)
+            print(*size(definitions))
         return 0
-    wrong = [*check_table(behind), *check_specs(), *check_imports()]
+    wrong = [*check_table(behind), *check_specs(), *check_imports(), *check_quotes()]
     print(*wrong, sep="\n", end="\n" * bool(wrong))
     return bool(wrong)
 

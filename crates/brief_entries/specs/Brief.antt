@@ -73,7 +73,7 @@ abbrev pub IsWithin : List Entry → KeptEntry → Type 0
 IsWithin whole (kept.Whole place) = place < length whole
 IsWithin whole entry = Unit {0}
 
--- the entry, beside a list of whole entries that it is kept within; elsewhere what it says is of no use
+-- the entry, given a list of whole entries that it is kept within; otherwise what it says is of no use
 abbrev pub entry_of : List Entry → KeptEntry → Entry
 entry_of whole (kept.Wrote s h i v) = record { event = Put s h i v; reply = Done }
 entry_of whole (kept.Read s event v) = record { event = event_of event s; reply = Int v }

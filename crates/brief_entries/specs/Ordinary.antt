@@ -40,7 +40,7 @@ IsOrdinaryEvent Flip = Unit {0}
 IsOrdinaryEvent Scan = Unit {0}
 IsOrdinaryEvent (Flush p) = IsSmallNumber p
 
--- a refusal tells at most one number, and that is below 2^32
+-- a refusal has at most one number, and that is below 2^32
 abbrev pub IsBriefRefusal : Refusal → Type 0
 IsBriefRefusal (Failed entry) = IsSmallNumber entry
 IsBriefRefusal AlreadyActive = Unit {0}
@@ -57,7 +57,7 @@ IsBriefRefusal (LogFull used need reserved) = ⊥
 IsBriefRefusal DiskFault = Unit {0}
 IsBriefRefusal Stopped = Unit {0}
 
--- a reply is not the number in a field, and tells at most two others, which are below 2^32
+-- a reply is not the number in a field, and has at most two others, which are below 2^32
 abbrev pub IsBriefReply : Reply → Type 0
 IsBriefReply (Begun n) = IsSmallNumber n
 IsBriefReply Done = Unit {0}
@@ -79,7 +79,7 @@ IsBriefReply (Flushed page) = IsSmallNumber page
 IsBriefReply (Clean page) = IsSmallNumber page
 IsBriefReply (Refused why) = IsBriefRefusal why
 
--- the number in a field may be any; the others that a reply tells are below 2^32
+-- the number in a field may be any; the others of a reply are below 2^32
 abbrev pub IsOrdinaryReply : Reply → Type 0
 IsOrdinaryReply (Int v) = Unit {0}
 IsOrdinaryReply (Scanned page objects words) = IsSmallNumber page × IsSmallNumber objects × IsSmallNumber words
@@ -87,7 +87,7 @@ IsOrdinaryReply (Refused (Exhausted need free owed)) = IsSmallNumber need × IsS
 IsOrdinaryReply (Refused (LogFull used need reserved)) = IsSmallNumber used × IsSmallNumber need × IsSmallNumber reserved
 IsOrdinaryReply reply = IsBriefReply reply
 
--- an event is ordinary beside its reply: a number that was put may be any
+-- an event is ordinary with its reply: a number that was put may be any
 abbrev pub IsOrdinaryCall : Event → Reply → Type 0
 IsOrdinaryCall (Put s h i v) Done = IsSmall h × IsSmallField i
 IsOrdinaryCall event reply = IsOrdinaryEvent event

@@ -5,7 +5,7 @@ ghost use Rattle.brief_entries.specs.Ordinary.{IsBriefRefusal, IsBriefReply};
 use crate::narrow::number;
 use graph_model::{Refusal, Reply};
 
-/// Why an event was refused, where that tells at most one number.
+/// Why an event was refused, if the refusal has at most one number.
 #[derive(Clone, Copy, Debug)]
 pub enum BriefRefusal {
     Failed { entry: u32 },
@@ -22,7 +22,7 @@ pub enum BriefRefusal {
     Stopped,
 }
 
-/// What an event was answered, where that is not the number in a field and tells at most two others.
+/// What an event was answered, if that is not the number in a field and has at most two others.
 #[derive(Clone, Copy, Debug)]
 pub enum BriefReply {
     Begun { n: u32 },

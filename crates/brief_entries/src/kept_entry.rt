@@ -12,7 +12,7 @@ use crate::brief_reply::BriefReply;
 use crate::narrow::{field, handle, number};
 use graph_model::{Entry, Event, Refusal, Reply};
 
-/// An entry in 24 bytes, where its numbers are ordinary, or the place at which it is kept whole. The session means nothing
+/// An entry in 24 bytes, if its numbers are ordinary, or the place at which it is kept whole. The session means nothing
 /// for an event that is of none, so two forms of one entry may differ.
 #[derive(Clone, Copy, Debug)]
 pub enum KeptEntry {
@@ -23,19 +23,19 @@ pub enum KeptEntry {
         i: u16,
         v: u64,
     },
-    /// An event that was answered the number in a field.
+    /// An event that was answered with the number in a field.
     Read {
         s: u8,
         event: BriefEvent,
         v: u64,
     },
-    /// An event with any other reply that tells at most two numbers.
+    /// An event with any other reply that has at most two numbers.
     Answered {
         s: u8,
         event: BriefEvent,
         reply: BriefReply,
     },
-    /// An event that was refused since the space had no room.
+    /// An event that was refused because the space had no room.
     Exhausted {
         s: u8,
         event: BriefEvent,
@@ -43,7 +43,7 @@ pub enum KeptEntry {
         free: u32,
         owed: u32,
     },
-    /// An event that was refused since the log had no room.
+    /// An event that was refused because the log had no room.
     LogFull {
         s: u8,
         event: BriefEvent,
@@ -181,7 +181,7 @@ impl KeptEntry {
         })
     }
 
-    /// The entry that it stands for, beside that list of whole entries.
+    /// The entry that it stands for, given that list of whole entries.
     pub fn entry(self, whole: &[Entry]) -> Entry
         requires { IsWithin whole.now self }
         ensures { result ≡ entry_of whole.now self }

@@ -1,4 +1,4 @@
-//! The entries of a history in a smaller form: an event and its reply in 24 bytes, where their numbers are ordinary.
+//! The entries of a history in a smaller form: an event and its reply in 24 bytes, if their numbers are ordinary.
 //!
 //! `specs/Ordinary.antt` says which numbers these are, and `specs/Brief.antt` which event, reply or entry a brief form stands for.
 #![tactic(auto)]

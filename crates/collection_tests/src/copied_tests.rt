@@ -1,4 +1,4 @@
-//! The records of the log say which objects each collection copied: just those that the slow heap reaches from the root at its flip, known by their
+//! The records of the log say which objects each collection copied: exactly those that the slow heap reaches from the root at its flip, identified by
 //! births, whatever sessions do until it ends.
 use crate::drawn_tests::FRESH;
 use crate::exact_tests::collected_script;
@@ -24,7 +24,7 @@ const PLAN: Plan = Plan {
 /// The number that the upper half of a word counts.
 const HALF: u64 = 1 << 32;
 
-/// What an object is named by its birth, the word behind its header.
+/// An object's name by its birth, the word after its header.
 fn born(words: &ObjectWords) -> Id {
     let birth = words.as_slice().get(1).copied().unwrap_or(0);
     Id {
@@ -68,7 +68,7 @@ fn read_log(rt: &impl Abort, alloc: Global, disk: &mut MemoryDisk) -> Result<Vec
     Ok(records)
 }
 
-/// The collections that a play tells of.
+/// The collections of a play.
 #[derive(Drop)]
 struct Collections {
     /// How many transactions were sealed before each one began.
@@ -95,7 +95,7 @@ impl Collections {
         Ok(found)
     }
 
-    /// Takes one line more.
+    /// Takes one more line.
     fn take(&mut self, line: &str) -> Result<(), AllocError> {
         if line.starts_with("flip -> flipped ") {
             self.begun.push(self.sealed)?;
@@ -109,7 +109,7 @@ impl Collections {
         Ok(())
     }
 
-    /// One transaction more was sealed.
+    /// One more transaction was sealed.
     fn seal(&mut self) {
         self.sealed = self.sealed.saturating_add(1);
         if self.ended < self.begun.len() {
@@ -118,7 +118,7 @@ impl Collections {
     }
 }
 
-/// What some collections of the drawn scripts have to show, since they would show little otherwise.
+/// What some collections of the drawn scripts must exhibit, since the scripts would test little otherwise.
 #[derive(Clone, Copy)]
 struct Shown {
     /// How many transactions were sealed while one was under way.
@@ -132,7 +132,7 @@ fn lacking(first: &[Id], others: &[Id]) -> usize {
     first.iter().filter(|id| !others.contains(*id)).count()
 }
 
-/// Compares what each collection copied with what the slow heap reached, and says how many objects one copied that the next did not.
+/// Compares what each collection copied with what the slow heap reached, and returns how many objects one copied that the next did not.
 fn check_each(
     rt: &impl Abort,
     told: &Told<'_>,
@@ -152,7 +152,7 @@ fn check_each(
     Ok(dropped)
 }
 
-/// Plays a drawn script with a whole collection behind it, and compares the copies of all its collections.
+/// Plays a drawn script followed by a whole collection, and compares the copies of all its collections.
 fn check_script(rt: &impl Abort, alloc: Global, seed: u64) -> Result<Shown, Fail> {
     let script = collected_script(alloc, seed)?;
     let told = Told::of(rt, alloc, script.as_str())?;

@@ -11,7 +11,7 @@ use std::test::Fail;
 /// The command that plays on a new heap of sixty-four pages a space.
 pub const FRESH: &str = "heap play --fresh 64";
 
-/// The command that makes the same with a short log.
+/// The same command with a short log.
 const FORMAT: &str = "heap format 64 65536 1";
 
 /// The sessions of the scripts.
@@ -108,7 +108,7 @@ impl Drawn {
         Ok(writeln!(self.script, "flush {page}")?)
     }
 
-    /// One line more, or those of an end.
+    /// One more line, or those of an end.
     fn line(&mut self) -> Result<(), AllocError> {
         let drawn = self.draw(u64::from(SESSIONS));
         let s = 1 + u32::try_from(drawn).unwrap_or(0) % SESSIONS;
@@ -124,7 +124,7 @@ impl Drawn {
     }
 }
 
-/// A script of which so many lines are drawn by a seed.
+/// A script of that many lines drawn from a seed.
 pub fn draw_script(alloc: Global, seed: u64, lines: usize) -> Result<String, AllocError> {
     let mut drawn = Drawn::new(alloc, seed)?;
     for s in 1..=SESSIONS {

@@ -1,4 +1,4 @@
-//! A collection tells as many objects and words as the graph has that the sealed transactions have left, whichever transactions are active.
+//! A collection reports as many objects and words as the graph has that the sealed transactions have left, whichever transactions are active.
 use crate::drawn_tests::{FRESH, draw_script};
 use crate::playing::{play, same};
 use crate::told::Told;
@@ -12,7 +12,7 @@ use std::test::Fail;
 /// More scans than end a collection.
 const SCANS: usize = 80;
 
-/// The others let go of their locks, and session 1, whose transaction stays active, holds nothing but the root and takes all its references away.
+/// The others release their locks, and session 1, whose transaction stays active, holds only the root and takes all its references away.
 const CLEARED: &str =
     "1 abort\n2 abort\n3 abort\n1 begin\n1 root 0\n1 clear 0 0\n1 clear 0 1\n1 clear 0 2\n1 clear 0 3\n";
 
@@ -25,7 +25,7 @@ struct Copied {
 }
 
 impl Copied {
-    /// With what an answer tells: its last two numbers are of objects and of words.
+    /// The end of an answer: its last two numbers are of objects and of words.
     fn with(self, told: &str) -> Option<Copied> {
         let (before, words) = told.rsplit_once(' ')?;
         let objects = before.rsplit_once(' ').map_or(before, |it| it.1);
@@ -37,7 +37,7 @@ impl Copied {
     }
 }
 
-/// What the last collection told, if it ended.
+/// What the last collection reported, if it ended.
 fn last_collection(output: &str) -> Option<Copied> {
     let (_, told) = output.rsplit_once("flip -> ")?;
     let told = told.strip_prefix("flipped ")?;
@@ -78,7 +78,7 @@ fn graph_size(graph: &str) -> Copied {
     size
 }
 
-/// A drawn script, whose transactions are left active, in each second one with a reference taken away, and behind it one whole collection.
+/// A drawn script, whose transactions are left active, in each second one with a reference taken away, and after it one whole collection.
 pub fn collected_script(alloc: Global, seed: u64) -> Result<String, AllocError> {
     let mut script = draw_script(alloc, seed, 160)?;
     if seed % 2 == 0 {

@@ -1,4 +1,4 @@
-//! A heap that is kept from one run to the next, with a collection that goes on from crash to crash, or that the log has no room for.
+//! A heap that is kept from one run to the next, with a collection that continues from crash to crash, or that the log has no room for.
 use crate::playing::{Played, disk_of, expect_done, image_of, new_image, play_on, same};
 use disk_model::{MemoryDisk, Pick};
 use heap_program::Status;
@@ -22,13 +22,13 @@ const ROUND_CALLS: usize = 37;
 /// Enough scans to end any collection.
 const ENDING: &str = "scan\nscan\nscan\nscan\nscan\nscan\nscan\nscan\n";
 
-/// What a run of a heap leaves in which nothing is sealed any more: the graph is the last that it prints.
+/// What a run leaves of a heap in which nothing is sealed any more: the graph is the last that it prints.
 fn expect_kept(rt: &impl Abort, line: &str, played: &Played, graph: &[u8]) {
     same(rt, (line, played.status), (line, Status::Done));
     assert!(rt; played.output.ends_with(graph), "{line}");
 }
 
-/// A run stops after so many calls, and its recovery too.
+/// A run stops after that many calls, and its recovery too.
 fn go_round(
     rt: &impl Abort,
     alloc: Global,
@@ -92,7 +92,7 @@ fn a_collection_goes_on_through_crashes_that_open_gates(rt: HostRuntime) -> Resu
     check_rounds(&rt, rt.alloc(), Pick::AllOpen)
 }
 
-/// Runs on one heap whose log is too short for the scan that a read needs: each line, its script and its output. What is refused scans
+/// Runs on one heap whose log is too short for the scan that a read needs: each line, its script and its output. A refused event scans
 /// nothing, and an abort makes room.
 const REFUSED: [(&str, &str, &str); 3] = [
     ("heap format 1 214 1", "", "formatted 2390\n"),

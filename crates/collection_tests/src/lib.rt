@@ -1,5 +1,5 @@
-//! Tests of collections through the program's call `run`: what scripts print in which the spaces change their roles beside transactions, and
-//! what comes back after a stop within a collection.
+//! Tests of collections through the program's call `run`: what scripts print when the spaces change their roles beside transactions, and
+//! what is recovered after a stop within a collection.
 #![tactic(auto)]
 
 #[cfg(test)]

@@ -85,7 +85,7 @@ pub fn play_on(
     Ok((Played { status, output }, disk))
 }
 
-/// Plays a script by a command on a new disk, and gives the disk too.
+/// Plays a script by a command on a new disk, and returns the disk too.
 pub fn play_new(
     alloc: Global,
     line: &str,

@@ -10,7 +10,7 @@ const FORMAT: &str = "heap format 4 8192 1";
 const CLEARED: &str =
     "1 begin\n1 root 0\n1 new 1 1\n1 put 1 0 9\n1 link 0 0 1\n1 commit\n1 begin\n1 root 0\n1 clear 0 0\nflip\nforce\nscan\nflush 4\nscan\nforce\nflip\nforce\n";
 
-/// Two transactions beside a collection: one leaves go of what it has locked and is taken back, one has volatile objects and is sealed.
+/// Two transactions beside a collection: one drops what it has locked and is taken back, one has volatile objects and is sealed.
 const BESIDE: &str =
     "1 begin\n1 root 0\n1 new 1 2\n1 new 2 60\n1 new 3 60\n1 new 4 1\n1 put 4 0 9\n1 link 1 0 2\n1 link 2 0 3\n1 link 3 0 4\n1 link 1 1 4\n1 link 0 0 1\n1 commit\n1 begin\n1 root 0\n1 get 0 0 1\n1 get 1 0 2\n1 get 2 0 2\n1 put 2 1 5\n1 drop 2\n2 begin\n2 root 0\n2 get 0 0 1\n2 get 1 1 3\n2 new 2 1\n2 link 2 0 3\n2 drop 1\n2 drop 3\nflip\nforce\n2 get 2 0 1\n2 get 1 0 4\n2 put 1 0 6\nscan\nflush 4\n1 clear 1 0\n1 get 1 0 2\n1 get 2 0 3\n1 put 3 2 6\nforce\n2 link 1 0 2\n2 seal\nscan\n1 abort\n2 begin\n2 root 0\n2 link 0 1 0\nscan\n2 seal\nflush 5\nforce\n";
 
@@ -55,14 +55,14 @@ fn two_sessions_come_back_from_open_gates(rt: HostRuntime) -> Result<(), Fail> {
     check_stops(&rt, rt.alloc(), FORMAT, BESIDE, Pick::AllOpen)
 }
 
-/// The one script of these of which all that is printed is written down: a flip, a force, and then the disk stops.
+/// The only one of these scripts whose whole output is written down: a flip, a force, and then the disk stops.
 const FORCED: &str =
     "1 begin\n1 root 0\n1 new 1 1\n1 put 1 0 9\n1 link 0 0 1\n1 commit\n1 begin\n1 root 0\n1 clear 0 0\nflip\nforce\n";
 
 const FORCED_OUTPUT: &str =
     "1 begin -> begun 1\n1 root 0 -> done\n1 new 1 1 -> done\n1 put 1 0 9 -> done\n1 link 0 0 1 -> done\n1 seal -> sealed 1\nforce -> durable 1\n1 begin -> begun 2\n1 root 0 -> done\n1 clear 0 0 -> done\nflip -> flipped 2 9\nforce -> durable 1\nrecovered 1\ngraph 2\n0: @1 - - -\n1: 9\n";
 
-/// Behind a flip that was forced nothing depends on where the recovery stops, or on what a restart leaves.
+/// After a flip that was forced nothing depends on where the recovery stops, or on what a restart leaves.
 #[test]
 fn a_crash_in_a_collection_takes_writes_back(rt: HostRuntime) -> Result<(), Fail> {
     let alloc = rt.alloc();

@@ -1,5 +1,5 @@
-//! What the slow heap answers to a script. It has no spaces and no pages, so the lines of flips, scans and flushes are left out of what is
-//! compared: but for these a collection changes nothing of what is printed.
+//! What the slow heap answers to a script. It has no spaces and no pages, so the lines of flips, scans and flushes are left out of the
+//! comparison: but for these a collection changes nothing of what is printed.
 use crate::playing::{Played, disk_of, new_image, play_on, same};
 use disk_model::Pick;
 use graph_model::{Entry, Event};
@@ -11,7 +11,7 @@ use std::process::Abort;
 use std::str;
 use std::test::Fail;
 
-/// A script, the slow heap that was asked all of it, and its lines.
+/// A script, the slow heap that has played all of it, and its lines.
 #[derive(Drop)]
 pub struct Told<'a> {
     script: &'a str,
@@ -64,7 +64,7 @@ pub fn without_collector(alloc: Global, text: &str) -> Result<String, AllocError
     Ok(kept)
 }
 
-/// What a play printed whose disk was started again: the lines of its events, how many commits came back, and the graph.
+/// What a play printed whose disk was restarted: the lines of its events, how many commits came back, and the graph.
 #[derive(Clone, Copy)]
 struct Restarted<'a> {
     lines: &'a str,
@@ -101,13 +101,13 @@ fn sealed(lines: &str) -> usize {
         .count()
 }
 
-/// Whether the lines are the first ones that were told, and those commits came back that they acknowledge, and no more than they seal.
+/// Whether the lines are the first of the expected ones, and those commits came back that they acknowledge, and no more than they seal.
 fn is_told(told: &str, lines: &str, recovered: usize) -> bool {
     let before = lines.strip_suffix("force -> stopped\n").unwrap_or(lines);
     told.starts_with(before) && acknowledged(lines) <= recovered && recovered <= sealed(lines)
 }
 
-/// Compares what came back after a stop with the first commits of the slow heap, and says whether the stop came.
+/// Compares what came back after a stop with a commit prefix of the slow heap, and returns whether the stop came.
 fn check_stopped(
     rt: &impl Abort,
     alloc: Global,
@@ -128,7 +128,7 @@ fn check_stopped(
     Ok(found.lines.ends_with(" -> stopped\n"))
 }
 
-/// Plays the script on a heap with a stop, and one more in the recovery, and compares what came back. It says whether the first stop came.
+/// Plays the script on a heap with a stop, and one more in the recovery, and compares what came back. It returns whether the first stop came.
 fn check_stop(
     rt: &impl Abort,
     alloc: Global,
@@ -149,7 +149,7 @@ const MOST_CALLS: usize = 200;
 /// The calls of a recovery that has a transaction to take back.
 pub const RECOVERY_CALLS: usize = 4;
 
-/// Stops the script at each of its calls until none stops, and the recovery at each of its own and behind them.
+/// Stops the script at each of its calls until none stops, and the recovery at each of its own and after them.
 pub fn check_stops(
     rt: &impl Abort,
     alloc: Global,

@@ -38,11 +38,11 @@ abbrev pub places_from : List ℕ → Places → ℕ → Places
 places_from words [] to = []
 places_from words (p ∷ ps) to = (p.0, to) ∷ places_from words ps (to + taken_at words p.1)
 
--- the objects that remain, each at the address that it will have behind the used words
+-- the objects that remain, each at the address that it will have after the used words
 abbrev pub future : State → List ℕ → Places → Places
 future s words remaining = places_from words remaining (s.base + s.used)
 
--- where all objects stand in the completed words: the current ones where they do, and those that remain behind the used words
+-- where all objects stand in the completed words: the current ones where they do, and those that remain after the used words
 abbrev pub completed_places : State → Places → Places → List ℕ → Places
 completed_places s places remaining words = places ++ future s words remaining
 
@@ -56,7 +56,7 @@ without places from = filter (λ p. not (p.1 == from)) places
 abbrev pub in_other_space : State → ℕ → Bool
 in_other_space s at = nat_le (other_base s) at && nat_lt at (other_base s + space_words s.pages)
 
--- where the object stands in the end that stood at an address of the from-space: its copy, or where it will be put
+-- where the object that stood at an address of the from-space stands in the end: its copy, or where it will be put
 abbrev pub end_of : List (ℕ × ℕ) → ℕ → Option Header → ℕ
 end_of moves from (Some (Forward to)) = to
 end_of moves from (Some (Length n)) = moved_to moves from
@@ -106,7 +106,7 @@ pub record IsMade (follow : ℕ → ℕ) (words others : List ℕ) (at to n : �
   pub birth : birth_at others to ≡ birth_at words at
   pub fields : (i : ℕ) → i < n → slice_index others (field_at to i) ≡ follow (slice_index words (field_at at i))
 
--- A graph stands in the completed words when these writes are taken back, as a transaction sees it that has made so many objects.
+-- A graph stands in the completed words when these writes are taken back, as a transaction that has made that many objects sees it.
 abbrev pub StandsCompleted : ℕ → ℕ → Places → Places → Graph → List UndoEntry → List ℕ → State → Type 0
 StandsCompleted t made places remaining g us words s =
     Stands t made (places ++ future s words remaining) g (taken_back us (completed s places remaining words)) s.base (s.used + owed s)

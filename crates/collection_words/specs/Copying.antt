@@ -14,10 +14,10 @@ words_to_copy words at = slice_index words at ∷ birth_at words at ∷ field_wo
 abbrev pub next_copy : State → List ℕ → ℕ → ObjectCopy
 next_copy s words from = record { from = from; to = s.base + s.used; words = words_to_copy words from }
 
--- the words behind it
+-- the words after it
 abbrev pub copied_words : State → List ℕ → ℕ → List ℕ
 copied_words s words from = put_all words (writes_of (next_copy s words from))
 
--- the current places with that of an object's copy behind them
+-- the current places with that of an object's copy after them
 abbrev pub with_place : State → Places → Id → Places
 with_place s places id = places ++ (id, s.base + s.used) ∷ []

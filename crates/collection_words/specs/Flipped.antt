@@ -27,7 +27,7 @@ use Rattle.heap_words.specs.declared.TheConstants.{STABLE_WORDS}
 abbrev pub copies_of_flip : List ℕ → List ℕ → ℕ → List ObjectCopy
 copies_of_flip words roots to = map (λ m. record { from = m.0; to = m.1; words = words_to_copy words m.0 }) (moves_from words roots to)
 
--- the words behind a flip that copies them into the other space
+-- the words after a flip that copies them into the other space
 abbrev pub flipped_words : State → List ℕ → List ℕ → List ℕ
 flipped_words s words roots = put_all words (flat_map writes_of (copies_of_flip words roots (other_base s)))
 
@@ -75,12 +75,12 @@ pub record IsFlipping (s : State) (places chosen remaining : Places) (words : Li
   pub parts : (id : Id) (at : ℕ) → address_of places id ≡ Some at → (address_of chosen id ≡ Some at) ⊎ ((address_of remaining id ≡ Some at) × (Contains (addresses chosen) at → ⊥))
   pub same : HaveSameIds places (chosen ++ remaining)
 
--- The state behind a flip, by its spaces.
+-- The state after a flip, by its spaces.
 pub record HasFlipped (s n : State) : Type 0 where
   pub base : n.base ≡ other_base s
   pub pages : n.pages ≡ s.pages
 
--- What the state behind a flip says of its collection: these were copied and are gray, and all else is left.
+-- What the state after a flip says of its collection: these were copied and are gray, and all else is left.
 pub record HasBegun (s n : State) (k : Collection) (places chosen remaining : Places) (words : List ℕ) : Type 0 where
   pub flipped : HasFlipped s n
   pub used : n.used ≡ taken_by words (addresses chosen)

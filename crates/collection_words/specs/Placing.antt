@@ -30,7 +30,7 @@ copied_places copies places = flat_map (λ (copy : ObjectCopy). put_at places co
 abbrev pub uncopied_places : List ObjectCopy → Places → Places
 uncopied_places copies places = filter (λ p. not (contains (with_all empty (map (λ (copy : ObjectCopy). copy.from) copies)) p.1)) places
 
--- Where objects stand behind a record. Only records of a collection copy objects; one that makes an object stable does not name it, so that
+-- Where objects stand after a record. Only records of a collection copy objects; one that makes an object stable does not name it, so that
 -- place is for the seal to add.
 abbrev pub moved_by : Placing → Record → Placing
 moved_by p (Flip copies) = placing_of (copied_places copies p.places) (uncopied_places copies p.places)
@@ -38,6 +38,6 @@ moved_by p (Copy from to words) = placing_of (p.places ++ put_at p.remaining fro
 moved_by p Collected = placing_of p.places []
 moved_by p rec = p
 
--- where they stand behind these
+-- where they stand after these
 abbrev pub moved_by_all : Placing → List Record → Placing
 moved_by_all p records = fold moved_by p records

@@ -1,4 +1,4 @@
--- Objects that stand elsewhere, with their references led along.
+-- Objects that stand elsewhere, with their references updated.
 use Rattle.std.specs.Prelude.{◌≡◌, ◌⊎◌, ℕ, ◌<◌, List, [], ◌∷◌, slice_index, is_some, false, Some}
 use Rattle.heap_words.specs.declared.Word.TheVariants.{Stable}
 use Rattle.heap_words.specs.Word.{bits, is_stable}
@@ -22,11 +22,11 @@ pub record IsLedAlong (places others : Places) (w v : ℕ) : Type 0 where
   pub was : w ≡ bits (Stable at)
   pub is : v ≡ bits (Stable to)
 
--- a word, and what it is where objects have these other places: a reference to one of them is led along, and any other word is the same
+-- a word, and what it is where objects have these other places: a reference to one of them is updated, and any other word is the same
 abbrev pub IsRelocatedWord : Places → Places → ℕ → ℕ → Type 0
 IsRelocatedWord places others w v = ((is_stable w ≡ false) × (v ≡ w)) ⊎ IsLedAlong places others w v
 
--- An object stands elsewhere: its length and birth are the same, and its fields led along.
+-- An object stands elsewhere: its length and birth are the same, and its fields are updated.
 pub record IsRelocatedObject (places others : Places) (words moved : List ℕ) (at to : ℕ) : Type 0 where
   pub fields : ℕ
   pub was : object_at words at ≡ Some fields

@@ -56,7 +56,7 @@ pub fn relocated_graphs_stand()
     ensures { (t made : ℕ) (places others : Places) (g : Graph) (words moved : List ℕ) (base used new_base new_used : ℕ) → Stands t made places g words base used → ArePlacedIn others moved new_base new_used → IsRelocated places others words moved → Stands t made others g moved new_base new_used }
 {}
 
-/// Objects stay relocated when writes of their fields are taken back, in the one words as they are and in the others as they are there.
+/// Objects stay relocated when writes of their fields are taken back, in one list of words as they are and in the other as they are there.
 pub fn relocations_survive_writes_taken_back()
     ensures { (places others : Places) (words moved : List ℕ) (from end to stop : ℕ) (us vs : List UndoEntry) → AreEndToEnd words from (addresses places) end → AreEndToEnd moved to (addresses others) stop → IsRelocated places others words moved → AreRelocatedEntries places others us vs → AllByRecursion (λ u. IsCurrentField places words u.object u.field) us → AreEndToEnd (taken_back vs moved) to (addresses others) stop × IsRelocated places others (taken_back us words) (taken_back vs moved) }
 {}

@@ -19,8 +19,8 @@ ghost use Rattle.collection_words.specs.Placed.{HaveOwnNames};
 ghost use Rattle.collection_words.specs.LaidOut.{EachField, IsLaidOut, IsUnderway, LeadsHere};
 ghost use Rattle.collection_words.specs.Writes.{AreBacked, IsCurrentField, IsScanWrite};
 
-/// The copy of an object that remains can follow. Behind it the words are laid out, with the object among the current ones, and each graph
-/// stands in the completed words that stood there, where the same writes are taken back.
+/// The copy of an object that remains can follow. After it the words are laid out, with the object among the current ones, and each graph
+/// that stood in the completed words stands there, where the same writes are taken back.
 pub fn copies_keep_graphs()
     ensures { (s : State) (k : Collection) (places remaining : Places) (words : List ℕ) (id : Id) (from t made : ℕ) (g : Graph) (us : List UndoEntry) → IsUnderway s k places remaining words → address_of remaining id ≡ Some from → AreBacked places words us → StandsCompleted t made places remaining g us words s → (copy_after s (next_copy s words from) ≡ Some (with_copy s k (next_copy s words from))) × IsUnderway (with_copy s k (next_copy s words from)) (with_moved k from (next_copy s words from).to (words_to_copy words from)) (with_place s places id) (without remaining from) (copied_words s words from) × StandsCompleted t made (with_place s places id) (without remaining from) g us (copied_words s words from) (with_copy s k (next_copy s words from)) }
 {}
@@ -30,24 +30,24 @@ pub fn scans_keep_completed_words()
     ensures { (s : State) (k : Collection) (places remaining : Places) (words : List ℕ) (page : ℕ) (writes : List (ℕ × ℕ)) → IsUnderway s k places remaining words → is_current_page s page ≡ true → AllByRecursion (IsScanWrite s places remaining words) writes → (scanned_in s page writes s.collection ≡ Some (record s { collection = Some (with_scanned k page) })) × (completed (record s { collection = Some (with_scanned k page) }) places remaining (put_all words writes) ≡ completed s places remaining words) }
 {}
 
-/// Behind the scan of a page the words are laid out, where the fields of its gray objects lead to current objects.
+/// After the scan of a page the words are laid out, where the fields of its gray objects lead to current objects.
 pub fn scans_keep_words_laid_out()
     ensures { (s : State) (k : Collection) (places remaining : Places) (words : List ℕ) (page : ℕ) (writes : List (ℕ × ℕ)) → IsUnderway s k places remaining words → AllByRecursion (IsScanWrite s places remaining words) writes → ((at : ℕ) → contains k.gray at ≡ true → (page_of at == page) ≡ true → EachField (put_all words writes) at (λ i w. LeadsHere (addresses places) (meaning w))) → IsUnderway (record s { collection = Some (with_scanned k page) }) (with_scanned k page) places remaining (put_all words writes) }
 {}
 
-/// Each graph stands in the completed words behind a scan that stood there, where the same writes are taken back.
+/// Each graph that stood in the completed words stands there after a scan, where the same writes are taken back.
 pub fn scans_keep_graphs()
     ensures { (s : State) (k : Collection) (places remaining : Places) (words : List ℕ) (page t made : ℕ) (writes : List (ℕ × ℕ)) (g : Graph) (us : List UndoEntry) → IsUnderway s k places remaining words → AllByRecursion (IsScanWrite s places remaining words) writes → StandsCompleted t made places remaining g us words s → StandsCompleted t made places remaining g us (put_all words writes) (record s { collection = Some (with_scanned k page) }) }
 {}
 
-/// The end of a collection can follow where nothing is gray. Behind it the words are laid out without a collection, and each graph stands
-/// in the words that stood in the completed ones, where the same writes are taken back.
+/// The end of a collection can follow where nothing is gray. After it the words are laid out without a collection, and each graph that
+/// stood in the completed words stands in the words, where the same writes are taken back.
 pub fn ended_collections_keep_graphs()
     ensures { (s : State) (k : Collection) (places remaining : Places) (words : List ℕ) (t made : ℕ) (g : Graph) (us : List UndoEntry) → IsUnderway s k places remaining words → len k.gray ≡ 0 → AreBacked places words us → StandsCompleted t made places remaining g us words s → (collected_in s s.collection ≡ Some (record s { collection = None })) × IsLaidOut (record s { collection = None }) places [] words × StandsCompleted t made places [] g us words (record s { collection = None }) }
 {}
 
 /// Where some objects of a heap without a collection were copied, the root to the front of the other space, and the others stay in what is the
-/// from-space then, each graph stands in the completed words that stood in the words, with its writes translated along with the objects.
+/// from-space then, each graph that stood in the words stands in the completed words, with its writes translated along with the objects.
 pub fn graphs_stand_where_objects_parted()
     ensures { (s n : State) (k : Collection) (places currents remaining : Places) (words moved : List ℕ) (pairs : List (ℕ × ℕ)) (t made : ℕ) (g : Graph) (us : List UndoEntry) → s.collection ≡ None → IsLaidOut s places [] words → HaveOwnNames places → IsUnderway n k currents remaining moved → HaveOwnNames (currents ++ remaining) → HaveParted n places currents remaining words moved → address_of currents root ≡ Some n.base → WereTranslated pairs places currents us → AllByRecursion (λ u. IsCurrentField places words u.object u.field) us → StandsCompleted t made places [] g us words s → StandsCompleted t made currents remaining g (translated_list pairs us) moved n }
 {}

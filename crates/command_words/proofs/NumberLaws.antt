@@ -36,7 +36,7 @@ parses bits text n e = go (is_number bits (without_leading_plus text)) refl e
         let inner = both _ _ outer.0 in
         (((ltb-true _ _ inner.0, digits_from (without_leading_plus text) inner.1), ltb-true _ _ outer.1), is)
 
--- and one that is none does not parse
+-- and one that is not a number does not parse
 pub parses_not : (bits : ℕ) (text : Text) (e : ℕ) → parsed_number bits text ≡ None → ParsesUnsigned {E = ℕ} bits 10 text (Err e)
 parses_not bits text e none h =
     let ds = without_leading_plus text in

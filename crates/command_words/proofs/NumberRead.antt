@@ -50,7 +50,7 @@ tried_one {E} G bits text (Ok (Some n)) only tries = ap (option_map (λ k. Some 
 tried_one {E} G bits text (Ok None) only tries = absurd tries
 tried_one {E} G bits text (Err e) only tries = ap (option_map (λ k. Some k)) (sym (parse_is {E = E} bits text (Err e) (only (Err e) tries)))
 
--- the getter that can fail gives the number that the row holds, if there is a row, and fails where that is none
+-- the getter that can fail gives the number that the row holds, if there is a row, and fails if that is no number
 pub given_is : {E : Type 0} (G : List ℕ → Result ℕ E → Type 0) (bits : ℕ) (m : ArgMatches) (id : Text) (r : Result (Option ℕ) E)
     → ((text : Text) (x : Result ℕ E) → G text x → ParsesUnsigned bits 10 text x) → (one_text (found_of m) id ≡ None → r ≡ Ok None)
     → ((text : List ℕ) → one_text (found_of m) id ≡ Some text → TriesOne G text r) → result_ok r ≡ given_in bits (rows_of (found_of m)) id

@@ -32,7 +32,7 @@ use Rattle.command_words.specs.declared.commands.Command.TheVariants.{Format, Gr
 
 -- ---- what is given is read
 
--- each text that the parser lets through is a number of so many bits, as it is read
+-- each text that the parser lets through is a number of that many bits, as it is read
 abbrev Reads : ValueParser → ℕ → Type 0
 Reads p bits = (ignore_case : Bool) (v : Text) → accepts ignore_case p v ≡ true → (n : ℕ) × (parsed_number bits (read_as (reading_of p) v) ≡ Some n)
 
@@ -52,7 +52,7 @@ unsigned_number ignore_case v passes =
     let inner = both (nat_lt (digits_value 10 (without_leading_plus v)) (2 ^ 64)) _ outer.1 in
     (digits_value 10 (without_leading_plus v), rw (outer.0, inner.0) refl)
 
--- the argument of that id takes numbers of so many bits
+-- the argument of that id takes numbers of that many bits
 abbrev IsNumber : List Rule → Text → ℕ → Rule → Type 0
 IsNumber c id bits a = (arg_by_id c id ≡ Some a) × Reads (parser_of_value a.parser) bits
 

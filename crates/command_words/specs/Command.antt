@@ -16,7 +16,7 @@ use Rattle.command_words.specs.declared.commands.CommandError.TheVariants.{NoMem
 use Rattle.command_words.specs.declared.commands.Numbers.{Numbers}
 use Rattle.command_words.specs.declared.commands.Stop.{Stop}
 
--- the whole number of so many bits that a text is
+-- the whole number of that many bits that a text is
 abbrev pub parsed_number : ℕ → Text → Option ℕ
 parsed_number bits text =
     let digits = without_leading_plus text in
@@ -41,7 +41,7 @@ given_of bits (Some text) = option_map (λ n. Some n) (parsed_number bits text)
 abbrev pub given_in : ℕ → List Row → Text → Option (Option ℕ)
 given_in bits rows id = given_of bits (one_of id rows)
 
--- how the disk stops; where the second stop alone is asked for, the first one never comes
+-- how the disk stops; if only the second stop is given, the first one never comes
 abbrev pub stop_of : Option ℕ → Option ℕ → Option Stop
 stop_of (Some after) again = Some (record { after = after; again = again })
 stop_of None (Some again) = Some (record { after = 18446744073709551615; again = Some again })
@@ -54,7 +54,7 @@ play_of _ _ _ = None
 abbrev pub play_in : List Row → Option Command
 play_in rows = play_of (given_in 32 rows (codes "fresh")) (given_in 64 rows (codes "stop")) (given_in 64 rows (codes "again"))
 
--- where nothing else is given, an event that is answered busy is made 1,000 times
+-- if nothing else is given, an event that is answered busy is made up to 1,000 times
 abbrev pub threads_of : Option (Option ℕ) → Option (Option ℕ) → Option Command
 threads_of (Some fresh) (Some tries) = Some (Threads fresh (unwrap_or tries 1000))
 threads_of _ _ = None

@@ -1,4 +1,4 @@
-//! The table of commands, as the parser of command lines takes it.
+//! The table of commands that the parser of command lines takes.
 ghost use Rattle.std.specs.Prelude.{◌≡◌, IfOk, Some, false};
 ghost use Rattle.clap.specs.Words.{app_of, rule_of, shape_of};
 ghost use Rattle.clap.specs.declared.builder.command.Command.TheViews.{out-Command};
@@ -11,7 +11,7 @@ use std::alloc::{AllocError, Global};
 /// The most pages of a space.
 const MOST_PAGES: i64 = 16_384;
 
-/// An argument that has to be given, at the place where it stands in its command.
+/// A required argument, at its place among the command's arguments.
 fn required_argument<'a>(alloc: Global, id: &'a str, parser: ValueParser<'a>) -> Arg<'a>
     ensures rule { rule_of result ≡ argument id.entry.now parser.entry }
     ensures local { result.global ≡ false }
@@ -19,7 +19,7 @@ fn required_argument<'a>(alloc: Global, id: &'a str, parser: ValueParser<'a>) ->
     Arg::new(alloc, id).required(true).value_parser(parser)
 }
 
-/// An option of that name, which may be left out.
+/// An optional option of that name.
 fn option<'a>(alloc: Global, name: &'a str, parser: ValueParser<'a>) -> Arg<'a>
     ensures rule { rule_of result ≡ option name.entry.now parser.entry }
     ensures local { result.global ≡ false }

@@ -1,4 +1,4 @@
-//! Reading a command off the matches of the words.
+//! Reading a command from the matches of the words.
 ghost use Rattle.std.specs.Prelude.{◌≡◌, Err, IfOk, None, OnOk, Some, map, string_bytes};
 ghost use Rattle.clap.specs.Words.{found_of, kind_of, rows_of};
 ghost use Rattle.command_words.specs.Command.{IsTaken, command, command_of, error_of, given_in, load_in, number_in, numbers_in, play_in, stop_of, threads_in};
@@ -10,7 +10,7 @@ use clap::ArgMatches;
 use clap::error::ErrorKind;
 use std::alloc::{AllocError, Global};
 
-/// How often an event is made that is answered busy, where the words don't say it.
+/// How often an event is made in all while it is answered busy, unless the words say otherwise.
 const TRIES: u32 = 1000;
 
 impl From<AllocError> for CommandError {
@@ -48,7 +48,7 @@ fn given_u32(found: &ArgMatches, id: &str) -> Option<Option<u32>>
     found.try_get_one(id).ok()
 }
 
-/// The same of an option whose number has 64 bits.
+/// The same, for an option whose number has 64 bits.
 fn given_u64(found: &ArgMatches, id: &str) -> Option<Option<u64>>
     ensures { result ≡ given_in 64 (rows_of (found_of found.now)) id.now }
 {
@@ -66,7 +66,7 @@ fn read_numbers(format: &ArgMatches) -> Option<Numbers>
     })
 }
 
-/// How the disk stops. If the second stop alone is asked for, the first never comes.
+/// How the disk stops. If only the second stop is given, the first never comes.
 fn stop_of(after: Option<u64>, again: Option<u64>) -> Option<Stop>
     ensures { result ≡ stop_of after again }
 {
@@ -128,11 +128,11 @@ fn read_matches(name: &str, found: &ArgMatches) -> Option<Command>
 ///
 /// # Errors
 ///
-/// `Usage` if they spell none, and `NoMemory` if memory was refused.
+/// `Usage` if they spell none, and `NoMemory` if memory runs out.
 pub fn read_command(alloc: Global, words: &[String]) -> Result<Command, CommandError>
     ensures read { IfOk result (λ c. command (map string_bytes words.now) ≡ Some c) }
     ensures usage { result ≡ Err CommandError.Usage → command (map string_bytes words.now) ≡ None }
-    // It is just the words at which the parser finds a fault that are refused, but for want of memory.
+    // Unless memory runs out, it refuses just the words at which the parser finds a fault.
     ensures taken { OnOk result (IsTaken (map string_bytes words.now)) }
     ensures refused { result ≡ Err CommandError.Usage → ¬ IsTaken (map string_bytes words.now) }
     ensures limits { IfOk result IsWithin }

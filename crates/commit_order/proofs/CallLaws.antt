@@ -124,7 +124,7 @@ length-put_value g (Some id) i x q =
     (λ same. length-set (fields g id) i x ∙ ap (λ r. length (fields g r)) (sym same))
     (λ other. refl)
 
--- what is asked of a call, so that two views answer it alike: what it needs a lock for is an object that transaction n did not make
+-- what is required of a call, so that two views answer it alike: what it needs a lock for is an object that transaction n did not make
 -- and does not hold exclusively
 abbrev pub IsUntouched : ℕ → (Id → Type 0) → Registers → Event → Type 0
 IsUntouched n exclusive registers c = (id : Id) (mode : Mode) → lock_of registers c ≡ Some (id, mode) → (id.t ≢ n) × (exclusive id → ⊥)
@@ -152,7 +152,7 @@ alike_length : (n : ℕ) (g k : Graph) (o p : Option Id) → o ≡ p → ((id : 
 alike_length n g k None p same other lengths = ap (λ r. length (fields_of k r)) same
 alike_length n g k (Some id) p same other lengths = lengths id (other id refl) ∙ ap (λ r. length (fields_of k r)) same
 
--- the objects that the handle of a call holds which needs a lock
+-- the objects held by the handle of a call that needs a lock
 on_handle : (n : ℕ) (exclusive : Id → Type 0) (rs : Registers) (h : ℕ) (mode : Mode) → ((id : Id) (m : Mode) → lock_on rs h mode ≡ Some (id, m) → (id.t ≢ n) × (exclusive id → ⊥))
     → (id : Id) → held rs h ≡ Some id → (id.t ≢ n) × (exclusive id → ⊥)
 on_handle n exclusive rs h mode free id is = free id mode (lock_on-held rs h mode id is)

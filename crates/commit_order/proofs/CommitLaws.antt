@@ -16,7 +16,7 @@ use Rattle.commit_order.specs.Heard.{Heard, hear_cut, hear, heard_in}
 use Rattle.commit_order.specs.SerialOrder.{EachEntry, EndsWithFailure, numbers_begun, IsTwoPhase, HasPlainReplies, SerialOrderTheorem}
 use Rattle.commit_order.proofs.OrderLaws.{IsOrdered, nothing_ordered, ordered_append, heard-append, two_phase_ordered, serial_replies-append}
 
--- The transaction in doubt had the replies that it would have behind the sealed ones, and there is none while the disk has not failed.
+-- The transaction in doubt had the replies that it would have after the sealed ones, and there is none while the disk has not failed.
 record IsDoubted (g0 : Graph) (a : Account) (heard : Heard) : Type 0 where
   told : heard.in_doubt ≡ option_map (replies (serial g0 a.sealed)) a.in_doubt
   certain : a.failed ≡ None → a.in_doubt ≡ None
@@ -37,7 +37,7 @@ unfailed_if (Some n) reply failed never = absurd (never n (failed n refl))
 sealed_not_failed : (n m : ℕ) → Sealed n ≢ Refused (Failed m)
 sealed_not_failed n m is = cc
 
--- One entry more.
+-- One more entry.
 entry_doubted : (g0 : Graph) (numbers : List ℕ) (a : Account) (heard : Heard) (event : Event) (reply : Reply) → ((n : ℕ) → a.failed ≡ Some n → reply ≡ Refused (Failed n)) → IsOrdered g0 numbers a heard → IsDoubted g0 a heard
     → IsDoubted g0 (account_after a (record { event = event; reply = reply })) (hear heard event reply)
 entry_doubted g0 numbers a heard event (Begun n) failed o d = record { told = d.told; certain = d.certain }
@@ -82,7 +82,7 @@ two_phase_doubted : (g0 : Graph) (history : List Entry) → HasPlainReplies g0 h
 two_phase_doubted g0 history plain two_phase ends =
     doubted_rest g0 history [] history plain two_phase ends refl (nothing_ordered g0 plain.closed) (record { told = refl; certain = λ unfailed. refl })
 
--- the replies of transactions and of one that may be behind them
+-- the replies of transactions and of one that may be after them
 serial_replies-last : (g : Graph) (ts : List Transaction) (o : Option Transaction)
     → serial_replies g ts ++ option_to_list (option_map (replies (serial g ts)) o) ≡ serial_replies g (ts ++ option_to_list o)
 serial_replies-last g ts None = append-nil (serial_replies g ts) ∙ ap (serial_replies g) (sym (append-nil ts))

@@ -134,7 +134,7 @@ begin_holds g0 history event n none =
       },
     ))
 
--- A transaction that is aborted lets go of all that it holds, and of nothing else.
+-- A transaction that is aborted releases all that it holds, and of nothing else.
 pub abort_holds : (g0 : Graph) (history : List Entry) (event : Event) (t : Transaction) → HasPlainReplies g0 history → IsTwoPhase g0 history → (account history).active (session_of event) ≡ Some t
     → Releases g0 (account history) (account (history ++ record { event = event; reply = Aborted } ∷ [])) t.number
 abort_holds g0 history event t plain two_phase is =

@@ -16,7 +16,7 @@ use Rattle.graph_model.specs.Transaction.{View, Transaction, call, after_calls, 
 use Rattle.graph_model.specs.Locking.{Mode, Shared, Exclusive, Lock, lock_of, locks_of_calls, locks_of, Conflict}
 use Rattle.commit_order.proofs.CallLaws.{Conflict-sym, Contains-Some, Contains-option, fields-call, there_other, call-IsUnused, locked_there, SeesAlike, IsUntouched, call-SeesAlike, reply-SeesAlike}
 
--- the locks with one call more
+-- the locks with one more call
 pub locks_of_calls-append : (v : View) (t : ℕ) (cs : List Event) (c : Event) → locks_of_calls v t (cs ++ c ∷ []) ≡ locks_of_calls v t cs ++ option_to_list (lock_of (after_calls v t cs).registers c)
 locks_of_calls-append v t [] c = append-nil _
 locks_of_calls-append v t (d ∷ cs) c =

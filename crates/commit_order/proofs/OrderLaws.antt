@@ -88,7 +88,7 @@ changed_replies f told active s own x now others r =
 beside_sym : (g : Graph) (t u : Transaction) → IsBeside g t u → IsBeside g u t
 beside_sym g t u b = record { differ = λ same. b.differ (sym same); apart = AreApart-sym (locks_of g t) (locks_of g u) b.apart }
 
--- What is asked of the transaction that session s has next.
+-- What is required of the transaction that session s has next.
 record MayFollow (g0 : Graph) (numbers : List ℕ) (a : Account) (s : ℕ) (t : Transaction) : Type 0 where
   begun : Contains numbers t.number
   unused : IsUnused (serial g0 a.sealed) t.number
@@ -118,12 +118,12 @@ updated g0 numbers a heard s x own told may o = record {
   active = changed_replies (replies (serial g0 a.sealed)) heard.active a.active s own x told (λ r other. o.active r);
 }
 
--- session s has no transaction any more
+-- session s no longer has a transaction
 ended : (g0 : Graph) (numbers : List ℕ) (a : Account) (heard : Heard) (s : ℕ) → IsOrdered g0 numbers a heard
     → IsOrdered g0 numbers (record a { active = with_active a.active s None }) (record heard { active = with_replies heard.active s None })
 ended g0 numbers a heard s o = updated g0 numbers a heard s None None refl (λ t is. cc) o
 
--- the replies of one transaction more
+-- the replies of one more transaction
 pub serial_replies-append : (g : Graph) (ts : List Transaction) (t : Transaction) → serial_replies g (ts ++ t ∷ []) ≡ serial_replies g ts ++ replies (serial g ts) t ∷ []
 serial_replies-append g [] t = refl
 serial_replies-append g (u ∷ ts) t = ap (λ (l : List (List Reply)). replies g u ∷ l) (serial_replies-append (run g u).graph ts t)
@@ -133,7 +133,7 @@ same_replies : (g h : Graph) (x : Option Transaction) → ((u : Transaction) →
 same_replies g h None same = refl
 same_replies g h (Some u) same = ap Some (same u refl)
 
--- A transaction of session s is sealed: what the others see does not change by it.
+-- A transaction of session s is sealed: this does not change what the others see.
 sealed_ordered : (g0 : Graph) (numbers : List ℕ) (a : Account) (heard : Heard) (s : ℕ) (t : Transaction) → a.active s ≡ Some t → IsOrdered g0 numbers a heard
     → IsOrdered g0 numbers (record a { active = with_active a.active s None; sealed = a.sealed ++ t ∷ [] }) (record heard { active = with_replies heard.active s None; sealed = heard.sealed ++ replies (serial g0 a.sealed) t ∷ [] })
 sealed_ordered g0 numbers a heard s t is o =
@@ -256,13 +256,13 @@ cut_ordered g0 numbers a heard event o = record {
   active = o.active;
 }
 
--- What is asked of an entry at its place.
+-- What is required of an entry at its place.
 record IsAsked (g0 : Graph) (numbers : List ℕ) (a : Account) (event : Event) (reply : Reply) : Type 0 where
   locked : IsCallReply reply → (t : Transaction) → a.active (session_of event) ≡ Some t → IsFree g0 a t.number (lock_of (view g0 a t).registers event)
   answered : IsCallReply reply → (t : Transaction) → a.active (session_of event) ≡ Some t → reply ≡ (call (view g0 a t) t.number event).reply
   numbered : (n : ℕ) → reply ≡ Begun n → (Contains numbers n → ⊥) × IsUnused g0 n
 
--- One entry more.
+-- One more entry.
 entry_ordered : (g0 : Graph) (numbers : List ℕ) (a : Account) (heard : Heard) (event : Event) (reply : Reply) → IsAsked g0 numbers a event reply → IsOrdered g0 numbers a heard
     → IsOrdered g0 (numbers ++ option_to_list (begun_number reply)) (account_after a (record { event = event; reply = reply })) (hear heard event reply)
 entry_ordered g0 numbers a heard event (Begun n) asked o =
@@ -313,18 +313,18 @@ nothing_ordered g0 closed = record {
   active = λ s. refl;
 }
 
--- what is heard with one entry more
+-- what is heard with one more entry
 pub heard-append : (h : List Entry) (e : Entry) → heard_in (h ++ e ∷ []) ≡ hear (heard_in h) e.event e.reply
 heard-append h e = fold-append (λ (heard : Heard) (entry : Entry). hear heard entry.event entry.reply) nothing_heard h (e ∷ [])
 
--- the numbers with one entry more
+-- the numbers with one more entry
 pub numbers-append : (h : List Entry) (e : Entry) → numbers_begun (h ++ e ∷ []) ≡ numbers_begun h ++ option_to_list (begun_number e.reply)
 numbers-append h e = filter_map-append (λ (x : Entry). begun_number x.reply) h (e ∷ []) ∙ ap (λ ns. numbers_begun h ++ ns) (one (begun_number e.reply)) where
   one : (o : Option ℕ) → cons_option o [] ≡ option_to_list o
   one None = refl
   one (Some n) = refl
 
--- What holds at a place of a history holds behind the next entry.
+-- What holds at a place of a history holds after the next entry.
 pub ordered_append : (g0 : Graph) (before : List Entry) (e : Entry) → RefusesConflicts g0 before e → AnswersByView g0 before e → BeginsAnew g0 before e
     → IsOrdered g0 (numbers_begun before) (account before) (heard_in before)
     → IsOrdered g0 (numbers_begun (before ++ e ∷ [])) (account (before ++ e ∷ [])) (heard_in (before ++ e ∷ []))

@@ -1,4 +1,4 @@
--- What a heap that locks so may rest on, at each place of its history.
+-- What a heap that locks in this way can rely on, at each place of its history.
 use Rattle.std.proofs.Common.{◌≡◌, ◌⊎◌, inl, inr, ℕ, List, [], ◌∷◌, ◌++◌, Some, refl, sym, ap, ◌∙◌, subst, append_assoc}
 use Rattle.graph_model.specs.declared.reply.Entry.{Entry}
 use Rattle.graph_model.specs.Graph.{Graph}
@@ -20,7 +20,7 @@ not_nil : {X : Type 0} (xs : List X) (y : X) (ys : List X) → [] ≡ xs ++ y �
 not_nil [] y ys is = cc
 not_nil (x ∷ xs) y ys is = cc
 
--- an element of a list with one more behind it is that one, or stands in the list
+-- an element of a list with one more after it is that one, or stands in the list
 last_or_before : {X : Type 0} (xs : List X) (last : X) (before : List X) (x : X) (after : List X) → xs ++ last ∷ [] ≡ before ++ x ∷ after
     → ((before ≡ xs) × (x ≡ last)) ⊎ ((rest : List X) × (xs ≡ before ++ x ∷ rest))
 last_or_before [] last [] x after is = inl (refl, sym (same_head last x [] after is))
@@ -33,7 +33,7 @@ last_or_before (y ∷ xs) last (b ∷ before) x after is =
       | inr earlier ↦ inr (earlier.0, ap (λ z. z ∷ xs) same ∙ ap (λ l. b ∷ l) earlier.1)
     ]
 
--- what each entry has is had by each of one entry more, if that one has it
+-- what holds of each entry holds of each with one more entry, if it holds of that one
 pub EachEntry-append : (P : List Entry → Entry → Type 0) (history : List Entry) (e : Entry) → EachEntry P history → P history e → EachEntry P (history ++ e ∷ [])
 EachEntry-append P history e each own before x after is =
     elim (last_or_before history e before x after is) [
@@ -41,7 +41,7 @@ EachEntry-append P history e each own before x after is =
       | inr earlier ↦ each before x earlier.0 earlier.1
     ]
 
--- what each entry of a history has is had by each of its first ones
+-- what holds of each entry of a history holds of each of its first ones
 pub EachEntry-before : (P : List Entry → Entry → Type 0) (history before rest : List Entry) → history ≡ before ++ rest → EachEntry P history → EachEntry P before
 EachEntry-before P history before rest is each first x after here = each first x (after ++ rest) (is ∙ ap (λ h. h ++ rest) here ∙ append_assoc first (x ∷ after) rest)
 
@@ -56,7 +56,7 @@ nothing_plain g0 closed = record {
 pub nothing_two_phase : (g0 : Graph) → IsTwoPhase g0 []
 nothing_two_phase g0 = record { locked = λ before e after is. absurd (not_nil before e after is) }
 
--- So does one with one entry more that was answered by what its transaction saw,
+-- So does one with one more entry that was answered by what its transaction saw,
 pub plain_append : (g0 : Graph) (history : List Entry) (e : Entry) → AnswersByView g0 history e → BeginsAnew g0 history e → HasPlainReplies g0 history → HasPlainReplies g0 (history ++ e ∷ [])
 plain_append g0 history e answered numbered plain = record {
   closed = plain.closed;

@@ -112,7 +112,7 @@ module _ (g0 : Graph) (numbers : List ℕ) (a : Account) (heard : Heard) (o : Is
         | inr was ↦ still_one (record a { active = with_active a.active s (Some next); entries = entries }) r u id mode refl now was.1 holds
       ]
 
-  -- nor does any entry, of one that is active behind it
+  -- nor does any entry, of one that is active after it
   still_entry : (event : Event) (reply : Reply) → ((n : ℕ) → reply ≡ Begun n → Contains numbers n → ⊥) → StillHold g0 a (account_after a (record { event = event; reply = reply }))
   still_entry event (Begun n) anew = still_begin (session_of event) n (a.entries + 1) (anew n refl)
   still_entry event (Sealed n) anew = still_seal (session_of event) (a.entries + 1) (a.active (session_of event)) refl

@@ -1,4 +1,4 @@
--- What the calls of each transaction were answered, as a history tells it.
+-- What the calls of each transaction were answered, as a history has it.
 use Rattle.std.specs.Prelude.{ℕ, ◌==◌, List, [], ◌∷◌, ◌++◌, Option, None, Some, fold, if◌then◌else◌}
 use Rattle.std.specs.Option.{option_to_list, option_map}
 use Rattle.graph_model.specs.declared.event.Event.{Event}
@@ -40,7 +40,7 @@ abbrev pub hear_cut : Heard → Event → Heard
 hear_cut heard (Seal s) = record heard { in_doubt = heard.active s }
 hear_cut heard event = heard
 
--- what an event's reply adds: every reply but these answers a call that was not refused
+-- what an event's reply adds: the last seven are replies to calls, which were not refused
 abbrev pub hear : Heard → Event → Reply → Heard
 hear heard event (Begun n) = record heard { active = with_replies heard.active (session_of event) (Some []) }
 hear heard event (Sealed n) = hear_seal heard (session_of event)
@@ -64,7 +64,7 @@ hear heard event Yes = hear_call heard (session_of event) Yes
 hear heard event No = hear_call heard (session_of event) No
 hear heard event (Length n) = hear_call heard (session_of event) (Length n)
 
--- all that a history tells of the replies
+-- all that a history says about the replies
 abbrev pub heard_in : List Entry → Heard
 heard_in history = fold (λ heard entry. hear heard entry.event entry.reply) nothing_heard history
 

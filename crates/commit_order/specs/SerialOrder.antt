@@ -48,7 +48,7 @@ RefusesConflicts g0 before e = (t : Transaction) → IsCallOf before e t → IsF
 pub record IsTwoPhase (g0 : Graph) (history : List Entry) : Type 0 where
   pub locked : EachEntry (RefusesConflicts g0) history
 
--- behind a call that was not refused its transaction holds the lock that the call needed
+-- after a call that was not refused its transaction holds the lock that the call needed
 abbrev pub TakesLock : Graph → List Entry → Entry → Type 0
 TakesLock g0 before e =
     (t : Transaction) (id : Id) (mode : Mode) → IsCallOf before e t → lock_of (view g0 (account before) t).registers e.event ≡ Some (id, mode) → HoldsLock g0 (account (before ++ e ∷ [])) t.number id mode
@@ -57,7 +57,7 @@ TakesLock g0 before e =
 abbrev pub StillHold : Graph → Account → Account → Type 0
 StillHold g0 a b = (s : ℕ) (t : Transaction) (id : Id) (mode : Mode) → b.active s ≡ Some t → HoldsLock g0 a t.number id mode → HoldsLock g0 b t.number id mode
 
--- a transaction that is active behind an entry holds there all that it held before the entry
+-- a transaction that is active after an entry holds there all that it held before the entry
 abbrev pub KeepsLocks : Graph → List Entry → Entry → Type 0
 KeepsLocks g0 before e = StillHold g0 (account before) (account (before ++ e ∷ []))
 
@@ -84,7 +84,7 @@ numbers_begun history = filter_map (λ e. begun_number e.reply) history
 abbrev pub BeginsAnew : Graph → List Entry → Entry → Type 0
 BeginsAnew g0 before e = (n : ℕ) → e.reply ≡ Begun n → (Contains (numbers_begun before) n → ⊥) × IsUnused g0 n
 
--- once the disk has failed or stopped, all is refused for that
+-- once the disk has failed or stopped, everything is refused for that
 abbrev pub EndsWithFailure : List Entry → Entry → Type 0
 EndsWithFailure before e = (n : ℕ) → (account before).failed ≡ Some n → e.reply ≡ Refused (Failed n)
 

@@ -7,6 +7,6 @@
 //! `proofs/OrderLaws.antt` and, for the commit that a failing disk leaves in doubt, `proofs/CommitLaws.antt`, from the laws of one call
 //! in `proofs/CallLaws.antt` and of a run in `proofs/LockingLaws.antt`.
 //!
-//! A heap that locks so may rest on the laws of each place of its history: `proofs/PlaceLaws.antt`; and `proofs/HoldsLaws.antt`, how
+//! A heap that locks in this way can rely on the laws of each place of its history: `proofs/PlaceLaws.antt`; and `proofs/HoldsLaws.antt`, how
 //! what is held changes as a table of locks does. That locks are kept until a transaction ends is in `proofs/StrictLaws.antt`.
 #![tactic(auto)]

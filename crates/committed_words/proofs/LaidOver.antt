@@ -28,7 +28,7 @@ by_order words w ws k v Equal is rest =
 by_order words w ws k v Greater is rest =
     ap (λ l. slice_set l w.0 w.1) rest ∙ set_comm (laid_over words ws) k w.0 v w.1 (differ k w.0 (ap is_eq is))
 
--- a word more is laid over them, or in the place of the one that was laid there
+-- one more word is laid over them, or in the place of the one that was laid there
 pub laid_over-insert : (words : List ℕ) (over : List (ℕ × ℕ)) (k v : ℕ) → laid_over words (insert_entry nat_cmp over k v) ≡ slice_set (laid_over words over) k v
 laid_over-insert words [] k v = refl
 laid_over-insert words (w ∷ ws) k v = by_order words w ws k v (nat_cmp k w.0) refl (laid_over-insert words ws k v)

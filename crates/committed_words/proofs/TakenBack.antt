@@ -4,7 +4,7 @@ use Rattle.std.proofs.lemmas.List.{append_assoc, length-reverse, reverse-append,
 use Rattle.log_machine.specs.declared.UndoEntry.{UndoEntry}
 use Rattle.log_machine.specs.Machine.{taken_back, with_word}
 
--- The newest of the writes were taken back, and the rest stand behind them.
+-- The newest of the writes were taken back, and the rest are left.
 pub record IsTakenBack (undo rest : List UndoEntry) (before after : List ℕ) : Type 0 where
   pub newest : List UndoEntry
   pub order : reverse undo ≡ newest ++ reverse rest

@@ -11,7 +11,7 @@ use object_layout::Words;
 use std::alloc::{AllocError, Global};
 use std::collections::BTreeMap;
 
-/// Words by address, less than 2^32 of them, from which writes are taken back while the words themselves stay as they are. Only what is taken back is
+/// Words by address, fewer than 2^32 of them, from which writes are taken back while the words themselves stay as they are. Only what is taken back is
 /// kept beside them.
 #[derive(Drop)]
 pub struct CommittedWords<'a> {
@@ -24,7 +24,7 @@ pub struct CommittedWords<'a> {
 impl<'a> CommittedWords<'a> {
     ghost use Rattle.committed_words.specs.Committed.{words_of};
 
-    /// These words, of which nothing is taken back. It takes no memory.
+    /// These words, of which nothing is taken back. Does not allocate.
     pub fn of(alloc: Global, words: &'a [u64]) -> CommittedWords<'a>
         requires { length words.now < 2 ^ 32 }
         ensures { words_of result ≡ words.now }
@@ -35,7 +35,7 @@ impl<'a> CommittedWords<'a> {
         }
     }
 
-    /// Takes these writes back, of which the newest stands last: it goes first. Where memory is refused, some of the newest of them
+    /// Takes these writes back, newest first; the newest is the last in the list. Where an allocation fails, some of the newest of them
     /// are taken back, and nothing else.
     pub fn take_back(&mut self, undo: &[UndoEntry]) -> Result<(), AllocError>
         requires { AllByRecursion (λ (u : UndoEntry). field_at u.object u.field < length (words_of self.old)) undo.now }

@@ -16,7 +16,7 @@ use Rattle.heap_model.specs.CoreTold.{HoldsAtHand}
 use Rattle.core_laws.specs.Active.{active_in}
 use Rattle.core_laws.specs.Valid.{IsReached, IsValid}
 
--- A page can be scanned: an event that scans it has the records of its scan, and behind these a collection still runs, in which no object that
+-- A page can be scanned: an event that scans it has the records of its scan, and after these a collection still runs, in which no object that
 -- starts in the page is gray.
 pub record CanBeScanned (c : Core) (s : State) (k : Collection) (page : ℕ) : Type 0 where
   pub records : List Record

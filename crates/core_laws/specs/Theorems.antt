@@ -7,8 +7,8 @@
 --   Seal       so does a seal, which promotes what has become reachable
 --   Run        so steps reach such cores, those too that the disk cuts short; the events that end a run; the replies of committed transactions
 --
--- The answers, `AnswersTheorem`: each event but a flip, a scan and a flush is answered as the plain heap answers it, unless room is wanting.
---   Answers    refusals are the plain heap's, in their order, and then those for want of room or for a page that isn't there; which call is
+-- The answers, `AnswersTheorem`: each event but a flip, a scan and a flush is answered as the plain heap answers it, unless room is lacking.
+--   Answers    refusals are the plain heap's, in their order, and then those for lack of room or for a page that isn't there; which call is
 --              answered `busy`, and with which number
 --
 -- The crash, `CrashTheorem`: wherever a crash comes, the image is legal and stands for the graph that the first k committed transactions give
@@ -72,19 +72,19 @@ CrashTheorem =
 abbrev pub RepliesTheorem : Type 0
 RepliesTheorem = (c : Core) → IsReached c → replies_of_commits c.history ≡ serial_replies c.g0 (commits c.history)
 
--- What holds of an opening where the log held these batches, the pages were stored so in frames with so many open gates, and this graph
+-- What holds of an opening where the log held these batches, the pages were stored so in frames with these open gates, and this graph
 -- stands at these places.
 pub record Opens (s : Super) (batches : List (List Record)) (stored : Pages) (gates : ℕ → ℕ) (born : Bool) (places : Places) (g : Graph) : Type 0 where
   pub reached : IsReached (opened s batches stored gates born places g)
   pub next : (opened s batches stored gates born places g).first ≡ next_behind s.first (records_of batches)  -- the number of the next transaction
 
--- A heap that is opened on any shaped log goes on, under any names of its objects and with any gates open.
+-- A heap that is opened on any shaped log continues, under any names of its objects and with any gates open.
 abbrev pub OpeningTheorem : Type 0
 OpeningTheorem =
     (s : Super) (batches : List (List Record)) (stored : Pages) (shaped : IsShapedLog s batches stored) (gates : ℕ → ℕ) (born : Bool) (places : Places) (g : Graph)
     → IsFound s batches stored shaped born places g → Opens s batches stored gates born places g
 
--- A core d goes on where a crash left the first k commits of c since its opening, and all that was acknowledged or forced is among them.
+-- A core d continues where a crash left the first k commits of c since its opening, and all that was acknowledged or forced is among them.
 pub record GoesOnFrom (c : Core) (k : ℕ) (d : Core) : Type 0 where
   pub reached : IsReached d
   pub graph : canon d.g0 ≡ canon (serial c.g0 (take k (commits c.history)))
@@ -93,8 +93,8 @@ pub record GoesOnFrom (c : Core) (k : ℕ) (d : Core) : Type 0 where
   pub forced : commits_on_disk c ≤ c.before + k
   pub some : k ≤ length (commits c.history)
 
--- A heap that is opened on an image which stands for the first k commits of a core, as each image that a crash leaves does for some k, goes
--- on from those, whichever way the image is read. So it may crash and go on any number of times.
+-- A heap that is opened on an image which stands for the first k commits of a core, as each image that a crash leaves does for some k,
+-- continues from those, whichever way the image is read. So it may crash and continue any number of times.
 abbrev pub AgainTheorem : Type 0
 AgainTheorem =
     (c : Core) (k : ℕ) (image : List ℕ) → StandsForFirst c k image

@@ -21,15 +21,15 @@ abbrev pub is_flush : Event → Bool
 is_flush (Flush p) = true
 is_flush event = false
 
--- the events that are left where no collection begins or goes on
+-- the events that are left where no collection begins or continues
 abbrev pub without_collections : List Event → List Event
 without_collections events = filter (λ event. not (is_of_collection event)) events
 
--- the entries that tell of transactions
+-- the entries that are about transactions
 abbrev pub of_transactions : List Entry → List Entry
 of_transactions entries = filter (λ (entry : Entry). not (is_of_collection entry.event || is_flush entry.event)) entries
 
--- the disk did what it was asked
+-- the disk did not fail
 abbrev pub IsFaultless : Reply → Type 0
 IsFaultless (Refused DiskFault) = ⊥
 IsFaultless (Refused Stopped) = ⊥
@@ -43,7 +43,7 @@ IsUnhindered (Refused DiskFault) = ⊥
 IsUnhindered (Refused Stopped) = ⊥
 IsUnhindered reply = Unit {0}
 
--- the disk did not fail an event, and one of a transaction lacked no room: a flip or a scan may lack it
+-- the disk did not fail in an event, and an event of a transaction did not lack room: a flip or a scan may
 abbrev pub WentFreely : Event → Reply → Type 0
 WentFreely Flip reply = IsFaultless reply
 WentFreely Scan reply = IsFaultless reply
@@ -64,14 +64,14 @@ pub record IsLike (c b : Core) : Type 0 where
   pub g0 : c.g0 ≡ b.g0
   pub history : c.history ≡ b.history
 
--- From a core d has come, and from another one e. Both tell the same of transactions since then: each event had the same reply, the same
+-- Core d was reached from c, and e from b. Both say the same about transactions since then: each event had the same reply, the same
 -- transactions were committed in the same order, so that they have left the same graph, and as many were acknowledged.
 pub record TellTheSame (c d b e : Core) : Type 0 where
   pub replies : of_transactions (since c d) ≡ of_transactions (since b e)
   pub commits : commits d.history ≡ commits e.history
   pub acknowledged : acknowledged d.history ≡ acknowledged e.history
 
--- A collection is not seen: events with those of collections among them, at any places, tell the same of transactions as without them, on a heap
+-- A collection is not seen: events with those of collections among them, at any places, say the same about transactions as without them, on a heap
 -- large enough for garbage to stay.
 abbrev pub UnseenTheorem : Type 0
 UnseenTheorem =

@@ -67,7 +67,7 @@ pub record IsInRange (pages first : ℕ) : Type 0 where
   pub few_pages : pages ≤ 16384
   pub some_first : 1 ≤ first
 
--- The batches on the disk, with the words behind them, tell the first of these commits, and among them all that were acknowledged.
+-- The batches on the disk, with the words after them, encode the first of these commits, with all that were acknowledged among them.
 pub record IsDurable (from : State) (born : Bool) (g0 : Graph) (before first room : ℕ) (batches : List (List Record)) (words : List ℕ) (sealed : List Transaction) (acknowledged : ℕ) : Type 0 where
   pub commits : ℕ  -- how many commits since the opening are on the disk
   pub sealed_first : commits ≤ length sealed
@@ -76,24 +76,24 @@ pub record IsDurable (from : State) (born : Bool) (g0 : Graph) (before first roo
   pub places : Places
   pub remaining : Places
   pub told : IsTold from born places remaining (serial g0 (take commits sealed)) (before + commits) (records_of batches) words state
-  pub first_known : first ≤ state.next  -- an opening of it goes on with no number below the first of this one
+  pub first_known : first ≤ state.next  -- an opening of it continues with no number below the first of this one
   pub has_room : length (batches_bytes batches) + 1 + reserve state ≤ room  -- and has room to take back what else it holds
 
--- the disk of a core tells so of what its history says
+-- a core's disk agrees in this way with what its history says
 abbrev pub DiskAgrees : Account → Core → Type 0
 DiskAgrees a c = IsDurable (log_start c) c.born c.g0 c.before c.first c.room c.batches c.words a.sealed a.acknowledged
 
 -- A core agrees with what its history says.
 pub record Agrees (a : Account) (c : Core) : Type 0 where
-  pub unfailed : a.failed ≡ None  -- the disk has done what it was asked
-  pub certain : a.in_doubt ≡ None  -- a seal asks nothing of the disk
+  pub unfailed : a.failed ≡ None  -- the disk has not failed
+  pub certain : a.in_doubt ≡ None  -- a seal makes no device call
   pub in_sessions : AreInSessions a
   pub in_range : IsInRange c.pages c.first
   pub next_fits : c.first + a.begun ≤ no_number
   pub numbered : (s : ℕ) → IsNumbered (c.first + a.begun) (a.active s)
   pub disk : DiskAgrees a c
   pub behind : State
-  pub told : IsTold (log_start c) c.born c.places c.remaining (serial c.g0 a.sealed) (c.before + length a.sealed) (all_records c) (all_words c) behind  -- all records tell all that was sealed
+  pub told : IsTold (log_start c) c.born c.places c.remaining (serial c.g0 a.sealed) (c.before + length a.sealed) (all_records c) (all_words c) behind  -- all records encode all that was sealed
   pub next_known : behind.next ≤ c.first + a.begun  -- no transaction to come has written yet
   pub losers : maps.EachKeyed (λ q us. IsActive a q) behind.undo  -- only active transactions have writes that may be taken back
   pub writers : (s : ℕ) → IsWriter c.places c.remaining c.g0 a (a.active s) (all_words c) behind  -- and each sees what it wrote

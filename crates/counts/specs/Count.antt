@@ -6,7 +6,7 @@ use Rattle.std.proofs.Common.{zero, suc}
 abbrev pub greatest : ℕ
 greatest = 18446744073709551615
 
--- one more; the greatest count stands still
+-- one more; the greatest count saturates
 abbrev pub raised : ℕ → ℕ
 raised n = if nat_lt n greatest then n + 1 else n
 
@@ -15,6 +15,6 @@ abbrev pub counted : ℕ → ℕ → ℕ
 counted zero n = n
 counted (suc k) n = raised (counted k n)
 
--- A count rose between two states. The greatest counts as risen, since it can't tell.
+-- A count rose between two states. The greatest counts as risen, since it can't show a rise.
 abbrev pub Rose : ℕ → ℕ → Type 0
 Rose before now = (before < now) ⊎ (greatest ≤ before)

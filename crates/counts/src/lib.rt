@@ -1,4 +1,4 @@
-//! A count of what happened, for which no number of events is too many: at the end of its type it stands still.
+//! A saturating count of events: it stays at the largest number of its type.
 #![tactic(auto)]
 
 ghost use Rattle.std.specs.Prelude.{◌≡◌, ℕ};
@@ -21,21 +21,21 @@ impl Model for Count {
 }
 
 impl Count {
-    /// Nothing has happened yet.
+    /// A count of 0.
     pub fn new() -> Self
         ensures { result ≡ 0 }
     {
         Count { times: 0 }
     }
 
-    /// How often it happened; `u64::MAX` also stands for more.
+    /// The count; `u64::MAX` also stands for more.
     pub fn get(&self) -> u64
         ensures { result ≡ self.now }
     {
         self.times
     }
 
-    /// It happened once more.
+    /// Counts one more.
     pub fn raise(&mut self)
         ensures raised { self.new ≡ raised self.old }
         ensures rose { Rose self.old self.new }

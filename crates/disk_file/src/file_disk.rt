@@ -1,4 +1,4 @@
-//! A file as a disk. It tells nothing of its content: what the system and the device do with it, nobody can prove.
+//! A file as a disk. It is not modelled: nothing can be proved of what the system and the device do with its content.
 ghost use Rattle.std.specs.Prelude.{◌≡◌, ℕ, [], false, OnErr, OnOk};
 ghost use Rattle.counts.specs.Count.{raised};
 ghost use Rattle.std.proofs.lemmas.Bool.{false≢true};
@@ -10,13 +10,13 @@ use std::fs::{File, Files};
 use std::io;
 use std::marker::Model;
 
-/// The bytes of the disk that a file is, whatever the file has: what lies behind its end reads as zeros.
+/// The size of the disk, whatever the file's length: what lies past the file's end reads as zeros.
 pub const SIZE: u64 = 4_294_967_296;
 
-/// The file of a path as a disk of 4,294,967,296 bytes.
+/// The file at a path, as a disk of 4,294,967,296 bytes.
 ///
 /// It is opened or made at the first read, write or sync. From then on no other `FileDisk`, of this process or another, can open
-/// it, until this one is dropped. Where it can't be opened, or is no regular file, or is held by another, that call answers
+/// it, until this one is dropped. If it can't be opened, or is no regular file, or is held by another, that call answers
 /// `Failed`, and the next call tries again. A restart does nothing.
 #[derive(Drop)]
 pub struct FileDisk<R: Files<File = File> + Drop> {
@@ -24,7 +24,7 @@ pub struct FileDisk<R: Files<File = File> + Drop> {
     faults: Count,
 }
 
-/// It is seen as the number of its calls that failed, since nothing else of it is known.
+/// Its view is the number of its calls that failed, since nothing else of it is known.
 impl<R: Files<File = File> + Drop> Model for FileDisk<R> {
     ghost Value = { ℕ };
 
@@ -32,7 +32,7 @@ impl<R: Files<File = File> + Drop> Model for FileDisk<R> {
 }
 
 impl<R: Files<File = File> + Drop> FileDisk<R> {
-    /// The file of that path as a disk. Nothing is opened yet.
+    /// The file at that path as a disk. Nothing is opened yet.
     pub fn new(rt: R, path: String) -> Self
         ensures { result ≡ 0 }
     {
@@ -42,7 +42,7 @@ impl<R: Files<File = File> + Drop> FileDisk<R> {
         }
     }
 
-    /// Whether another `FileDisk` holds the file. Where none does, and it can be opened, it is held by this one from then on. No fault is
+    /// Whether another `FileDisk` holds the file. If none does, and it can be opened, this one holds it from then on. No fault is
     /// counted: a file that can't be opened for another reason is not in use, and the first call on it fails.
     pub fn is_in_use(&mut self) -> bool
         ensures { self.new ≡ self.old }
@@ -50,7 +50,7 @@ impl<R: Files<File = File> + Drop> FileDisk<R> {
         self.file.is_in_use()
     }
 
-    /// What a call of the file is as a disk's answer.
+    /// The result of a call on the file as a disk's answer.
     fn answer(&mut self, done: io::Result<()>) -> Result<(), DiskError>
         ensures ok { OnOk result (self.new ≡ self.old) }
         ensures failed { OnErr result ((result ≡ Err DiskError.Failed) × (self.new ≡ raised self.old)) }

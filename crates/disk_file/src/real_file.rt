@@ -1,4 +1,4 @@
-//! The file of a path: opened or made when it is first used, and from then on held for this process alone.
+//! The file at a path: opened or created when it is first used, and from then on held for this process alone.
 ghost use Rattle.std.specs.Prelude.{◌+◌, ◌^◌, ◌<◌, length};
 
 use std::fs::{self, File, Files, OpenOptions};
@@ -16,12 +16,12 @@ pub struct RealFile<R: Files<File = File> + Drop> {
     rt: R,
     path: String,
     open: Option<File>,
-    // A sync has failed. The system may have dropped what it could not write, and would answer the next one all the same.
+    // A sync has failed. The system may have dropped what it could not write, and would report success for the next one.
     lost: bool,
 }
 
 impl<R: Files<File = File> + Drop> RealFile<R> {
-    /// The file of that path, which nothing has opened yet.
+    /// The file at that path, not opened yet.
     pub fn new(rt: R, path: String) -> Self {
         RealFile {
             rt,
@@ -31,7 +31,7 @@ impl<R: Files<File = File> + Drop> RealFile<R> {
         }
     }
 
-    /// Reads the bytes from `at` on. What lies behind the file's end reads as zeros.
+    /// Reads the bytes from `at` on. What lies past the file's end reads as zeros.
     pub fn read(&mut self, at: u64, into: &mut [u8]) -> io::Result<()>
         requires { at + length into.old < 2 ^ 64 }
     {
@@ -43,7 +43,7 @@ impl<R: Files<File = File> + Drop> RealFile<R> {
         self.file()?.write_all_at(piece, at)
     }
 
-    /// Waits until all that was written is on the disk. After one that failed each fails.
+    /// Waits until everything written is on the disk. After one that failed, each fails.
     pub fn sync(&mut self) -> io::Result<()> {
         if self.lost {
             return Err(io::ErrorKind::Other.into());
@@ -53,7 +53,7 @@ impl<R: Files<File = File> + Drop> RealFile<R> {
         synced
     }
 
-    /// Whether another holds the file, so that it can't be opened. Where none does, it is opened or made, and held from then on.
+    /// Whether another holds the file, so that it can't be opened. If none does, it is opened or created, and held from then on.
     pub fn is_in_use(&mut self) -> bool {
         match self.file() {
             Ok(_) => false,
@@ -69,9 +69,9 @@ impl<R: Files<File = File> + Drop> RealFile<R> {
     }
 }
 
-/// Opens or makes the file. Before that is answered, what it has and its name are on the disk.
+/// Opens or creates the file. When this returns, its content and its name are on the disk.
 fn open_held<R: Files<File = File>>(rt: &R, path: &str) -> io::Result<File> {
-    // What is no regular file is not even opened, since that may do something.
+    // What is no regular file is not even opened, since opening it may have effects.
     if fs::metadata(rt, path).is_ok_and(|found| !found.is_file()) {
         return Err(io::ErrorKind::Unsupported.into());
     }
@@ -80,7 +80,7 @@ fn open_held<R: Files<File = File>>(rt: &R, path: &str) -> io::Result<File> {
         .write(true)
         .create(true)
         .open(rt, path)?;
-    // What is meant for a standard stream that was closed must not land in the file.
+    // Output for a standard stream that was closed must not land in the file.
     if file.as_raw_fd() <= STANDARD_ERROR {
         file = file.try_clone()?;
     }
@@ -93,7 +93,7 @@ fn open_held<R: Files<File = File>>(rt: &R, path: &str) -> io::Result<File> {
     Ok(file)
 }
 
-/// Brings the file's name to the disk.
+/// Syncs the folder, so that the file's name is on the disk.
 fn sync_folder<R: Files<File = File>>(rt: &R, path: &str) -> io::Result<()> {
     let folder = match Path::new(path).parent() {
         Some(folder) if !folder.as_str().is_empty() => folder.as_str(),

@@ -42,7 +42,7 @@ module _ (ranges : List (ℕ × ℕ)) (inside outside : List ℕ) where
 pub blended-nil : (inside outside : List ℕ) → blended [] inside outside ≡ outside
 blended-nil inside outside = same_images _ _ (length-blended [] inside outside) (λ k. get_or-blended_outside [] inside outside k refl)
 
--- one range more
+-- one more range
 pub blended-push : (ranges : List (ℕ × ℕ)) (inside outside : List ℕ) (at n : ℕ) → length inside ≡ length outside → at + n ≤ length outside → blended (ranges ++ (at, n) ∷ []) inside outside ≡ overwrite (blended ranges inside outside) at (part inside at n)
 blended-push ranges inside outside at n size le =
     let old = length-blended ranges inside outside in

@@ -56,7 +56,7 @@ widens_by_write pick old at bytes le image leaves =
     } in
     (overwrite image at kept, could, subst (λ i. Torn at i (overwrite image at kept) image) n (torn_overwrite image kept at fits))
 
--- what a write promises of the bytes
+-- what a write promises about the bytes
 pub record WriteIsKept (old new : Memory) (at : ℕ) (bytes : List ℕ) (result : Result (Unit {0}) DiskError) : Type 0 where
   pub written : OnOk result ((now_of new).newest ≡ overwrite (now_of old).newest at bytes)
   pub crash : WidensBy (Torn at (length bytes)) (MayLeave (now_of old)) (MayLeave (now_of new))
@@ -101,7 +101,7 @@ module _ (disk : Memory) (change : Change) (image : List ℕ) (leaves : after di
   elapses_settled : Elapses (changes_of disk) (changes_of (settled disk change)) (MightHaveLeft disk) (MightHaveLeft (settled disk change)) (MayLeave (now_of (settled disk change)))
   elapses_settled = settled_has (λ new. Elapses (changes_of disk) (changes_of new) (MightHaveLeft disk) (MightHaveLeft new) (MayLeave (now_of new))) (λ none. elapses_still disk) (elapses_change disk change)
 
--- what a sync promises of the bytes
+-- what a sync promises about the bytes
 pub record SyncIsKept (old new : Memory) (result : Result (Unit {0}) DiskError) : Type 0 where
   pub durable : OnOk result (Only (now_of old).newest (MayLeave (now_of new)))
   pub bytes : (now_of new).newest ≡ (now_of old).newest
@@ -125,7 +125,7 @@ pub kept_by_sync : (fails : Bool) (disk new : Memory) (result : Result (Unit {0}
 kept_by_sync fails disk new result exact is =
     subst (λ (r : Result (Unit {0}) DiskError). SyncIsKept disk new r) (sym is) (subst (λ (e : Memory). SyncIsKept disk e (answer fails)) (sym exact) (sync_is_kept fails disk))
 
--- what a restart promises of the bytes
+-- what a restart promises about the bytes
 pub record RestartIsKept (old new : Memory) : Type 0 where
   pub left : MayLeave (now_of old) (now_of new).newest
   pub durable : Only (now_of new).newest (MayLeave (now_of new))

@@ -24,11 +24,11 @@ rose_until a b c bc (inr full) = inr full
 pub ok_no_error : {T : Type 0} (result : Result T DiskError) (x : T) (e : DiskError) → result ≡ Ok x → result ≢ Err e
 ok_no_error result x e is told = cc (is, told)
 
--- no call was made, and no error of the disk is told
+-- no call was made, and no error of the disk is reported
 pub cause_none : {T : Type 0} (faults stops : ℕ) (x : T) → HasCause {T = T} faults faults stops stops (Ok x)
 cause_none faults stops x = record { faults_kept = omega arith; stops_kept = omega arith; failed = λ is. absurd (cc is); stopped = λ is. absurd (cc is); faults_still = λ not. refl; stops_still = λ not. refl }
 
--- the causes of two calls, the first of which told no error
+-- the causes of two calls, the first of which reported no error
 pub cause_last : {S T : Type 0} (faults mid faults' stops mids stops' : ℕ) (first : Result S DiskError) (y : S) (result : Result T DiskError) → first ≡ Ok y → HasCause faults mid stops mids first → HasCause mid faults' mids stops' result → HasCause faults faults' stops stops' result
 cause_last faults mid faults' stops mids stops' first y result done before cause = record {
   faults_kept = omega (arith, before.faults_kept, cause.faults_kept);
@@ -40,7 +40,7 @@ cause_last faults mid faults' stops mids stops' first y result done before cause
 }
 
 module _ {D : Type 0} (g : Ghosts D) where
-  -- no call was made, and no error of the disk is told
+  -- no call was made, and no error of the disk is reported
   pub keeps_none : {T : Type 0} (disk : D) (x : T) → KeepsDisk {T = T} g disk disk (Ok x)
   keeps_none disk x = record {
     extent = refl;
@@ -49,7 +49,7 @@ module _ {D : Type 0} (g : Ghosts D) where
     restarts = λ told. refl;
   }
 
-  -- one call more, whose answer is told, and which followed no error
+  -- one more call, whose answer is returned, and which followed no error
   pub keeps_on : {S T : Type 0} (old mid new : D) (first : Result S DiskError) (y : S) (result : Result T DiskError) → first ≡ Ok y → KeepsDisk g old mid first → KeepsDisk g mid new result → KeepsDisk g old new result
   keeps_on old mid new first y result done before kept = record {
     extent = kept.extent ∙ before.extent;
@@ -71,11 +71,11 @@ module _ {D : Type 0} (g : Ghosts D) where
     passed = second.passed ∙ first.passed;
   }
 
-  -- nothing was read, and no error of the disk is told
+  -- nothing was read, and no error of the disk is reported
   pub reads_none : {T : Type 0} (disk : D) (x : T) → (IsTrue g.tells → (c : List ℕ) → g.left_since disk (g.moment disk) c → g.may_leave disk c) → OnlyReads {T = T} g disk disk (Ok x)
   reads_none disk x only_now = record { disk = keeps_none disk x; contents = λ told. same_none disk (only_now told); no_first_stop = λ none. none }
 
-  -- one more that only reads, whose answer is told, and which followed no error
+  -- one more that only reads, whose answer is returned, and which followed no error
   pub reads_on : {S T : Type 0} (old mid new : D) (first : Result S DiskError) (y : S) (result : Result T DiskError) → first ≡ Ok y → OnlyReads g old mid first → OnlyReads g mid new result → OnlyReads g old new result
   reads_on old mid new first y result done before reads = record {
     disk = keeps_on old mid new first y result done before.disk reads.disk;

@@ -37,7 +37,7 @@ part-append pool more from n le =
 part_end : (pool more : List ℕ) → part (pool ++ more) (length pool) (length more) ≡ more
 part_end pool more = ap (take (length more)) (drop_at pool more (length pool) refl) ∙ take_all (length more) more (omega arith)
 
--- what the record tells of earlier calls stays when the pool grows
+-- what the record says of earlier calls stays when the pool grows
 changes-append : (pool more : List ℕ) (calls : List Call) → All (IsInPool (length pool)) calls → map (change_of (pool ++ more)) calls ≡ map (change_of pool) calls
 changes-append pool more [] kept = refl
 changes-append pool more (Wrote at from n ∷ calls) kept =

@@ -12,7 +12,7 @@ module _ (disk : Memory) (change : Change) where
   at_end : (k : ℕ) → k ≤ changes_of (changed disk change) → changes_of disk < k → at_moment (changed disk change) k ≡ now_of (changed disk change)
   at_end k le later = ap (contents_of disk.pick disk.first) (take_all k (disk.changes ++ change ∷ []) (omega (arith, length_push disk.changes change)))
 
-  -- one change more
+  -- one more change
   pub elapses_change : Elapses (changes_of disk) (changes_of (changed disk change)) (MightHaveLeft disk) (MightHaveLeft (changed disk change)) (MayLeave (now_of (changed disk change)))
   elapses_change =
       let more = length_push disk.changes change in

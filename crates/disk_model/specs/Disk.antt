@@ -36,14 +36,14 @@ Narrows old new = (c : List ℕ) → new c → old c
 abbrev pub Only : List ℕ → (List ℕ → Type 0) → Type 0
 Only image may_leave = (c : List ℕ) → may_leave c → c ≡ image
 
--- Time goes on over a call: what a crash since t might have left is what it might have left before, or what it may
+-- Time passes over a call: what a crash since t might have left is what it might have left before, or what it may
 -- leave now, and nothing of what it might have left is forgotten.
 pub record Elapses (before now : ℕ) (past since : ℕ → List ℕ → Type 0) (may_leave : List ℕ → Type 0) : Type 0 where
   pub later : before ≤ now
   pub nothing_else : (t : ℕ) (c : List ℕ) → t ≤ before → since t c → past t c ⊎ may_leave c
   pub keeps : (t : ℕ) (c : List ℕ) → t ≤ before → past t c → since t c
 
--- Neither count fell over a call, and each rose where the call told that count's error, and nowhere else.
+-- Neither count fell over a call, and each rose where the call returned that count's error, and nowhere else.
 pub record HasCause {T : Type 0} (faults faults' stops stops' : ℕ) (result : Result T DiskError) : Type 0 where
   pub faults_kept : faults ≤ faults'
   pub stops_kept : stops ≤ stops'

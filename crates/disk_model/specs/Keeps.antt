@@ -1,4 +1,4 @@
--- What every call keeps of a disk, and what a call that only reads keeps besides.
+-- What every call keeps of a disk, and what else a call that only reads keeps.
 use Rattle.std.specs.Prelude.{◌≡◌, IsTrue, Result}
 use Rattle.disk_model.specs.Disk.{Narrows, HasCause}
 use Rattle.disk_model.specs.Moments.{LeavesOnly}
@@ -6,7 +6,7 @@ use Rattle.disk_model.specs.declared.disk.Disk.{Ghosts}
 use Rattle.disk_model.specs.declared.disk.DiskError.{DiskError}
 
 -- Every call, and every run of them that ends at its first error, keeps the disk's size and what it was made of, and a count rose exactly where
--- that count's error is told. A disk that tells was not restarted.
+-- that count's error is returned. A modelled disk was not restarted.
 pub record KeepsDisk {D T : Type 0} (g : Ghosts D) (old new : D) (result : Result T DiskError) : Type 0 where
   pub extent : g.extent new ≡ g.extent old
   pub origin : g.origin new ≡ g.origin old

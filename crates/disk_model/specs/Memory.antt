@@ -89,7 +89,7 @@ made bytes pick room fail_writes fail_reads = record { first = bytes; changes = 
 unfoldable pub contents_of : Pick → List ℕ → List Change → Contents
 contents_of pick first changes = after_all pick (settled_as first) changes
 
--- what it held after its first so many changes
+-- what it held after its first k changes
 abbrev pub at_moment : Memory → ℕ → Contents
 at_moment disk k = contents_of disk.pick disk.first (take k disk.changes)
 
@@ -109,7 +109,7 @@ MightHaveLeft disk moment image = (k : ℕ) × (moment ≤ k) × (k ≤ changes_
 abbrev pub is_listed : List ℕ → ℕ → Bool
 is_listed numbers n = list_any (λ x. x == n) numbers
 
--- what a write of so many bytes takes of the record's room: its own entry, and that of the sync or restart after it
+-- what a write of that many bytes takes of the record's room: its own entry, and that of the sync or restart after it
 abbrev pub cost : ℕ → ℕ
 cost n = 64 + n
 

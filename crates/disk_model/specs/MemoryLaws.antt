@@ -1,4 +1,4 @@
--- What the laws of a disk ask of the disk in memory.
+-- What the laws of a disk require of the disk in memory.
 use Rattle.std.specs.Prelude.{◌≡◌, ℕ, ◌≤◌, List, refl}
 use Rattle.std.proofs.Common.{sym, ap, subst, arith}
 use Rattle.std.proofs.lemmas.List.{take_all}

@@ -21,7 +21,7 @@ IsInPool size (Wrote at from len) = from + len ≤ size
 IsInPool size Synced = Unit {0}
 IsInPool size Restarted = Unit {0}
 
--- the disk that the record tells of
+-- the disk that the record describes
 abbrev pub view_of : Inside → Memory
 view_of a = record { first = a.first.value.items; changes = map (change_of a.pool.items) a.calls.items; pick = a.pick; room = a.room; fail_writes = a.fail_writes.items; fail_reads = a.fail_reads.items; passed = a.passed; reads = a.reads; faults = a.faults; restarts = a.restarts }
 
@@ -29,7 +29,7 @@ view_of a = record { first = a.first.value.items; changes = map (change_of a.poo
 abbrev pub pending_of : Inside → List (ℕ × ℕ)
 pending_of a = map range_of (drop a.pending_from a.calls.items)
 
--- The fields agree with what the record tells, and the room that was taken suffices for what is free.
+-- The fields agree with the record, and the room that was taken suffices for what is free.
 pub record IsFaithful (a : Inside) : Type 0 where
   pub newest : a.newest.items ≡ (now_of (view_of a)).newest
   pub synced : a.synced.items ≡ (now_of (view_of a)).synced

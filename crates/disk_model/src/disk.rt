@@ -3,7 +3,7 @@ ghost use Rattle.std.specs.Prelude.{◌≡◌, ℕ, ◌+◌, ◌≤◌, Bool, Li
 ghost use Rattle.counts.specs.Count.{raised};
 ghost use Rattle.disk_model.specs.Disk.{overwrite, part, Torn, WidensBy, Narrows, Only, Elapses, HasCause, passed_after};
 
-/// Why a device call was not done. What it leaves on the disk is in the contract of the call.
+/// Why a device call was not done. The call's contract says what it leaves on the disk.
 #[derive(Clone, Copy, Debug, PartialEq, Eq)]
 pub enum DiskError {
     /// The disk failed in this call.
@@ -14,10 +14,10 @@ pub enum DiskError {
 
 /// A disk of a fixed number of bytes, which may fail or stop at any call.
 ///
-/// Each disk tells its size, what it was made of and two counts. Of one that `tells`, clauses also speak of its bytes, and of the images that
-/// a crash may leave: until a sync any bytes where something was written, and the bytes as they were everywhere else.
+/// Each disk has a size, an origin and two counts. Of one that is modelled (`tells`), clauses also describe its bytes, and the images that
+/// a crash may leave: until a sync, any bytes in the ranges that were written, and the same bytes as before everywhere else.
 pub trait Disk {
-    /// Whether the disk tells its bytes and keeps the disk model.
+    /// Whether the disk is modelled: clauses describe its bytes, and it keeps the disk model.
     ghost tells: { Bool };
 
     /// How many bytes it has.
@@ -29,10 +29,10 @@ pub trait Disk {
     /// The images that a crash at this moment may leave.
     ghost may_leave: { Self → List ℕ → Type 0 };
 
-    /// The moment, as a number that doesn't fall.
+    /// The moment, as a number that never falls.
     ghost moment: { Self → ℕ };
 
-    /// The images that a crash at some moment from that one on might have left, during a call or between two.
+    /// The images that a crash at some moment since that one might have left, during a call or between two.
     ghost left_since: { Self → ℕ → List ℕ → Type 0 };
 
     /// How often a call failed.
@@ -41,16 +41,16 @@ pub trait Disk {
     /// How often a call found the disk stopped.
     ghost stops: { Self → ℕ };
 
-    /// How many writes and syncs were asked and not answered `Stopped`.
+    /// How many writes and syncs were called and not answered `Stopped`.
     ghost passed: { Self → ℕ };
 
     /// How often the disk was restarted.
     ghost restarts: { Self → ℕ };
 
-    /// What it was made of, as a disk of its kind tells it.
+    /// The type of what the disk was made of.
     ghost Origin: { Type 0 };
 
-    /// That, which never changes: by it code that knows nothing but this trait says that a disk is still the same one.
+    /// What the disk was made of, which never changes: by it code that is generic over disks can say that this is still the same disk.
     ghost origin: { Self → Origin };
 
     /// The number of bytes, which never changes.
@@ -88,7 +88,7 @@ pub trait Disk {
         ensures origin { origin self.new ≡ origin self.old }
         ensures cause { HasCause (faults self.old) (faults self.new) (stops self.old) (stops self.new) result };
 
-    /// Waits until all that was written is on the disk: after it a crash leaves what a read gives.
+    /// Waits until everything written is on the disk: after it a crash leaves what a read gives.
     fn sync(&mut self) -> Result<(), DiskError>
         ensures durable { IsTrue tells → OnOk result (Only (bytes self.old) (may_leave self.new)) }
         ensures bytes { IsTrue tells → bytes self.new ≡ bytes self.old }
@@ -101,7 +101,7 @@ pub trait Disk {
         ensures origin { origin self.new ≡ origin self.old }
         ensures cause { HasCause (faults self.old) (faults self.new) (stops self.old) (stops self.new) result };
 
-    /// Starts the disk again after a crash. It then reads as one of the images that the crash could leave.
+    /// Restarts the disk after a crash. It then reads as one of the images that the crash could leave.
     fn restart(&mut self)
         ensures left { IsTrue tells → may_leave self.old (bytes self.new) }
         ensures durable { IsTrue tells → Only (bytes self.new) (may_leave self.new) }
@@ -114,10 +114,10 @@ pub trait Disk {
         ensures faults { faults self.new ≡ faults self.old }
         ensures stops { stops self.new ≡ stops self.old };
 
-    /// This moment is one of those since an earlier one.
+    /// An image that may be left at this moment may be left since any earlier one.
     ghost counts_now: { IsTrue tells → (disk : Self) (t : ℕ) (c : List ℕ) → t ≤ moment disk → may_leave disk c → left_since disk t c };
 
-    /// Since this moment there is no other.
+    /// An image that may be left since this moment may be left now.
     ghost only_now: { IsTrue tells → (disk : Self) (c : List ℕ) → left_since disk (moment disk) c → may_leave disk c };
 
     /// What a read gives is one of the images.

@@ -7,10 +7,10 @@ use crate::{Disk, DiskError};
 use counts::Count;
 use std::snapshot::Snapshot;
 
-/// A disk that lets a number of writes and syncs through, and then stops at the next.
+/// A disk that lets a number of writes and syncs through to the disk inside, and then stops at the next.
 ///
 /// That stop blows the fuse: every read, write and sync from then on answers `Stopped` and does nothing. Until then each
-/// read goes through too. Where the disk inside answers `Stopped`, the fuse answers `Failed`.
+/// read goes through too. Whatever error the disk inside returns, the fuse answers `Failed`.
 #[derive(Drop)]
 pub struct FuseDisk<D: Disk> {
     inner: D,
@@ -22,9 +22,9 @@ pub struct FuseDisk<D: Disk> {
     pub ghost blown: { stops ≢ 0 → passed ≡ limit },
     pub ghost faults_kept: { D.faults began.value ≤ D.faults inner },
     pub ghost stops_kept: { D.stops began.value ≤ D.stops inner },
-    // Unless its disk itself stops, both count the same calls.
+    // Unless the disk inside stops, both count the same calls.
     pub ghost tied: { IsTrue D.tells → ¬ Rose (D.stops began.value) (D.stops inner) → D.passed inner ≡ counted passed (D.passed began.value) },
-    // And else its disk has counted no more of them.
+    // Otherwise the disk inside has counted no more of them.
     pub ghost passed_kept: { IsTrue D.tells → D.passed began.value ≤ D.passed inner },
     pub ghost few: { IsTrue D.tells → D.passed inner ≤ counted passed (D.passed began.value) },
 }
@@ -79,7 +79,7 @@ impl<D: Disk> FuseDisk<D> {
     }
 }
 
-/// A disk's answer as the fuse gives it, whose own stops alone are stops.
+/// The answer of the disk inside as the fuse returns it: only the fuse's own stops are stops.
 fn not_stopped(answer: Result<(), DiskError>) -> Result<(), DiskError>
     ensures { result ≡ as_failure answer }
 {

@@ -1,4 +1,4 @@
-//! The disk that may stop at any call: the model, a disk in memory that keeps it, and a fuse before any disk.
+//! The disk that may stop at any call: the model, a disk in memory that keeps it, and a fuse around any disk.
 #![tactic(auto)]
 
 mod disk;

@@ -13,7 +13,7 @@ use std::alloc::{AllocError, Global};
 use std::marker::Model;
 use std::snapshot::Snapshot;
 
-/// What a restart leaves wherever something was written since the last sync.
+/// What a restart leaves in the ranges that were written since the last sync.
 #[derive(Clone, Copy, Debug, PartialEq, Eq)]
 pub enum Pick {
     /// The bytes of the last sync.
@@ -26,7 +26,7 @@ pub enum Pick {
     AllOpen,
 }
 
-/// A number that is no pick's.
+/// A number that belongs to no pick.
 #[derive(Clone, Copy, Debug, PartialEq, Eq)]
 pub struct UnknownPick(pub u8);
 
@@ -59,13 +59,13 @@ enum Call {
     Restarted,
 }
 
-/// A disk in memory, which keeps a record of its changes: so it is known what a crash at each moment might have left.
+/// A disk in memory that keeps a record of its changes, so that it is known what a crash at each moment might have left.
 ///
-/// A write takes the time of its bytes, and a sync or a restart that of what was written since the last one. It never
+/// A write takes time linear in its bytes, and a sync or a restart in what was written since the last one. It never
 /// answers `Stopped`, and no call allocates once it is made.
 #[derive(Drop)]
 pub struct MemoryDisk {
-    // The bytes that it was made of are for clauses alone, and take no memory.
+    // The bytes that it was made of are for clauses alone, and use no memory.
     first: Snapshot<Vec<u8>>,
     synced: Vec<u8>,
     newest: Vec<u8>,
@@ -169,7 +169,7 @@ fn leave_picked(pick: Pick, newest: &mut [u8], synced: &[u8], calls: &[Call])
     }
 }
 
-/// Makes both images what a crash leaves, in the time of what the calls wrote.
+/// Makes both images what a crash leaves, in time linear in what the calls wrote.
 fn settle_picked(pick: Pick, newest: &mut [u8], synced: &mut [u8], calls: &[Call])
     requires size { length synced.old ≡ length newest.old }
     requires fit { All (Fits (length newest.old)) (map range_of calls.now) }
@@ -191,7 +191,7 @@ fn append(pool: &mut Vec<u8>, piece: &[u8])
 }
 
 impl MemoryDisk {
-    /// A disk of these bytes, with nothing pending. It takes all its memory here, and fails only if there is too little:
+    /// A disk of these bytes, with nothing pending. It allocates all its memory here, and fails only if there is too little:
     /// a second image, and for the record of its changes at most twice `room` bytes.
     ///
     /// Each write takes 64 bytes of that room and as many as it writes; a sync or a restart takes none.

@@ -1,4 +1,4 @@
-//! Times the events of sessions in threads that share one heap in a file, alone and beside a flusher, in one run.
+//! Times the events of sessions in threads that share one heap in a file, alone and with a flusher, in one run.
 #![tactic(auto)]
 
 ghost use Rattle.std.specs.Prelude.{◌≡◌, ◌<◌, ◌≤◌, All, length};
@@ -29,7 +29,7 @@ const ROOT: u64 = 0;
 
 const OBJECT: u64 = 1;
 
-// How many reads or writes a transaction makes, besides its begin, its seal and the two calls that lead it to its object.
+// How many reads or writes a transaction makes, besides its begin, its seal and the two calls that reach its object.
 const CALLS: u64 = 96;
 
 // The log's size, and so how many writes have room.
@@ -38,10 +38,10 @@ const LOG_BYTES: u32 = 16_777_216;
 // How many milliseconds the flusher waits between two forces.
 const PAUSE: u64 = 5;
 
-// How often each is timed, in turn.
+// How often each is timed, alternately.
 const ROUNDS: u32 = 3;
 
-// What is timed: so many sessions, each of which makes so many transactions of reads or of writes.
+// What is timed: a number of sessions, each of which makes a number of transactions of reads or of writes.
 #[derive(Clone, Copy)]
 struct Job {
     sessions: usize,
@@ -58,7 +58,7 @@ struct Counts {
     sealed: AtomicU64,
 }
 
-// Makes an event. `None` where it was refused, or memory was.
+// Makes an event. `None` if it was refused, or memory ran out.
 fn ask<D: Disk, R: Wait>(
     rt: &R,
     shared: &SharedHeap<D>,
@@ -162,7 +162,7 @@ fn work<D: Disk, R: Wait + Clock>(
     }
 }
 
-// Each pass gets a thread, where one can be made.
+// Each pass gets a thread, if one can be started.
 fn work_each<D: Disk + Send, R: Threads + Wait + Clock + Sync>(
     rt: &R,
     shared: &SharedHeap<D>,
@@ -252,7 +252,7 @@ fn make_heap<'a>(
     Ok(heap)
 }
 
-// How long the sessions take in one round, on a new heap, alone or beside the flusher. Threads are started by `rt`, and the file is
+// How long the sessions take in one round, on a new heap, alone or with the flusher. Threads are started by `rt`, and the file is
 // `host`'s.
 fn one_round<R: Threads + Wait + Clock + Sync>(
     rt: &R,
@@ -270,7 +270,7 @@ fn one_round<R: Threads + Wait + Clock + Sync>(
     }
 }
 
-// The time of all rounds, alone and beside the flusher.
+// The time of all rounds, alone and with the flusher.
 fn measure<R: Threads + Wait + Clock + Sync>(
     rt: &R,
     host: &HostRuntime,

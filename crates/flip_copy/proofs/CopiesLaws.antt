@@ -1,4 +1,4 @@
--- Copies of objects that stood one behind another: how many there can be, where they go, and one copy more.
+-- Copies of objects that stood in order: how many there can be, where they go, and one more copy.
 use Rattle.std.proofs.Common.{◌≡◌, ℕ, zero, suc, ◌+◌, ◌*◌, ◌<◌, ◌≤◌, inl, inr, List, [], ◌∷◌, length, map, subst, arith}
 use Rattle.std.specs.Prelude.{All, sum_by, slice_index}
 use Rattle.std.specs.List.{AllByRecursion}
@@ -14,11 +14,11 @@ use Rattle.relocation.specs.Relocation.{IsRelocation}
 use Rattle.flip_copy.specs.Copied.{moved_object, moved_objects, copied_size}
 use Rattle.flip_copy.specs.Plan.{HasObjectSize, StoodInOrder, StandEndToEnd, AreCopies, AreCopiesOf}
 
--- the words of a copy and those of the copies behind it
+-- the words of a copy and those of the copies that follow it
 pub size_more : (copy : ObjectCopy) (copies : List ObjectCopy) → copied_size (copy ∷ copies) ≡ length copy.words + copied_size copies
 size_more copy copies = sum_by-cons (λ (c : ObjectCopy). length c.words) copy copies
 
--- a collection counts as many words
+-- a collection counts the same number of words
 pub moved_size : (copies : List ObjectCopy) → sum_by (λ (c : CopiedObject). c.words) (moved_objects copies) ≡ copied_size copies
 moved_size [] = omega arith
 moved_size (copy ∷ copies) =
@@ -27,7 +27,7 @@ moved_size (copy ∷ copies) =
     let rest = moved_size copies in
     omega arith
 
--- objects one behind another have no more words than those between which they stood
+-- objects in order have no more words than those between which they stood
 pub ordered_size : (from end : ℕ) (copies : List ObjectCopy) → StoodInOrder from end copies → from + copied_size copies ≤ end
 ordered_size from end [] ordered = omega arith
 ordered_size from end (copy ∷ copies) ordered =
@@ -35,7 +35,7 @@ ordered_size from end (copy ∷ copies) ordered =
     let rest = ordered_size (copy.from + length copy.words) end copies ordered.1 in
     omega (arith, ordered.0)
 
--- where they stood ascends
+-- their old addresses ascend
 pub ordered_ascend : (from end : ℕ) (copies : List ObjectCopy) → AllByRecursion HasObjectSize copies → StoodInOrder from end copies → IsStrictlyIncreasing (map (λ pair. pair.0) (pairs_of copies))
 ordered_ascend from end [] sized ordered k within = absurd (omega arith)
 ordered_ascend from end (a ∷ []) sized ordered k within = absurd (omega arith)
@@ -45,7 +45,7 @@ ordered_ascend from end (a ∷ b ∷ rest) sized ordered (suc k) within =
     let next : suc (k + 1) ≡ suc k + 1 = omega arith in
     subst (λ (j : ℕ). slice_index xs (suc k) < slice_index xs j) next (ordered_ascend (a.from + length a.words) end (b ∷ rest) sized.1 ordered.1 k (omega arith))
 
--- where copies end to end stand is below where the last of them ends
+-- each of the copies end to end stands below the end of the last
 pub together_below : (to bound : ℕ) (copies : List ObjectCopy) → AllByRecursion HasObjectSize copies → StandEndToEnd to copies → to + copied_size copies ≤ bound → All (λ (pair : ℕ × ℕ). pair.1 < bound) (pairs_of copies)
 together_below to bound [] sized together within = All-nil (λ (pair : ℕ × ℕ). pair.1 < bound)
 together_below to bound (copy ∷ copies) sized together within =
@@ -74,7 +74,7 @@ words_most : (copies : List ObjectCopy) → AllByRecursion HasObjectSize copies 
 words_most [] sized = tt
 words_most (copy ∷ copies) sized = (sized.0.most, words_most copies sized.1)
 
--- so they have a spelling's count and sizes
+-- so their count and sizes can be spelled
 pub copies_few : (copies : List ObjectCopy) → AllByRecursion HasObjectSize copies → copied_size copies ≤ 2097152 → AreFew copies
 copies_few copies sized within = let least = count_least copies sized in record { count = omega arith; words = words_most copies sized }
 
@@ -107,7 +107,7 @@ planned_few spaces copies is are =
     let within = other_within spaces is in
     copies_few copies are.sized (omega arith)
 
--- one copy more, in front of others
+-- one more copy, in front of others
 pub copy_first : (behind end to : ℕ) (copy : ObjectCopy) (copies : List ObjectCopy) → behind ≤ copy.from → copy.to ≡ to → HasObjectSize copy
     → AreCopies (copy.from + length copy.words) end (to + length copy.words) copies → AreCopies behind end to (copy ∷ copies)
 copy_first behind end to copy copies after here size rest =

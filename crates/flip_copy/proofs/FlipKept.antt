@@ -47,7 +47,7 @@ found_mapped {X} {Y} f (e ∷ es) q = pick (eq_by_cmp nat_cmp q e.0) (find nat_c
     pick true left right same = refl
     pick false left right same = same
 
--- the entries of a transaction then
+-- the entries of a transaction after the flip
 pub translated_get : (pairs : List (ℕ × ℕ)) (undo : FinMap nat_cmp (List UndoEntry)) (t : ℕ) → get (translated_undo pairs undo) t ≡ option_map (translated_list pairs) (get undo t)
 translated_get pairs undo t =
     get-from_entries nat_cmp_total (map (λ (e : ℕ × List UndoEntry). (e.0, translated_list pairs e.1)) (entries undo)) t
@@ -73,15 +73,15 @@ copy_goes (c ∷ copies) from copy is = choose (c.from == from) (copy_goes copie
     choose true later same = cc same
     choose false later same = later same
 
--- an object that is copied goes to its copy
+-- an object that is copied leads to its copy
 copied_to : (copies : List ObjectCopy) (from : ℕ) (copy : ObjectCopy) → copy_of copies from ≡ Some copy → moved_to (pairs_of copies) from ≡ copy.to
 copied_to copies from copy is = ap (λ (o : Option ℕ). unwrap_or o from) (copy_goes copies from copy is)
 
--- a copy lies within words
+-- a copy lies within the words
 abbrev LiesWithin : ℕ → ℕ → ObjectCopy → Type 0
 LiesWithin to size copy = (to ≤ copy.to) × (copy.to + length copy.words ≤ to + size)
 
--- each copy lies within the words of all
+-- each copy lies within all words
 copied_within : (copies : List ObjectCopy) (to from : ℕ) (copy : ObjectCopy) → StandEndToEnd to copies → copy_of copies from ≡ Some copy → LiesWithin to (copied_size copies) copy
 copied_within [] to from copy together is = absurd (cc is)
 copied_within (c ∷ copies) to from copy together is = choose (c.from == from) (copied_within copies (to + length c.words) from copy together.1) is

@@ -1,4 +1,4 @@
--- A flip with the copies of a plan can follow, and what it leaves.
+-- A flip with the copies of a plan can follow, and what state it leaves.
 use Rattle.std.proofs.Common.{◌≡◌, ℕ, ◌+◌, ◌-◌, ◌==◌, ◌<◌, ◌≤◌, inl, inr, Bool, true, false, List, [], ◌∷◌, ◌++◌, length, Option, None, Some, is_some, refl, sym, ap, ◌∙◌, subst, arith}
 use Rattle.std.specs.Prelude.{map, sum_by, slice_index, Contains, not, ◌&&◌, ◌||◌, option_and_then, if◌then◌else◌}
 use Rattle.std.specs.List.{AllByRecursion, flat_map, list_all}
@@ -63,7 +63,7 @@ below_insert set from bound next below after far q is =
     below_inserted (eq_by_cmp nat_cmp q from) (contains set q) q from next (tied q from) (λ has. let less = below q has in omega arith) far
     (sym (contains-insert nat_cmp_total set from q) ∙ is)
 
--- the state when these are copied in a collection
+-- the state after these are copied in a collection
 abbrev with_all_copied : State → Collection → List ObjectCopy → State
 with_all_copied s k copies = record s { used = s.used + copied_size copies; collection = Some (with_copies k (moved_objects copies)) }
 
@@ -82,7 +82,7 @@ copied_one : (s : State) (k : Collection) (copy : ObjectCopy) (test : Bool) → 
 copied_one s k copy true is = refl
 copied_one s k copy false is = absurd (cc is)
 
--- copies of objects that stood in order pass their rows, one after another
+-- copies of objects that stood in order pass their tests, one after another
 all_copied : (copies : List ObjectCopy) (s : State) (k : Collection) (behind : ℕ) → s.collection ≡ Some k → AllByRecursion HasObjectSize copies
     → StoodInOrder behind (other_base s + k.used) copies → StandEndToEnd (s.base + s.used) copies
     → other_base s + k.copied ≤ behind → s.used ≡ k.copied → k.used ≤ space_words s.pages → AreBelow k.moved behind
@@ -160,7 +160,7 @@ word_follows copies (Some (word.Int n)) each = refl
 word_follows copies (Some (word.Stable address)) each = each address refl
 word_follows copies (Some (word.Volatile index)) each = refl
 
--- an entry goes along
+-- an entry is translated
 entry_follows : (words : List ℕ) (to : ℕ) (ats : List ℕ) (u : UndoEntry) → AllByRecursion HasObjectSize (copies_from words to ats) → IsRooted words ats u → can_translate (copies_from words to ats) u ≡ true
 entry_follows words to ats u sized rooted =
     let copies = copies_from words to ats in
@@ -207,7 +207,7 @@ flipped_one : (copies : List ObjectCopy) (s : State) (test : Bool) (left : Optio
 flipped_one copies s true left next is follows = ap (option_map (λ n. with_undo n (translated_undo (pairs_of copies) s.undo))) follows
 flipped_one copies s false left next is follows = absurd (cc is)
 
--- A flip that is planned can follow, and leaves this state.
+-- A planned flip can follow, and leaves this state.
 planned_follows : (s : State) (words roots : List ℕ) (copies : List ObjectCopy) → IsPlanned s words roots copies → flipped_in s copies None ≡ Some (with_flip s copies)
 planned_follows s words roots copies is =
     let to = other_base s in
@@ -232,7 +232,7 @@ planned_follows s words roots copies is =
     flipped_one copies s (begins_at s.base copies && can_translate_all copies s.undo) (copies_after changed copies) (with_all_copied changed (begun s.used) copies) (both_true _ _ begin go) left
     ∙ (λ i. Some (record s { base = to; used = used i; collection = Some (with_copies (begun s.used) (moved_objects copies)); undo = translated_undo (pairs_of copies) s.undo }))
 
--- so the machine lets the record of the flip follow
+-- so the record machine accepts the record of the flip
 pub planned_collects : (s : State) (words roots : List ℕ) (copies : List ObjectCopy) → IsPlanned s words roots copies → collecting_after s (flip_record (spaces_of s) words roots) ≡ Some (with_flip s copies)
 planned_collects s words roots copies is =
     ap (λ (cs : List ObjectCopy). collecting_after s (Flip cs)) (sym is.are) ∙ ap (flipped_in s copies) is.none ∙ planned_follows s words roots copies is

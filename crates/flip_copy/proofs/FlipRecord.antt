@@ -30,7 +30,7 @@ object_parts words at n is =
     ∙ ap (λ (ws : List ℕ). get_or words at 0 ∷ take (suc n) ws) (drop-cons words (suc at) 0 (omega arith))
     ∙ ap (λ (ws : List ℕ). get_or words at 0 ∷ get_or words (suc at) 0 ∷ ws) (ap (λ (k : ℕ). take n (drop k words)) there ∙ sym (field_words_at words at n is))
 
--- they are words of a record, where fields have field words
+-- they can be words of a record, if the fields have field words
 object_recorded : (words : List ℕ) (at n : ℕ) → object_at words at ≡ Some n → ((i : ℕ) → slice_index words i < 2 ^ 64) → AllByRecursion IsFieldWord (field_words words at) → IsObjectWords (object_words_at words at)
 object_recorded words at n is fit fields =
     let long = length-field_words words at n is in

@@ -20,7 +20,7 @@ use Rattle.flip_copy.specs.Plan.{HasObjectSize, StoodInOrder, StandEndToEnd, Are
 use Rattle.flip_copy.proofs.CopiesLaws.{size_more, ordered_size, planned_size}
 use Rattle.flip_copy.proofs.ObjectWordsLaws.{object_words, object_words-length, words_object}
 
--- an address lies outside so many words
+-- an address lies outside a run of words
 abbrev LiesOutside : ℕ → ℕ → ℕ → Type 0
 LiesOutside from end x = (x < from) ⊎ (end ≤ x)
 
@@ -28,7 +28,7 @@ put_all-append : (now : List ℕ) (xs ys : List (ℕ × ℕ)) → put_all now (x
 put_all-append now [] ys = refl
 put_all-append now (x ∷ xs) ys = put_all-append (set now x.0 x.1) xs ys
 
--- the words when one object is copied
+-- the words after one object is copied
 abbrev with_one : List ℕ → ObjectCopy → List ℕ
 with_one now copy = set (put_all now (enumerate_from copy.to copy.words)) copy.from (header_bits (Forward copy.to))
 
@@ -50,7 +50,7 @@ one_beside now copy x other (inl before) =
 one_beside now copy x other (inr after) =
     get_or-set_other (put_all now (enumerate_from copy.to copy.words)) copy.from x (header_bits (Forward copy.to)) 0 other ∙ put_from-behind now copy.to x copy.words after
 
--- words stay that lie neither between which the objects stood nor among the copies
+-- words stay that lie neither in the range where the objects stood nor among the copies
 all_beside : (copies : List ObjectCopy) (now : List ℕ) (behind end to x : ℕ) → AllByRecursion HasObjectSize copies → StoodInOrder behind end copies → StandEndToEnd to copies
     → LiesOutside behind end x → LiesOutside to (to + copied_size copies) x → get_or (put_all now (flat_map writes_of copies)) x 0 ≡ get_or now x 0
 all_beside [] now behind end to x sized ordered together stood copied = refl
@@ -84,7 +84,7 @@ one_written now copy low high outside =
           get_or-set_other (put_all now (enumerate_from copy.to copy.words)) copy.from (copy.to + i) (header_bits (Forward copy.to)) 0 other ∙ put_from-at now copy.to i copy.words high within;
     }
 
--- so it does of all, where the spaces are apart
+-- the same for all copies, if the spaces don't overlap
 all_written : (copies : List ObjectCopy) (now : List ℕ) (behind end to : ℕ) (copy : ObjectCopy) → AllByRecursion HasObjectSize copies → StoodInOrder behind end copies → StandEndToEnd to copies
     → end ≤ length now → to + copied_size copies ≤ length now → (end ≤ to) ⊎ (to + copied_size copies ≤ behind) → Contains copies copy → IsWritten (put_all now (flat_map writes_of copies)) copy
 all_written [] now behind end to copy sized ordered together low high apart has = absurd (Contains-none copy has)
@@ -128,7 +128,7 @@ copy_sized (c ∷ copies) copy sized has = elim (Contains-cases c copies copy ha
   | inr behind ↦ copy_sized copies copy sized.1 behind
 ]
 
--- a copy lies within the words of all
+-- a copy lies within all words
 copy_ends : (copies : List ObjectCopy) (to : ℕ) (copy : ObjectCopy) → StandEndToEnd to copies → Contains copies copy → copy.to + length copy.words ≤ to + copied_size copies
 copy_ends [] to copy together has = absurd (Contains-none copy has)
 copy_ends (c ∷ copies) to copy together has =
@@ -165,7 +165,7 @@ written_moved before after copy n is same high written =
         ∙ ap (whole_length others to) (object_header words from m stands).0
         ∙ ap (λ b. if b then Some m else None) (le-leb (to + 2 + m) (length others) within)
 
--- Behind the record of a planned flip each object that it copies has moved.
+-- After the record of a planned flip each object that it copies has moved.
 pub planned_moved : (spaces : SpacesState) (words roots : List ℕ) (copy : ObjectCopy) → IsSpaces spaces → words_in spaces.pages ≤ length words → AreCopiesOf spaces (root_copies spaces words roots)
     → Contains (root_copies spaces words roots) copy → IsCopiedObject words (put_record words (flip_record spaces words roots)) copy
 planned_moved spaces words roots copy is long are has =

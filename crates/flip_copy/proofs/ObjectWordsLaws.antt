@@ -19,7 +19,7 @@ use Rattle.flip_copy.specs.Plan.{AreRootsIn}
 pub object_words : (words : List ℕ) (at n : ℕ) → object_at words at ≡ Some n → object_words_at words at ≡ take (2 + n) (drop at words)
 object_words words at n is = ap (object_words_of words at) is
 
--- as many as its header tells
+-- as many as its header says
 pub object_words-length : (words : List ℕ) (at n : ℕ) → object_at words at ≡ Some n → length (object_words_at words at) ≡ 2 + n
 object_words-length words at n is =
     let within = (object_header words at n is).1 in
@@ -29,11 +29,11 @@ sized_object : (words : List ℕ) (at : ℕ) (found : Option ℕ) → object_at 
 sized_object words at None is some = absurd (omega arith)
 sized_object words at (Some n) is some = (n, is)
 
--- where there are words of an object, one stands
+-- if there are words of an object, one stands there
 pub words_object : (words : List ℕ) (at : ℕ) → 2 ≤ length (object_words_at words at) → (n : ℕ) × (object_at words at ≡ Some n)
 words_object words at some = sized_object words at (object_at words at) refl some
 
--- what is behind a place of a list that ascends is greater
+-- what follows a place of an ascending list is greater
 pub ascending_behind : (xs : List ℕ) (i x : ℕ) → IsStrictlyIncreasing xs → i < length xs → Contains (drop (i + 1) xs) x → get_or xs i 0 < x
 ascending_behind xs i x up within (k, below, is) =
     let far : i + 1 + k < length xs = omega (arith, length-drop (i + 1) xs) in
@@ -62,7 +62,7 @@ pub root_begins : (words : List ℕ) (spaces : SpacesState) (roots : List ℕ) (
 root_begins words spaces roots at are has =
     end_to_end_begins (take (spaces.base + spaces.used) words) spaces.base are.starts (spaces.base + spaces.used) at are.filled.objects (are.among at has)
 
--- the next root stands behind the words of one
+-- the next root stands after the words of one
 pub root_behind : (words : List ℕ) (spaces : SpacesState) (roots : List ℕ) (i n at : ℕ) → AreRootsIn words spaces roots → i < length roots
     → object_at (take (spaces.base + spaces.used) words) (get_or roots i 0) ≡ Some n → Contains (drop (i + 1) roots) at → get_or roots i 0 + (2 + n) ≤ at
 root_behind words spaces roots i n at are within object has =
@@ -102,7 +102,7 @@ ascending_first base root roots less up (suc k) within =
     let next : suc (k + 1) ≡ suc k + 1 = omega arith in
     subst (λ (j : ℕ). get_or (base ∷ root ∷ roots) (suc k) 0 < get_or (base ∷ root ∷ roots) j 0) next (up k (omega arith))
 
--- roots with the root object as the first of them are roots
+-- roots with the root object put first are roots
 pub with_base_roots : (words : List ℕ) (spaces : SpacesState) (roots : List ℕ) → AreRootsIn words spaces roots → AreRootsIn words spaces (with_base spaces.base roots)
 with_base_roots words spaces [] are = record {
   starts = are.starts;

@@ -1,4 +1,4 @@
--- One copy more is planned.
+-- One more copy is planned.
 use Rattle.std.proofs.Common.{◌≡◌, ℕ, suc, ◌+◌, ◌<◌, ◌≤◌, List, [], ◌∷◌, ◌++◌, length, drop, get_or, sym, ap, ◌∙◌, subst, append_assoc, arith}
 use Rattle.std.specs.Prelude.{Contains}
 use Rattle.std.proofs.Math.Seq.{drop-cons}
@@ -10,7 +10,7 @@ use Rattle.flip_copy.specs.Plan.{HasObjectSize, AreCopies, AreRootsIn}
 use Rattle.flip_copy.proofs.CopiesLaws.{copy_first}
 use Rattle.flip_copy.proofs.ObjectWordsLaws.{object_words-length, Contains-tail, Contains-drop, root_object, root_behind}
 
--- what is to come is all, as long as nothing is copied
+-- the copies to come are all, as long as nothing is copied
 pub copies_begin : (behind base end to other : ℕ) (made rest : List ObjectCopy) → made ≡ [] → behind ≡ base → to ≡ other → AreCopies behind end to rest → AreCopies base end other (made ++ rest)
 copies_begin behind base end to other made rest none here there are =
     subst (λ (xs : List ObjectCopy). AreCopies base end other (xs ++ rest)) (sym none)
@@ -20,7 +20,7 @@ pub copied_begin : (words : List ℕ) (to other : ℕ) (ats : List ℕ) (made : 
 copied_begin words to other ats made none there =
     ap (λ (xs : List ObjectCopy). xs ++ copies_from words to ats) none ∙ ap (λ (t : ℕ). copies_from words t ats) there
 
--- with one more, what is to come stands behind it
+-- with one more copied, the copies to come follow it
 pub copies_push : (behind base end to other size : ℕ) (copy : ObjectCopy) (made more rest : List ObjectCopy) → ((xs : List ObjectCopy) → AreCopies behind end to xs → AreCopies base end other (made ++ xs))
     → more ≡ made ++ copy ∷ [] → behind ≤ copy.from → copy.to ≡ to → HasObjectSize copy → size ≡ length copy.words
     → AreCopies (copy.from + size) end (to + size) rest → AreCopies base end other (more ++ rest)
@@ -43,7 +43,7 @@ copied_push words to size i ats copy made more pushed within is long =
     ∙ ap (λ (k : ℕ). made ++ here ∷ copies_from words (to + length (object_words_at words at)) (drop k ats)) next
     ∙ ap (λ (xs : List ℕ). made ++ copies_from words to xs) (sym (drop-cons ats i 0 within))
 
--- the next root stands behind the words of this one
+-- the next root stands after the words of this one
 pub next_behind : (words : List ℕ) (spaces : SpacesState) (ats : List ℕ) (i size at : ℕ) → AreRootsIn words spaces ats → i < length ats
     → size ≡ length (object_words_at words (get_or ats i 0)) → Contains (drop (i + 1) ats) at → get_or ats i 0 + size ≤ at
 next_behind words spaces ats i size at are within long has =

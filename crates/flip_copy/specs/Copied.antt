@@ -12,7 +12,7 @@ abbrev pub object_words_of : List ℕ → ℕ → Option ℕ → List ℕ
 object_words_of words at None = []
 object_words_of words at (Some n) = take (2 + n) (drop at words)
 
--- the words of the object that stands at an address, its header and its birth first; none where there is no object
+-- the words of the object that stands at an address, its header and its birth first; none if there is no object
 abbrev pub object_words_at : List ℕ → ℕ → List ℕ
 object_words_at words at = object_words_of words at (object_at words at)
 

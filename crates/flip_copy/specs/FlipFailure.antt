@@ -1,4 +1,4 @@
--- The disk's error in what planning a flip answered.
+-- The disk's error in the result of planning a flip.
 use Rattle.std.specs.Prelude.{Option, Some, None, Result, Err}
 use Rattle.disk_model.specs.declared.disk.DiskError.{DiskError}
 use Rattle.flip_copy.specs.declared.flip_error.FlipError.{FlipError}

@@ -1,4 +1,4 @@
--- The state of the record machine when a flip has followed.
+-- The state of the record machine after a flip.
 use Rattle.std.specs.Prelude.{◌≡◌, ℕ, ◌<◌, List, Some, None, Contains}
 use Rattle.heap_spaces.specs.Copying.{begun, with_copies}
 use Rattle.heap_words.specs.Word.{meaning}
@@ -13,7 +13,7 @@ use Rattle.object_layout.specs.Layout.{object_at}
 use Rattle.flip_copy.specs.Copied.{root_copies, with_base, moved_objects, copied_size}
 use Rattle.flip_copy.specs.Plan.{AreCopiesOf}
 
--- An undo entry is of a field of one of the objects at these addresses, and so is what its word leads to, where that is a stable object.
+-- An undo entry is of a field of one of the objects at these addresses, and so is what its word leads to, if that is a stable object.
 pub record IsRooted (words roots : List ℕ) (u : UndoEntry) : Type 0 where
   pub object : Contains roots u.object
   pub field : (n : ℕ) → object_at words u.object ≡ Some n → u.field < n
@@ -23,7 +23,7 @@ pub record IsRooted (words roots : List ℕ) (u : UndoEntry) : Type 0 where
 abbrev pub AreRooted : List ℕ → List ℕ → State → Type 0
 AreRooted words roots s = EachKeyed (λ t entries. (u : UndoEntry) → Contains entries u → IsRooted words roots u) s.undo
 
--- the state when a flip with these copies has followed
+-- the state after a flip with these copies
 abbrev pub with_flip : State → List ObjectCopy → State
 with_flip s copies = record s {
   base = other_base s;

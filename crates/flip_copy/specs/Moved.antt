@@ -5,7 +5,7 @@ use Rattle.heap_words.specs.declared.Header.TheVariants.{Forward}
 use Rattle.log_records.specs.declared.copies.ObjectCopy.{ObjectCopy}
 use Rattle.object_layout.specs.Layout.{object_at}
 
--- An object was copied: where it stood a forwarding word leads to the copy, and the copy is an object as it was one, with its words.
+-- An object was copied: where it stood a forwarding word leads to the copy, and the copy is an object of the same length, with its words.
 pub record IsCopiedObject (before after : List ℕ) (copy : ObjectCopy) : Type 0 where
   pub forwarded : slice_index after copy.from ≡ header_bits (Forward copy.to)
   pub object : object_at after copy.to ≡ object_at before copy.from

@@ -1,4 +1,4 @@
--- What is planned of a flip, from the words before it.
+-- What a flip plans, from the words before it.
 use Rattle.std.specs.Prelude.{◌≡◌, ℕ, ◌+◌, ◌^◌, ◌<◌, ◌≤◌, List, [], ◌∷◌, length, slice_index, Contains}
 use Rattle.std.specs.List.{AllByRecursion}
 use Rattle.std.specs.List.Sorted.{IsStrictlyIncreasing}
@@ -19,7 +19,7 @@ pub record HasObjectSize (copy : ObjectCopy) : Type 0 where
   pub least : 2 ≤ length copy.words
   pub most : length copy.words ≤ 512
 
--- the objects stood one behind another in the words from one address up to another
+-- the objects stood in order, without overlap, in the words from one address up to another
 abbrev pub StoodInOrder : ℕ → ℕ → List ObjectCopy → Type 0
 StoodInOrder from end [] = from ≤ end
 StoodInOrder from end (copy ∷ copies) = (from ≤ copy.from) × StoodInOrder (copy.from + length copy.words) end copies
@@ -46,14 +46,14 @@ pub record IsFlipPlan (rec : Record) (pairs : List (ℕ × ℕ)) (moved : List C
   pub moved_are : moved ≡ moved_objects (copies_in rec)
   pub moves : IsRelocation pairs
 
--- What roots are that a heap has: objects fill the used words, and the roots are addresses of these, ascending.
+-- The roots of a heap: objects fill the used words, and the roots are addresses of these, ascending.
 pub record AreRootsIn (words : List ℕ) (spaces : SpacesState) (roots : List ℕ) : Type 0 where
   pub starts : List ℕ
   pub filled : IsFilled words spaces.base spaces.used starts
   pub ascending : IsStrictlyIncreasing roots
   pub among : (at : ℕ) → Contains roots at → Contains starts at
 
--- Words have room for 64 bits, and the fields of the objects at these addresses have field words.
+-- Words fit in 64 bits, and the fields of the objects at these addresses have field words.
 pub record AreRecorded (words ats : List ℕ) : Type 0 where
   pub words_fit : (i : ℕ) → slice_index words i < 2 ^ 64
   pub fields : (at : ℕ) → Contains ats at → AllByRecursion IsFieldWord (field_words words at)

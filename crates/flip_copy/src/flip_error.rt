@@ -11,7 +11,7 @@ pub enum FlipError {
     NoObject { address: u32 },
     /// The disk failed, or had stopped.
     Disk(DiskError),
-    /// Memory was refused.
+    /// Out of memory.
     NoMemory,
 }
 

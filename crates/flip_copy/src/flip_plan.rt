@@ -1,4 +1,4 @@
-//! What is planned of a flip.
+//! What a flip plans.
 ghost use Rattle.std.specs.Prelude.{◌≡◌, ◌≤◌, IfOk, length, sum_by};
 ghost use Rattle.heap_spaces.specs.declared.collection.CopiedObject.{CopiedObject};
 ghost use Rattle.log_machine.specs.Collecting.{pairs_of};
@@ -60,7 +60,7 @@ impl FlipPlan {
         &self.rec
     }
 
-    /// Where each object stood and where its copy stands: what the transactions and their locks are translated by.
+    /// The old address of each object and that of its copy, by which the transactions and their locks are translated.
     pub fn pairs(&self) -> &[(u32, u32)]
         ensures pairs { result.now ≡ pairs_of self.now }
         ensures moves { IsRelocation result.now }
@@ -77,7 +77,7 @@ impl FlipPlan {
         &self.moved
     }
 
-    /// The record, in the memory that it is in.
+    /// The record, without copying it.
     pub fn into_record(self) -> Record
         ensures { result ≡ Flip self }
     {
@@ -85,7 +85,7 @@ impl FlipPlan {
     }
 }
 
-// Where each object stood and where its copy stands.
+// The old address of each object and that of its copy.
 fn pairs_of(alloc: Global, copies: &[ObjectCopy]) -> Result<Vec<(u32, u32)>, AllocError>
     ensures { IfOk result (λ pairs. pairs.items ≡ pairs_of copies.now) }
 {

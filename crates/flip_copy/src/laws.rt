@@ -1,4 +1,4 @@
-//! What a planned flip is to the machine of the records: each law is the contract of a function that does nothing.
+//! What a planned flip does to the record machine: each law is the contract of a function that does nothing.
 ghost use Rattle.std.specs.Prelude.{◌≡◌, ◌≤◌, ℕ, List, length, Contains, Some, true};
 ghost use Rattle.std.specs.FinSet.{contains};
 ghost use Rattle.heap_spaces.specs.Copying.{begun, with_copies};
@@ -19,17 +19,17 @@ pub fn planned_flip_follows()
     ensures { (s : State) (words roots : List ℕ) (copies : List ObjectCopy) → IsPlanned s words roots copies → collecting_after s (flip_record (spaces_of s) words roots) ≡ Some (with_flip s copies) }
 {}
 
-/// Its spaces are those that have changed their roles and of which the words of the copies are taken.
+/// After a flip the spaces have changed their roles, and the words of the copies are taken.
 pub fn flip_changes_spaces()
     ensures { (s : State) (copies : List ObjectCopy) → spaces_of (with_flip s copies) ≡ with_copied (flipped (spaces_of s)) (copied_size copies) }
 {}
 
-/// Each transaction's undo entries are translated by where the objects went.
+/// Each transaction's undo entries are translated to where the objects went.
 pub fn flip_translates_undo()
     ensures { (s : State) (copies : List ObjectCopy) (t : ℕ) → undo_of (with_flip s copies) t ≡ translated_list (pairs_of copies) (undo_of s t) }
 {}
 
-/// The state that a planned flip leaves is consistent: used and owed words have room, and the translated entries are of fields in the used words.
+/// The state after a planned flip is consistent: used and owed words have room, and the translated entries are of fields in the used words.
 pub fn planned_flip_keeps_consistent()
     ensures { (s : State) (words roots : List ℕ) (copies : List ObjectCopy) → IsPlanned s words roots copies → IsConsistent (with_flip s copies) }
 {}
@@ -39,12 +39,12 @@ pub fn flip_copies_are_gray()
     ensures { (used : ℕ) (copies : List ObjectCopy) (copy : ObjectCopy) → Contains copies copy → contains (with_copies (begun used) (moved_objects copies)).gray copy.to ≡ true }
 {}
 
-/// The record of a planned flip has a spelling, where words have 64 bits and fields have field words.
+/// The record of a planned flip has a spelling, if words fit in 64 bits and fields have field words.
 pub fn planned_flip_has_a_spelling()
     ensures { (spaces : SpacesState) (words roots : List ℕ) → IsSpaces spaces → AreCopiesOf spaces (root_copies spaces words roots) → AreRecorded words (with_base spaces.base roots) → IsRecord (flip_record spaces words roots) }
 {}
 
-/// Behind the record of a planned flip each object that it copies has moved: a forwarding word leads to the copy, which has the object's words.
+/// After the record of a planned flip each object that it copies has moved: a forwarding word leads to the copy, which has the object's words.
 pub fn planned_flip_moves_objects()
     ensures { (spaces : SpacesState) (words roots : List ℕ) (copy : ObjectCopy) → IsSpaces spaces → words_in spaces.pages ≤ length words → AreCopiesOf spaces (root_copies spaces words roots) → Contains (root_copies spaces words roots) copy → IsCopiedObject words (put_record words (flip_record spaces words roots)) copy }
 {}

@@ -1,4 +1,4 @@
--- Undo entries behind a flip from roots are of fields of the copies, and put back words that lead to such.
+-- Undo entries after a flip from roots are of fields of the copies, and put back words that lead to such.
 use Rattle.std.proofs.Common.{◌≡◌, ℕ, ◌<◌, inl, inr, List, [], ◌∷◌, Option, None, Some, refl, sym, ◌∙◌, subst, arith}
 use Rattle.std.specs.Prelude.{Contains}
 use Rattle.std.specs.FinSet.{contains}

@@ -1,4 +1,4 @@
--- Births behind a flip: a copy has the birth of its object, and the from-space tells those of all that stood there.
+-- Births after a flip: a copy has the birth of its object, and the from-space gives those of all that stood there.
 use Rattle.std.proofs.Common.{◌≡◌, ℕ, Bool, List, not, subst}
 use Rattle.std.specs.FinSet.{contains}
 use Rattle.graph_model.specs.declared.id.Id.{Id}
@@ -14,7 +14,7 @@ use Rattle.flip_laws.specs.Flip.{CanFlip, collection_begun, copy_places, left_pl
 use Rattle.flip_laws.proofs.Placed.{all_kept}
 use Rattle.flip_laws.proofs.Roots.{flip_begun, flip_flipping, moved_root, root_start, words_are}
 
--- Births are told behind a flip, where they gave the names before.
+-- Births are known after a flip, where they gave the names before.
 pub flip_births : {s : State} {places : Places} {words roots : List ℕ} → CanFlip s places words roots → HaveOwnNames places → AreNamedByBirth places words
     → TellsBirths (state_behind s words roots) (copy_places s words roots places) (left_places s words roots places) (words_behind s words roots)
 flip_births {s} {places} {words} {roots} can own born =

@@ -1,4 +1,4 @@
--- A graph stands behind a flip from roots as it stood before.
+-- A graph stands after a flip from roots as it stood before.
 use Rattle.std.proofs.Common.{◌≡◌, ℕ, ◌+◌, List, [], ◌∷◌, ◌++◌, Option, None, Some, is_some, refl, sym, ap, ◌∙◌, subst, arith}
 use Rattle.std.specs.Prelude.{Contains, unwrap_or, if◌then◌else◌}
 use Rattle.std.specs.FinSet.{contains}
@@ -94,7 +94,7 @@ entry_fields can (u ∷ us) are =
 
 -- The graph.
 
--- The words behind the record are laid out.
+-- The words after the record are laid out.
 pub flip_underway : {s : State} {places : Places} {words roots : List ℕ} → CanFlip s places words roots
     → IsUnderway (state_behind s words roots) (collection_begun s words roots) (copy_places s words roots places) (left_places s words roots places) (words_behind s words roots)
 flip_underway {s} {places} {words} {roots} can =
@@ -120,7 +120,7 @@ base_goes {s} {places} {words} {roots} can =
     ∙ ap (λ (xs : List ℕ). moved_to (moves_from words xs to) s.base) (roots_copied can ∙ head.1)
     ∙ ap (λ b. unwrap_or (if b then Some to else rest) s.base) (eq-eqb s.base s.base refl)
 
--- The graph stands behind a flip from roots.
+-- The graph stands after a flip from roots.
 pub flip_keeps : {s : State} {places : Places} {words roots : List ℕ} {t made : ℕ} {g : Graph} (us : List UndoEntry) → CanFlip s places words roots → AreEntriesOf s us → StandsCompleted t made places [] g us words s
     → StandsCompleted t made (copy_places s words roots places) (left_places s words roots places) g (entries_behind s words roots us) (words_behind s words roots) (state_behind s words roots)
 flip_keeps {s} {places} {words} {roots} us can are stands =

@@ -44,7 +44,7 @@ pub record CanFlip (s : State) (places : Places) (words roots : List ℕ) : Type
   pub rooted : AreRooted words (with_base s.base roots) s
   pub written : (at : ℕ) → Contains (addresses places) at → EachField words at (λ i w. is_volatile w ≡ true → HasEntry s at)
 
--- Behind it.
+-- After it.
 
 -- the copies of the root object and the other roots
 abbrev pub copies_of : State → List ℕ → List ℕ → List ObjectCopy
@@ -66,7 +66,7 @@ words_behind s words roots = put_record words (flip_record (spaces_of s) words r
 abbrev pub entries_behind : State → List ℕ → List ℕ → List UndoEntry → List UndoEntry
 entries_behind s words roots us = translated_list (pairs_of (copies_of s words roots)) us
 
--- where the objects stood that were copied
+-- where the objects that were copied stood
 abbrev pub root_places : State → List ℕ → List ℕ → Places → Places
 root_places s words roots places = filter (λ p. contains (collection_begun s words roots).moved p.1) places
 
@@ -74,6 +74,6 @@ root_places s words roots places = filter (λ p. contains (collection_begun s wo
 abbrev pub copy_places : State → List ℕ → List ℕ → Places → Places
 copy_places s words roots places = places_from words (root_places s words roots places) (other_base s)
 
--- where the objects stand that were not copied
+-- where the objects that were not copied stand
 abbrev pub left_places : State → List ℕ → List ℕ → Places → Places
 left_places s words roots places = filter (λ p. not (contains (collection_begun s words roots).moved p.1)) places

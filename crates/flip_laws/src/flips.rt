@@ -55,7 +55,7 @@ pub fn flips_place_the_copies()
     ensures { (s : State) (places : Places) (words roots : List ℕ) → CanFlip s places words roots → HaveOwnNames places → moved_by (placing_of places []) (flip_record (spaces_of s) words roots) ≡ placing_of (copy_places s words roots places) (left_places s words roots places) }
 {}
 
-/// Copies have the births of their objects, the others keep theirs, and the from-space tells those of all that stood there.
+/// Copies have the births of their objects, the others keep theirs, and the from-space gives those of all that stood there.
 pub fn flips_keep_births()
     ensures { (s : State) (places : Places) (words roots : List ℕ) → CanFlip s places words roots → HaveOwnNames places → AreNamedByBirth places words → TellsBirths (state_behind s words roots) (copy_places s words roots places) (left_places s words roots places) (words_behind s words roots) }
 {}
@@ -70,7 +70,7 @@ pub fn flips_keep_entries_backed()
     ensures { (s : State) (places : Places) (words roots : List ℕ) (us : List UndoEntry) → CanFlip s places words roots → HaveOwnNames places → AreEntriesOf s us → AreBacked places words us → AreBacked (copy_places s words roots places) (words_behind s words roots) (entries_behind s words roots us) }
 {}
 
-/// The record of the flip can follow. Behind it a collection is under way with the words laid out and all copies gray, and each graph that
+/// The record of the flip can follow. After it a collection is under way with the words laid out and all copies gray, and each graph that
 /// stood in the words stands in the completed ones, where the same writes are taken back, translated along with the objects.
 pub fn flips_keep_heaps()
     ensures { (s : State) (places : Places) (words roots : List ℕ) (t made : ℕ) (g : Graph) (us : List UndoEntry) → CanFlip s places words roots → AreEntriesOf s us → StandsCompleted t made places [] g us words s → (collecting_after s (flip_record (spaces_of s) words roots) ≡ Some (state_behind s words roots)) × IsUnderway (state_behind s words roots) (collection_begun s words roots) (copy_places s words roots places) (left_places s words roots places) (words_behind s words roots) × ((at : ℕ) → Contains (addresses (copy_places s words roots places)) at → contains (collection_begun s words roots).gray at ≡ true) × StandsCompleted t made (copy_places s words roots places) (left_places s words roots places) g (entries_behind s words roots us) (words_behind s words roots) (state_behind s words roots) }

@@ -41,14 +41,14 @@ module _ (image bytes : List ℕ) (at : ℕ) (fits : at + length bytes ≤ lengt
       ∙ ap (λ (l : List ℕ). take (length bytes) l) (drop_at (take at image) (bytes ++ drop (at + length bytes) image) at front)
       ∙ take_at bytes (drop (at + length bytes) image) (length bytes) refl
 
-  -- byte by byte
+  -- the same byte by byte
   pub overwrite_inside : (i : ℕ) → at ≤ i → i < at + length bytes → slice_index (overwrite image at bytes) i ≡ slice_index bytes (i - at)
   overwrite_inside i above below =
       let inside : i < length (take at image ++ bytes) = omega (arith, through) in
       get_or_append_left (take at image ++ bytes) (drop (at + length bytes) image) 0 i inside
       ∙ get_or-append_right (take at image) bytes at i 0 front above
 
--- a write that a crash may have cut short is whole where its bytes stand
+-- a torn write is whole if its bytes are all there
 pub torn_whole : (at : ℕ) (bytes old new : List ℕ) → Torn at (length bytes) old new → part new at (length bytes) ≡ bytes → new ≡ overwrite old at bytes
 torn_whole at bytes old new torn there =
     let behind = drop (at + length bytes) new in
@@ -59,7 +59,7 @@ torn_whole at bytes old new torn there =
     ∙ ap (λ (l : List ℕ). l ++ part new at (length bytes) ++ drop (at + length bytes) old) torn.before
     ∙ ap (λ (l : List ℕ). take at old ++ l ++ drop (at + length bytes) old) there
 
--- one byte is there where it stands
+-- a single byte is there if it stands in the image
 pub torn_byte : (at byte : ℕ) (old new : List ℕ) → Torn at 1 old new → at < length old → slice_index new at ≡ byte → new ≡ overwrite old at (byte ∷ [])
 torn_byte at byte old new torn inside is =
     let there : at < length new = omega (arith, torn.size) in
@@ -114,7 +114,7 @@ overwrite_within at room k image bytes inside fits =
     ∙ part_overwrite image bytes (at + k) all in
     torn_whole k bytes (part image at room) (part written at room) (torn_within at room k n image written (torn_overwrite image bytes (at + k) all) inside) there
 
--- over the front of what stands behind
+-- a write over the start of what follows
 pub overwrite-append : (front behind bytes : List ℕ) → overwrite (front ++ behind) (length front) bytes ≡ front ++ bytes ++ drop (length bytes) behind
 overwrite-append front behind bytes =
     ap (λ (l : List ℕ). l ++ bytes ++ drop (length front + length bytes) (front ++ behind)) (take_at front behind (length front) refl)

@@ -5,7 +5,7 @@ use Rattle.counts.specs.Count.{raised, counted}
 use Rattle.disk_model.specs.declared.disk.DiskError.{DiskError}
 use Rattle.gate_slot.specs.Passing.{Passes}
 
--- so many more, and then so many more
+-- n more, and then m more
 pub counted-add : (m n before : ℕ) → counted m (counted n before) ≡ counted (n + m) before
 counted-add zero n before = let same : n ≡ n + 0 = omega arith in ap (λ (k : ℕ). counted k before) same
 counted-add (suc m) n before = let same : suc (n + m) ≡ n + suc m = omega arith in ap raised (counted-add m n before) ∙ ap (λ (k : ℕ). counted k before) same

@@ -6,7 +6,7 @@ use Rattle.disk_model.proofs.MomentLaws.{begins, goes_on}
 use Rattle.gate_slot.specs.Gate.{IsOutside, IsClosedInEach, SameButGate, IsFilling}
 use Rattle.gate_slot.proofs.Images.{torn_gate, untouched, filling_none, filling_bytes, filling_gate}
 
--- what a disk tells
+-- what a disk models
 pub record Tells (D : Type 0) : Type 1 where
   pub bytes : D → List ℕ
   pub extent : D → ℕ

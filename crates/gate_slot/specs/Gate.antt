@@ -12,7 +12,7 @@ IsGateClosed gate image = slice_index image gate ≢ 1
 abbrev pub IsClosedInEach : ℕ → (List ℕ → Type 0) → Type 0
 IsClosedInEach gate may_leave = (c : List ℕ) → may_leave c → IsGateClosed gate c
 
--- nothing is pending on the gate: each image has it as it is seen
+-- nothing is pending on the gate: each image has it as it is read
 abbrev pub IsSettled : ℕ → List ℕ → (List ℕ → Type 0) → Type 0
 IsSettled gate seen may_leave = (c : List ℕ) → may_leave c → slice_index c gate ≡ slice_index seen gate
 
@@ -33,8 +33,8 @@ pub record SameButGate (gate : ℕ) (old new : List ℕ) : Type 0 where
   pub size : length new ≡ length old
   pub others : (i : ℕ) → i ≢ gate → slice_index new i ≡ slice_index old i
 
--- While bytes are filled in behind a closed gate, a crash leaves new: the gate is closed and all outside of the bytes is
--- as in old, an image from before, or the gate is open and new is the image that was seen before, with all the bytes.
+-- While bytes are written behind a closed gate, a crash leaves new: the gate is closed and all outside of the bytes is
+-- as in old, an image from before, or the gate is open and new is the image that was read before, with all the bytes.
 pub record IsFilling (gate at : ℕ) (bytes seen old new : List ℕ) : Type 0 where
   pub size : length new ≡ length old
   pub whole : IsOpen gate new → new ≡ filled gate at bytes seen

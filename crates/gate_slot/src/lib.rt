@@ -17,7 +17,7 @@ pub const OPEN: u8 = 1;
 pub const CLOSED: u8 = 0;
 
 /// Closes the gate at byte `gate` of the disk, if it is open, and syncs. A gate that isn't open is never written, since a
-/// crash may leave any byte, 1 too, where something was written. After an error an open gate may hold any byte.
+/// crash may leave any byte where something was written, also 1. After an error an open gate may hold any byte.
 pub fn close_gate<D: Disk>(disk: &mut D, gate: u64) -> Result<(), DiskError>
     requires { gate < D.extent disk.old }
 
@@ -55,7 +55,7 @@ pub fn fill_and_open<D: Disk>(
     ensures disk { KeepsDisk D.Disk disk.old disk.new result }
     ensures filled { IsTrue D.tells → OnOk result (D.bytes disk.new ≡ filled gate at bytes.now (D.bytes disk.old)) }
     ensures durable { IsTrue D.tells → OnOk result (Only (D.bytes disk.new) (D.may_leave disk.new)) }
-    // A crash at any moment leaves the gate closed, or open in the image as it was seen with all of the bytes.
+    // A crash at any moment leaves the gate closed, or open in the image as it was read, with all of the bytes.
     ensures moments { IsTrue D.tells → IsClosedInEach gate (D.may_leave disk.old) → LeavesOnly D.moment D.left_since disk.old disk.new (λ c. (d : List ℕ) × D.may_leave disk.old d × IsFilling gate at bytes.now (D.bytes disk.old) d c) }
     ensures passes { IsTrue D.tells → Passes 4 (D.passed disk.old) (D.passed disk.new) result }
 {

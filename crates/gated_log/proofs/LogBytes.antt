@@ -11,7 +11,7 @@ use Rattle.gate_slot.proofs.ImageLaws.{length_part, part_index, same_part, overw
 use Rattle.log_records.specs.declared.Record.{Record}
 use Rattle.gated_log.specs.Log.{framed, batch, batches_bytes, HoldsBatches}
 
--- one batch more
+-- one more batch
 pub batches_bytes-push : (batches : List (List Record)) (records : List Record) → batches_bytes (batches ++ records ∷ []) ≡ batches_bytes batches ++ batch records
 batches_bytes-push batches records = flat_map-append batch batches (records ∷ []) ∙ ap (λ (l : List ℕ). batches_bytes batches ++ l) (append-nil (batch records))
 
@@ -19,7 +19,7 @@ module _ (at room tail : ℕ) (bytes image : List ℕ) (inside : at + room ≤ l
   abbrev gate : ℕ
   gate = at + tail
 
-  -- the bytes stand behind the batches
+  -- the bytes stand after the batches
   pub part_forced : (front rest : List ℕ) (g : ℕ) → length front ≡ tail → part image at room ≡ front ++ g ∷ rest
       → part (filled gate (gate + 1) bytes image) at room ≡ front ++ 1 ∷ (bytes ++ drop (length bytes) rest)
   part_forced front rest g size was =

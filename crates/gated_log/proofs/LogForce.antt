@@ -19,7 +19,7 @@ use Rattle.gated_log.proofs.LogLaws.{buffer_size-Keeps}
 use Rattle.gated_log.specs.LogState.{Keeps}
 use Rattle.gated_log.proofs.LogBytes.{batches_bytes-push, closed_gate, holds_forced, holds_in_force}
 
--- where records wait there is one batch more
+-- if records are pending there is one more batch
 with_some : (batches : List (List Record)) (pending : List Record) → 0 < length (spellings pending) → with_batch batches pending ≡ batches ++ pending ∷ []
 with_some batches [] some = absurd (omega arith)
 with_some batches (r ∷ rs) some = refl
@@ -60,7 +60,7 @@ module _ (log : Log) (image buffer : List ℕ) (batches : List (List Record)) (p
   fits : log.tail + 1 + length (framed pending ++ 0 ∷ []) ≤ log.room
   fits = omega (arith, log.fits, used_waiting log.tail (vec_len log.buffer) waits, size, batch_length)
 
-  -- without the next gate, the records that wait
+  -- without the next gate, the pending records
   pub keeps_still : (new : Log) (n : ℕ) → n + 1 ≡ length buffer → new.tail ≡ log.tail → new.buffer.items ≡ take n buffer → new.forced ≡ log.forced → new.waiting ≡ log.waiting → Keeps new batches pending
   keeps_still new n end tail items forced waiting =
       let whole : n ≡ length (framed pending) = omega (arith, end, ap length closed_buffer, length-append (framed pending) (0 ∷ [])) in
@@ -73,7 +73,7 @@ module _ (log : Log) (image buffer : List ℕ) (batches : List (List Record)) (p
         count = omega (arith, forced, waiting, keeps.count);
       }
 
-  -- the log in memory, behind the new batch
+  -- the log in memory, after the new batch
   pub keeps_forced : (new : Log) → new.tail ≡ log.tail + length buffer → new.buffer.items ≡ take 4 buffer → new.forced ≡ log.forced + log.waiting → new.waiting ≡ 0 → Keeps new (with_batch batches pending) []
   keeps_forced new tail items forced waiting =
       rw with_more record {

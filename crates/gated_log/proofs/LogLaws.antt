@@ -10,7 +10,7 @@ use Rattle.gated_log.specs.declared.log.Log.{Log}
 use Rattle.gated_log.specs.Log.{batch, batches_bytes, records_of, HoldsBatches, HasBatch, BreaksAt}
 use Rattle.gated_log.specs.LogState.{buffer_size, Keeps}
 
--- how many bytes the buffer has where these records wait
+-- how many bytes the buffer has if these records are pending
 pub buffer_size-Keeps : (log : Log) (batches : List (List Record)) (pending : List Record) → Keeps log batches pending → buffer_size log ≡ 4 + length (spellings pending)
 buffer_size-Keeps log batches pending keeps =
     log.buffer.ok.0 ∙ ap length keeps.items ∙ length-append keeps.head (spellings pending) ∙ ap (λ (k : ℕ). k + length (spellings pending)) keeps.four
@@ -20,7 +20,7 @@ pub good_front : (records more : List Record) → AllByRecursion IsRecord (recor
 good_front [] more good = tt
 good_front (r ∷ rs) more good = (good.0, good_front rs more good.1)
 
--- so are those behind
+-- so are those after
 pub good_behind : (records more : List Record) → AllByRecursion IsRecord (records ++ more) → AllByRecursion IsRecord more
 good_behind [] more good = good
 good_behind (r ∷ rs) more good = good_behind rs more good.1
@@ -40,7 +40,7 @@ one_batch first second more rest good good' short same =
     sym (drop_at (spellings first) more (length (spellings first)) refl) ∙ ap (λ (l : List ℕ). drop (length (spellings first)) l) lengths.1 ∙ drop_at (spellings second) rest (length (spellings first)) n in
     (one_list first second good good' records, behind)
 
--- bytes begin with one list of whole batches, behind which no other begins
+-- bytes begin with one list of whole batches, after which no other begins
 pub one_front : (first second : List (List Record)) (log x y : List ℕ) → length log < 2 ^ 32 → log ≡ batches_bytes first ++ x → log ≡ batches_bytes second ++ y
     → AllByRecursion IsRecord (records_of first) → AllByRecursion IsRecord (records_of second) → 0 < length x → 0 < length y → ¬ HasBatch x → ¬ HasBatch y → (first ≡ second) × (x ≡ y)
 one_front [] [] log x y short is is' good good' some some' none none' = (refl, sym is ∙ is')

@@ -21,6 +21,6 @@ good_append (r ∷ rs) more good good' = (good.0, good_append rs more good.1 goo
 pub spellings-push : (records : List Record) (rec : Record) → spellings (records ++ rec ∷ []) ≡ spellings records ++ spelling rec
 spellings-push records rec = flat_map-append spelling records (rec ∷ []) ∙ ap (λ (l : List ℕ). spellings records ++ l) (append-nil (spelling rec))
 
--- the records of one batch more
+-- the records of one more batch
 pub records_of-push : (batches : List (List Record)) (records : List Record) → records_of (batches ++ records ∷ []) ≡ records_of batches ++ records
 records_of-push batches records = flat_map-append (λ (l : List Record). l) batches (records ∷ []) ∙ ap (λ (l : List Record). records_of batches ++ l) (append-nil records)

@@ -1,4 +1,4 @@
--- How a reader of a log goes on.
+-- How a reader of a log continues.
 use Rattle.std.proofs.Common.{◌≡◌, ◌≢◌, ℕ, ◌+◌, ◌-◌, ◌^◌, ◌<◌, ◌≤◌, List, [], ◌∷◌, ◌++◌, Option, Some, None, Result, Ok, Err, OnOk, length, vec_len, get_or, take, drop, refl, sym, ◌∙◌, ap, subst, arith, length-append, length-take, length-drop, append_assoc, drop-cons, inl, inr}
 use Rattle.std.specs.Prelude.{Bool, IsTrue, min}
 use Rattle.std.specs.Int.{w32, from_le_bytes, to_le_bytes}
@@ -32,7 +32,7 @@ part_in image at n m room fits =
     ap (λ (k : ℕ). drop n (take k (drop at image))) (sym rest) ∙ drop-take n (room - n) (drop at image) in
     ap (λ (l : List ℕ). take m l) (sym (drop-drop n at image)) ∙ sym (ap (λ (l : List ℕ). take m l) cut ∙ take-take m (room - n) (drop n (drop at image)) (omega (arith, fits)))
 
--- what is read behind the window is taken off what was not read
+-- what is read after the window is taken off what was not read
 pub filled : (log image : List ℕ) (at room next size len len' : ℕ) (front window : List ℕ) → log ≡ part image at room → next + len + size ≤ room → len' ≡ len + size → window ≡ front ++ part image (at + (next + len)) size
     → window ++ drop (next + (len' - 0)) log ≡ front ++ drop (next + len) log
 filled log image at room next size len len' front window is fits longer read =
@@ -44,7 +44,7 @@ filled log image at room next size len len' front window is fits longer read =
     ∙ append_assoc front (take size (drop (next + len) log)) (drop size (drop (next + len) log))
     ∙ ap (λ (l : List ℕ). front ++ l) (take-append-drop size (drop (next + len) log))
 
--- a reader that has taken some bytes more
+-- a reader that has taken more bytes
 pub untaken_on : (r new : LogReader) (n : ℕ) (log : List ℕ) → new.window ≡ r.window → new.taken ≡ r.taken + n → new.next ≡ r.next + n → r.taken + n ≤ vec_len r.window → untaken r log ≡ take n (held r) ++ untaken new log
 untaken_on r new n log window taken next inside =
     let behind : drop n (held r) ≡ held new = drop-drop n r.taken r.window.items ∙ ap (λ (k : ℕ). drop k r.window.items) (sym taken) ∙ ap (λ w. drop new.taken w.items) (sym window) in
@@ -60,7 +60,7 @@ length-held r = length-drop r.taken r.window.items ∙ ap (λ (k : ℕ). k - r.t
 pub length-untaken : (r : LogReader) (log : List ℕ) → length log ≤ r.room → length (untaken r log) ≤ r.room - r.next
 length-untaken r log short = omega (arith, length-append (held r) (drop (r.next + held_size r) log), length-held r, length-drop (r.next + held_size r) log, short, r.read)
 
--- a disk that tells the same bytes holds the same log
+-- a modelled disk with the same bytes holds the same log
 pub log_still : (log image now : List ℕ) (at room at' room' : ℕ) → log ≡ part image at room → now ≡ image → at' ≡ at → room' ≡ room → log ≡ part now at' room'
 log_still log image now at room at' room' is same place size =
     is ∙ ap (λ (l : List ℕ). part l at room) (sym same) ∙ ap (λ (k : ℕ). part now k room) (sym place) ∙ ap (λ (k : ℕ). part now at' k) (sym size)
@@ -122,7 +122,7 @@ head_is bytes n is_open size large =
     ∙ ap (λ (b : ℕ). b ∷ drop 1 bytes) is_open
     ∙ ap (λ (l : List ℕ). 1 ∷ l) (sym (take-append-drop 4 (drop 1 bytes)) ∙ ap (λ (l : List ℕ). l ++ drop 4 (drop 1 bytes)) size ∙ ap (λ (l : List ℕ). to_le_bytes w32 n ++ l) (drop-drop 4 1 bytes))
 
--- a whole batch has its length, and a byte behind it
+-- a whole batch has its length, and a byte after it
 pub batch_room : (bytes : List ℕ) → (has : HasBatch bytes) → 6 + length (spellings has.records) ≤ length bytes
 batch_room bytes has =
     let n = length (spellings has.records) in
@@ -169,7 +169,7 @@ scan_short (Scan page writes) good is = omega (arith, length-writes writes, good
 scan_short (Flip copies) good is = absurd (omega (arith, is))
 scan_short Collected good is = absurd (omega (arith, is))
 
--- What is spelled as these records begin, and as others do that take no fewer bytes, goes on as those that are left of the others.
+-- What is spelled as these records begin, and as others do that take no fewer bytes, continues with those that are left of the others.
 pub record LeftOf (first second : List Record) (x y : List ℕ) : Type 0 where
   pub left : List Record
   pub good : AllByRecursion IsRecord left
@@ -187,7 +187,7 @@ left_of (a ∷ first) (b ∷ second) x y good good' same le =
     let more = left_of first second x y good.1 good'.1 one.1 (omega (arith, le, alike, a_size, b_size)) in
     record { left = more.left; good = more.good; size = omega (arith, more.size, alike, a_size, b_size); rest = more.rest }
 
--- bytes that go on with some record begin with it, as far as they are cut behind it
+-- bytes that continue with some record begin with it, as far as they are cut after it
 begins_with : (r : Record) (behind bytes : List ℕ) (most : ℕ) → bytes ≡ spelling r ++ behind → length (spelling r) ≤ most → take most bytes ≡ spelling r ++ drop (length (spelling r)) (take most bytes)
 begins_with r behind bytes most is le =
     let k = length (spelling r) in

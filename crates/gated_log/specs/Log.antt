@@ -20,14 +20,14 @@ batches_bytes batches = flat_map batch batches
 abbrev pub records_of : List (List Record) → List Record
 records_of batches = flat_map (λ records. records) batches
 
--- The log's bytes hold these batches: they stand there, and behind them is a closed gate.
+-- The log's bytes hold these batches: they stand there, and after them is a closed gate.
 pub record HoldsBatches (log : List ℕ) (batches : List (List Record)) : Type 0 where
   pub gate : ℕ
   pub rest : List ℕ
   pub bytes : log ≡ batches_bytes batches ++ gate ∷ rest
   pub shut : gate ≢ 1
 
--- A whole batch stands at the front of the bytes: its records are records, and there is a next gate behind it.
+-- A whole batch stands at the front of the bytes: its records are records, and the next gate follows it.
 pub record HasBatch (bytes : List ℕ) : Type 0 where
   pub records : List Record
   pub behind : List ℕ
@@ -36,7 +36,7 @@ pub record HasBatch (bytes : List ℕ) : Type 0 where
   pub good : AllByRecursion IsRecord records
 
 -- The batch rule fails at this offset, and nowhere before: whole batches stand up to it, and the gate there is open and
--- has no whole batch behind it.
+-- no whole batch there.
 pub record BreaksAt (log : List ℕ) (offset : ℕ) : Type 0 where
   pub batches : List (List Record)
   pub rest : List ℕ
@@ -46,12 +46,12 @@ pub record BreaksAt (log : List ℕ) (offset : ℕ) : Type 0 where
   pub is_open : slice_index rest 0 ≡ 1
   pub none : ¬ HasBatch rest
 
--- the records that wait, as they will be written behind the closed gate, with the next closed gate behind them
+-- the pending records, as they will be written behind the closed gate, followed by the next closed gate
 abbrev pub pending_batch : List Record → List ℕ
 pending_batch [] = []
 pending_batch (r ∷ rs) = framed (r ∷ rs) ++ 0 ∷ []
 
--- the batches with those that wait as one more, if any do
+-- the batches with the pending records as one more, if there are any
 abbrev pub with_batch : List (List Record) → List Record → List (List Record)
 with_batch batches [] = batches
 with_batch batches (r ∷ rs) = batches ++ (r ∷ rs) ∷ []

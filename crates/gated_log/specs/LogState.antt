@@ -14,11 +14,11 @@ log_place log = log.at
 abbrev pub log_room : Log → ℕ
 log_room log = log.room
 
--- the offset in it of the closed gate behind the forced batches
+-- the offset in it of the closed gate after the forced batches
 abbrev pub log_tail : Log → ℕ
 log_tail log = log.tail
 
--- the buffer: four bytes of room for a batch's length, and the records that wait, spelled
+-- the buffer: four bytes of room for a batch's length, and the spelling of the pending records
 abbrev pub log_buffer : Log → List ℕ
 log_buffer log = log.buffer.items
 
@@ -26,11 +26,11 @@ log_buffer log = log.buffer.items
 abbrev pub buffer_size : Log → ℕ
 buffer_size log = vec_len log.buffer
 
--- whether a record waits
+-- whether a record is pending
 abbrev pub is_waiting : Log → Bool
 is_waiting log = nat_lt 4 (buffer_size log)
 
--- no record waits
+-- no record is pending
 abbrev pub IsBufferEmpty : Log → Type 0
 IsBufferEmpty log = buffer_size log ≡ 4
 
@@ -38,11 +38,11 @@ IsBufferEmpty log = buffer_size log ≡ 4
 abbrev pub log_memory : Log → ℕ
 log_memory log = vec_capacity log.buffer
 
--- there is memory for so many bytes more in it, and the one that a force adds
+-- there is memory for that many more bytes in it, and the one that a force adds
 abbrev pub HasSpare : Log → ℕ → Type 0
 HasSpare log more = buffer_size log + more < log_memory log
 
--- What was reserved is there still: no memory was given back.
+-- What was reserved is still there: no memory was given back.
 abbrev pub KeepsMemory : Log → Log → Type 0
 KeepsMemory old new = log_memory old ≤ log_memory new
 
@@ -50,23 +50,23 @@ KeepsMemory old new = log_memory old ≤ log_memory new
 abbrev pub log_forced : Log → ℕ
 log_forced log = log.forced
 
--- how many records there are, forced or waiting
+-- how many records there are, forced or pending
 abbrev pub log_count : Log → ℕ
 log_count log = log.forced + log.waiting
 
--- the bytes that are used: the forced batches, a gate, and a batch of the records that wait
+-- the bytes that are used: the forced batches, a gate, and a batch of the pending records
 abbrev pub log_used : Log → ℕ
 log_used log = used_bytes (log_tail log) (buffer_size log)
 
--- the bytes that are used where so many more wait
+-- the bytes that are used if that many more are pending
 abbrev pub log_used_with : Log → ℕ → ℕ
 log_used_with log more = used_bytes (log_tail log) (buffer_size log + more)
 
--- what a record of that many bytes takes, with a batch's gate and length where it is the first that waits
+-- what a record of that many bytes takes, with a batch's gate and length if it is the first pending one
 abbrev pub log_need : Log → ℕ → ℕ
 log_need log own = need_bytes (buffer_size log) own
 
--- The log knows where these batches end, and these records wait in it behind room for their length. It has counted them.
+-- The log knows where these batches end, and these records are pending in it, after room for their length. It has counted them.
 pub record Keeps (log : Log) (batches : List (List Record)) (pending : List Record) : Type 0 where
   pub tail : log_tail log ≡ length (batches_bytes batches)
   pub head : List ℕ
@@ -82,7 +82,7 @@ pub record IsPlaced (old new : Log) : Type 0 where
   pub tail : log_tail new ≡ log_tail old
   pub forced : log_forced new ≡ log_forced old
 
--- the log has the same place, batches and records that wait
+-- the log has the same place, batches and pending records
 pub record IsSameLog (old new : Log) : Type 0 where
   pub place : IsPlaced old new
   pub buffer : log_buffer new ≡ log_buffer old

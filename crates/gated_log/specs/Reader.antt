@@ -44,23 +44,23 @@ held_size r = vec_len r.window - r.taken
 abbrev pub untaken : LogReader → List ℕ → List ℕ
 untaken r log = held r ++ drop (r.next + held_size r) log
 
--- the bytes of a batch with so many bytes of records, as far as these records
+-- the bytes of a batch with that many bytes of records, as far as these records
 abbrev pub begun_bytes : ℕ → List Record → List ℕ
 begun_bytes size begun = 1 ∷ to_le_bytes w32 size ++ spellings begun
 
--- The reader stands behind whole batches.
+-- The reader stands after whole batches.
 pub record IsAtGate (tells : Bool) (log : List ℕ) (r : LogReader) (batches : List (List Record)) (begun : List Record) : Type 0 where
   pub none : begun ≡ []
   pub next : r.next ≡ length (batches_bytes batches)
   pub bytes : IsTrue tells → log ≡ batches_bytes batches ++ untaken r log
 
--- It stands in the batch behind them, of which it has given these records.
+-- It stands in the batch after them, of which it has given these records.
 pub record IsInBatch (tells : Bool) (log : List ℕ) (r : LogReader) (batches : List (List Record)) (begun : List Record) : Type 0 where
   pub first : r.first ≡ length (records_of batches) + 1
   pub next : r.next ≡ length (batches_bytes batches) + (BATCH_BYTES + length (spellings begun))
   pub bytes : IsTrue tells → log ≡ batches_bytes batches ++ (begun_bytes (length (spellings begun) + r.left) begun ++ untaken r log)
 
--- A reader of the log with these bytes, where they are told, has given the records of these whole batches and of the next one these.
+-- A reader of the log with these bytes, if they are modelled, has given the records of these whole batches and of the next one these.
 pub record HasRead (tells : Bool) (log : List ℕ) (r : LogReader) (batches : List (List Record)) (begun : List Record) : Type 0 where
   pub good : AllByRecursion IsRecord (records_of batches)
   pub good_begun : AllByRecursion IsRecord begun
@@ -76,7 +76,7 @@ pub record HasGiven (tells : Bool) (log : List ℕ) (r : LogReader) (given : Lis
   pub read : HasRead tells log r batches begun
   pub are : given ≡ records_of batches ++ begun
 
--- These are all: they stand in whole batches, and a closed gate is behind them.
+-- These are all: they stand in whole batches, and a closed gate follows them.
 pub record HasGivenAll (tells : Bool) (log : List ℕ) (r : LogReader) (given : List Record) : Type 0 where
   pub batches : List (List Record)
   pub read : HasRead tells log r batches []
@@ -84,7 +84,7 @@ pub record HasGivenAll (tells : Bool) (log : List ℕ) (r : LogReader) (given : 
   pub are : given ≡ records_of batches
   pub holds : IsTrue tells → HoldsBatches log batches
 
--- A record was given, behind those that were begun of the batch behind these batches; where none were, other batches may
+-- A record was given, after those that were begun of the batch after these batches; if none were, other batches may
 -- have been passed that have no record.
 pub record IsGiven (tells : Bool) (log : List ℕ) (r : LogReader) (batches : List (List Record)) (begun : List Record) (rec : Record) : Type 0 where
   pub passed : List (List Record)
@@ -95,7 +95,7 @@ pub record IsGiven (tells : Bool) (log : List ℕ) (r : LogReader) (batches : Li
   -- or as the last of it
   pub border : r.left ≡ 0 → HasRead tells log r (passed ++ (begun ++ rec ∷ []) ∷ []) []
 
--- A batch was begun behind these, which has ended where it has no record.
+-- A batch was begun after these, which has ended if it has no record.
 pub record IsBegun (tells : Bool) (log : List ℕ) (r : LogReader) (batches : List (List Record)) : Type 0 where
   pub inside : 0 < r.left → HasRead tells log r batches []
   pub empty : r.left ≡ 0 → HasRead tells log r (batches ++ [] ∷ []) []

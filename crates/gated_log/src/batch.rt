@@ -21,7 +21,7 @@ pub(crate) fn bytes_of(records: &[Record]) -> u64
     bytes
 }
 
-/// Makes a batch of the records: puts their length in front, and the next closed gate behind.
+/// Makes a batch of the records: puts their length in front, and the next closed gate after them.
 pub(crate) fn close_batch(buffer: &mut Vec<u8>)
     requires head { 4 ≤ vec_len buffer.old }
     requires small { vec_len buffer.old < 2 ^ 32 }
@@ -52,7 +52,7 @@ pub(crate) fn told_length(bytes: &[u8]) -> Option<u32>
     Some(batch_length(head))
 }
 
-/// The length that a batch tells behind its gate.
+/// The length that a batch has behind its gate.
 fn batch_length(head: &[u8; BATCH_BYTES]) -> u32
     ensures value { result ≡ from_le_bytes w32 (slice_index head.now 1 ∷ slice_index head.now 2 ∷ slice_index head.now 3 ∷ slice_index head.now 4 ∷ []) }
 {

@@ -26,9 +26,9 @@ pub struct Log {
     at: u64,
     // Its bytes.
     room: u32,
-    // The offset in it of the closed gate behind the forced batches.
+    // The offset in it of the closed gate after the forced batches.
     tail: u32,
-    // How many records are in these batches, and how many wait.
+    // How many records are in these batches, and how many are pending.
     forced: u64,
     waiting: u64,
     // Room for the length of a batch, and the pending records, encoded.
@@ -82,7 +82,7 @@ impl Log {
         Ok((reader.into_log(), records))
     }
 
-    /// A log with no pending record, with so many records up to the closed gate at that offset. The buffer has room for the length
+    /// A log with no pending record, with `forced` records up to the closed gate at that offset. The buffer has room for the length
     /// of a batch alone.
     pub(crate) fn of(at: u64, room: u32, tail: u32, forced: u64, buffer: Vec<u8>) -> Log
         requires inside { at + room < 2 ^ 64 }
@@ -155,7 +155,7 @@ impl Log {
         u64::from(self.room)
     }
 
-    /// The bytes that the record takes, with those of a batch where it is the first that waits.
+    /// The bytes that the record takes, with those of a batch if it is the first pending one.
     pub fn need(&self, rec: &Record) -> u64
         ensures { result ≡ log_need self.now (length (spelling rec.now)) }
     {
@@ -167,7 +167,7 @@ impl Log {
         }
     }
 
-    /// Takes the memory for records of that many bytes more. A log has room for fewer than 2^32 bytes.
+    /// Allocates memory for that many more bytes of records. A log has room for fewer than 2^32 bytes.
     pub fn reserve(&mut self, bytes: usize) -> Result<(), AllocError>
         requires { bytes < 2 ^ 32 }
         ensures spare { OnOk result (HasSpare self.new bytes) }
@@ -178,7 +178,7 @@ impl Log {
         self.buffer.reserve(bytes + 1)
     }
 
-    /// Adds a record after the pending ones, where the log has room for it. An `Err` changes nothing.
+    /// Adds a record after the pending ones, if the log has room for it. An `Err` changes nothing.
     pub fn append(&mut self, rec: &Record) -> Result<(), AllocError>
         requires { log_used self.old + log_need self.old (length (spelling rec.now)) ≤ log_room self.old }
 
@@ -188,7 +188,7 @@ impl Log {
         ensures count { OnOk result (log_count self.new ≡ log_count self.old + 1) }
         ensures err { OnErr result (IsSameLog self.old self.new) }
         ensures place { IsPlaced self.old self.new }
-        // Where `reserve` took the memory, it takes none.
+        // With memory that `reserve` allocated it does not fail.
         ensures in_room { HasSpare self.old (length (spelling rec.now)) → IsOk result }
         ensures memory { KeepsMemory self.old self.new }
     {
@@ -198,7 +198,7 @@ impl Log {
         Ok(())
     }
 
-    /// Adds the records after the pending ones, where the log has room for them: all of them, or after an `Err` none.
+    /// Adds the records after the pending ones, if the log has room for them: all of them, or after an `Err` none.
     pub fn append_all(&mut self, records: &[Record]) -> Result<(), AllocError>
         requires { log_used_with self.old (length (spellings records.now)) ≤ log_room self.old }
 
@@ -208,7 +208,7 @@ impl Log {
         ensures count { OnOk result (log_count self.new ≡ log_count self.old + length records.now) }
         ensures err { OnErr result (IsSameLog self.old self.new) }
         ensures place { IsPlaced self.old self.new }
-        // Where `reserve` took the memory, it takes none.
+        // With memory that `reserve` allocated it does not fail.
         ensures in_room { HasSpare self.old (length (spellings records.now)) → IsOk result }
         ensures memory { KeepsMemory self.old self.new }
     {
@@ -226,7 +226,7 @@ impl Log {
 
         ensures disk { KeepsDisk D.Disk disk.old disk.new result }
 
-        // Where nothing waits there is nothing to do.
+        // If nothing is pending there is nothing to do.
         ensures idle { IsBufferEmpty self.old → (result ≡ Ok tt) × (disk.new ≡ disk.old) × (self.new ≡ self.old) }
 
         ensures kept { (batches : List (List Record)) (pending : List Record) → Keeps self.old batches pending → OnOk result (Keeps self.new (with_batch batches pending) []) }

@@ -1,4 +1,4 @@
-//! A log is read record by record, through a window of fixed size.
+//! Reads a log record by record, through a window of fixed size.
 ghost use Rattle.std.specs.Prelude.{◌≡◌, ◌≢◌, ℕ, ◌+◌, ◌-◌, ◌^◌, ◌<◌, ◌≤◌, ◌++◌, Bool, List, [], ◌∷◌, length, take, drop, slice_index, vec_len, vec_capacity, IsTrue, IsFalse, ◌↔◌, OnOk, IfOk, IfSome, Some, None, Ok, Err};
 ghost use Rattle.std.specs.Int.{w32, to_le_bytes};
 ghost use Rattle.disk_model.specs.Disk.{part};
@@ -19,7 +19,7 @@ use log_records::{
 };
 use std::alloc::{AllocError, AllocFailed, Global};
 
-/// How many bytes of a log are read at once, where no record needs more: no more are read behind what is needed.
+/// How many bytes of a log are read at once, unless a record needs more: no more are read past what is needed.
 const PIECE: usize = 65_536;
 
 /// The bytes of the longest record that is no list, a `Base` or a `Copy` of an object with 510 fields.
@@ -31,7 +31,7 @@ const LONGEST_SCAN: usize = SCAN_HEAD_BYTES + WRITE_BYTES * 65_535;
 /// Why a log could not be read.
 #[derive(Clone, Copy, Debug, PartialEq, Eq)]
 pub enum LogError {
-    /// Memory was refused.
+    /// Out of memory.
     NoMemory,
     /// The batch at that offset in the log doesn't lie within it, or doesn't hold whole records.
     BadBatch { at: u64 },
@@ -55,7 +55,7 @@ impl<T: Drop> From<AllocFailed<T>> for LogError {
     }
 }
 
-/// What has come of reading a log: which of its records were given, and a window of the bytes behind them.
+/// How far a log has been read: which of its records were given, and a window of the bytes after them.
 #[derive(Debug, Drop)]
 pub struct LogReader {
     // Where the log begins on the disk.
@@ -72,10 +72,10 @@ pub struct LogReader {
     first: u64,
     // How many records were given.
     given: u64,
-    // Bytes that were read, of which the first so many were taken.
+    // Bytes that were read, the first of which were taken.
     window: Vec<u8>,
     taken: usize,
-    // Room for the length of a batch in the log that is opened at the end, and memory for a gate behind it.
+    // Room for the length of a batch in the log that is opened at the end, and memory for a gate after it.
     buffer: Vec<u8>,
     ghost small: { room < 2 ^ 32 },
     ghost inside: { at + room < 2 ^ 64 },
@@ -93,7 +93,7 @@ impl LogReader {
     ghost use Rattle.gated_log.specs.LogState.{log_place, log_room, IsBufferEmpty, Keeps};
     ghost use Rattle.gated_log.specs.Reader.{reader_place, reader_room, reader_lsn, reader_batch, reader_left, reader_rest, held, held_size, untaken, HasRead, HasGiven, HasGivenAll, IsGiven, IsBegun, IsSameReader};
 
-    /// A reader of the log of `room` bytes from byte `at` of a disk on. It has given nothing.
+    /// A reader of the log of `room` bytes from byte `at` of a disk on. It has returned nothing yet.
     pub fn open(alloc: Global, at: u64, room: u32) -> Result<LogReader, AllocError>
         requires small { at + room < 2 ^ 64 }
         requires some { 0 < room }
@@ -208,7 +208,7 @@ impl LogReader {
         Ok(true)
     }
 
-    /// How many bytes of records the batch at the next gate claims, if these lie in the log with a gate behind them.
+    /// How many bytes of records the batch at the next gate claims, if these lie in the log with a gate after them.
     fn next_length<D: Disk>(&mut self, disk: &mut D) -> Result<Option<u32>, LogError>
         requires inside { reader_place self.old + reader_room self.old ≤ D.extent disk.old }
 
@@ -257,7 +257,7 @@ impl LogReader {
         Ok(record)
     }
 
-    /// Takes so many bytes that are in the window and spell so many records, behind which so many bytes of the batch's are left.
+    /// Takes `size` bytes that are in the window and spell `records` records, after which `left` bytes of the batch's are left.
     fn pass(&mut self, size: usize, records: u32, left: u32)
         requires here { size ≤ held_size self.old }
         requires some { records ≤ size }
@@ -282,7 +282,7 @@ impl LogReader {
         }
     }
 
-    /// Reads on until so many bytes of the log that were not taken are in the window.
+    /// Reads on until `wanted` bytes of the log that were not taken are in the window.
     fn fill<D: Disk>(&mut self, disk: &mut D, wanted: usize) -> Result<(), LogError>
         requires inside { reader_place self.old + reader_room self.old ≤ D.extent disk.old }
         requires rest { wanted ≤ reader_rest self.old }
@@ -304,8 +304,8 @@ impl LogReader {
     }
 }
 
-/// How many bytes a record takes at most that begins with this one, where so many are left of its batch. Of a `Flip` it may be all of
-/// them; for any other they are bounded, whatever an image tells.
+/// How many bytes a record that begins with this one takes at most, if `left` are left of its batch. Of a `Flip` it may be all of
+/// them; for any other they are bounded, whatever an image says.
 fn most_bytes(first: u8, left: usize) -> usize
     ensures most { result ≤ left }
     ensures few { first ≢ 9 → result ≤ 786427 }
@@ -321,7 +321,7 @@ fn most_bytes(first: u8, left: usize) -> usize
     }
 }
 
-/// Reads the `size` bytes of the disk from byte `at` on behind those in the buffer.
+/// Appends the `size` bytes of the disk from byte `at` on to those in the buffer.
 fn read_behind<D: Disk>(
     disk: &mut D,
     at: u64,

@@ -13,7 +13,7 @@ pub data Reached (g : Graph) : Id → Type 0 where
   at_root : Reached g root
   along : {id : Id} (i : ℕ) (target : Id) → Reached g id → slice_get (fields g id) i ≡ Some (Ref target) → Reached g target
 
--- the numbered ids, with the one that a value refers to behind them if it is new
+-- the numbered ids, followed by the one that a value refers to if it is new
 abbrev pub with_target : List Id → Val → List Id
 with_target ids (Ref id) = if list_any (is_same_id id) ids then ids else ids ++ id ∷ []
 with_target ids v = ids

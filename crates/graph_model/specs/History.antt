@@ -67,7 +67,7 @@ nothing_yet = record { begun = 0; active = λ s. None; sealed = []; in_doubt = N
 abbrev pub with_active : (ℕ → Option Transaction) → ℕ → Option Transaction → ℕ → Option Transaction
 with_active active s transaction session = if session == s then transaction else active session
 
--- the transaction with one call more
+-- the transaction with one more call
 abbrev pub with_call : Option Transaction → Event → Option Transaction
 with_call None event = None
 with_call (Some t) event = Some (record { number = t.number; calls = t.calls ++ event ∷ [] })
@@ -88,7 +88,7 @@ seals a s = record a { active = with_active a.active s None; sealed = a.sealed +
 abbrev pub aborts : Account → ℕ → Account
 aborts a s = record a { active = with_active a.active s None }
 
--- what an entry adds, by its reply: a reply that isn't named here is one to a call that was not refused
+-- what an entry adds, by its reply: the last seven are replies to calls, which were not refused
 abbrev pub done : Account → Event → Reply → Account
 done a event (Begun n) = begins a (session_of event) n
 done a event (Sealed n) = seals a (session_of event)
@@ -126,7 +126,7 @@ answered a event (Refused DiskFault) = cut_short a event
 answered a event (Refused Stopped) = cut_short a event
 answered a event reply = done a event reply
 
--- what the history says with one entry more
+-- what the history says with one more entry
 abbrev pub account_after : Account → Entry → Account
 account_after a entry = let b = answered a entry.event entry.reply in record b { entries = a.entries + 1 }
 

@@ -81,16 +81,16 @@ pub record IsBusy (g0 : Graph) (a : Account) (n : ℕ) (lock : Lock) (holder : �
 abbrev pub locks_conflict : Lock → Lock → Bool
 locks_conflict lock held = is_same_id held.0 lock.0 && modes_conflict held.1 lock.1
 
--- whether a transaction that runs on this graph stands in the way of a lock of transaction n
+-- whether a transaction that runs on this graph has a lock that conflicts with one of transaction n
 abbrev pub stands_in_the_way : Graph → ℕ → Lock → Transaction → Bool
 stands_in_the_way g n lock t = not (t.number == n) && list_any (locks_conflict lock) (locks_of g t)
 
--- its number, if there is one and it does
+-- its number, if there is one and it has
 abbrev pub holder_in_the_way : Graph → ℕ → Lock → Option Transaction → Option ℕ
 holder_in_the_way g n lock None = None
 holder_in_the_way g n lock (Some t) = if stands_in_the_way g n lock t then Some t.number else None
 
--- the numbers of all that do
+-- the numbers of all that have one
 abbrev pub holders_in_the_way : Graph → Account → ℕ → Lock → List ℕ
 holders_in_the_way g0 a n lock = filter_map (λ s. holder_in_the_way (serial g0 a.sealed) n lock (a.active s)) sessions
 
@@ -104,7 +104,7 @@ abbrev pub least : List ℕ → Option ℕ
 least [] = None
 least (n ∷ ns) = Some (lesser n (least ns))
 
--- the least of the numbers of those that stand in the way of a lock of transaction n, if it needs one
+-- the least of the numbers of those with a lock that conflicts with one of transaction n, if it needs one
 abbrev pub busy_holder : Graph → Account → ℕ → Option Lock → Option ℕ
 busy_holder g0 a n None = None
 busy_holder g0 a n (Some lock) = least (holders_in_the_way g0 a n lock)

@@ -5,7 +5,7 @@ use Rattle.graph_model.specs.declared.val.Val.{Val}
 use Rattle.graph_model.specs.Graph.{Graph, root, fields}
 use Rattle.graph_model.specs.Canon.{Reached, with_targets}
 
--- the numbered ids, with those that these rows of fields refer to behind them, each where it is first met
+-- the numbered ids, followed by those that these rows of fields refer to, each where it is first met
 abbrev pub with_rows : List Id → List (List Val) → List Id
 with_rows ids [] = ids
 with_rows ids (vs ∷ rows) = with_rows (with_targets ids vs) rows

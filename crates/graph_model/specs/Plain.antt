@@ -46,17 +46,17 @@ abbrev pub same_refusal : Option Id → Option Id → Option Refusal
 same_refusal (Some id) (Some other) = None
 same_refusal o p = Some BadHandle
 
--- why a field of the object that a handle holds can't be read or be null
+-- why a field of the object that a handle holds can't be read or set to null
 abbrev pub field_refusal : Graph → Option Id → ℕ → Option Refusal
 field_refusal g None i = Some BadHandle
 field_refusal g (Some id) i = if nat_le (length (fields g id)) i then Some BadField else None
 
--- why a field of the object that a handle holds can't be that number
+-- why a field of the object that a handle holds can't be set to that number
 abbrev pub put_refusal : Graph → Option Id → ℕ → ℕ → Option Refusal
 put_refusal g None i v = Some BadHandle
 put_refusal g (Some id) i v = if nat_le no_int v then Some Range else field_refusal g (Some id) i
 
--- why a field of the object that a handle holds can't refer to what another handle holds
+-- why a field of the object that a handle holds can't be set to refer to what another handle holds
 abbrev pub link_refusal : Graph → Option Id → ℕ → Option Id → Option Refusal
 link_refusal g o i None = Some BadHandle
 link_refusal g o i (Some id) = field_refusal g o i
@@ -79,7 +79,7 @@ abbrev pub call_refusal : Graph → Account → Option Transaction → Event →
 call_refusal g0 a None event = Some NotActive
 call_refusal g0 a (Some t) event = view_refusal (view g0 a t) event
 
--- why an event is refused for what it asks
+-- why an event is refused for what it asks for
 abbrev pub event_refusal : ℕ → Graph → Account → Event → Option Refusal
 event_refusal next g0 a (Begin s) = if is_some (a.active s) then Some AlreadyActive else if next == no_number then Some NumbersSpent else None
 event_refusal next g0 a Force = None
@@ -112,12 +112,12 @@ call_conflict g0 a (Some t) event = busy_with (busy_holder g0 a t.number (lock_o
 abbrev pub conflict_refusal : Graph → Account → Event → Option Refusal
 conflict_refusal g0 a event = call_conflict g0 a (a.active (session_of event)) event
 
--- the first reason of two
+-- the first of two reasons
 abbrev pub first_of_two : Option Refusal → Option Refusal → Option Refusal
 first_of_two None second = second
 first_of_two (Some why) second = Some why
 
--- why an event is refused, of a heap that has not failed and whose next transaction has this number: for what it asks, and then for
+-- why an event is refused, of a heap that has not failed and whose next transaction has this number: for what it asks for, and then for
 -- what others hold
 abbrev pub model_refusal : ℕ → Graph → Account → Event → Option Refusal
 model_refusal next g0 a event = first_of_two (event_refusal next g0 a event) (conflict_refusal g0 a event)
@@ -159,7 +159,7 @@ abbrev pub reply_of : Option Refusal → Reply → Reply
 reply_of None reply = reply
 reply_of (Some why) reply = Refused why
 
--- What a plain heap answers that was opened with graph g0 and this first number.
+-- What a plain heap that was opened with graph g0 and this first number answers.
 abbrev pub plain_reply : ℕ → Graph → Account → Event → Reply
 plain_reply first g0 a event =
     let next = first + a.begun in

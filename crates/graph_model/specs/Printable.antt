@@ -5,7 +5,7 @@ use Rattle.graph_model.specs.declared.val.Val.TheVariants.{Int}
 use Rattle.graph_model.specs.Graph.{Graph, fields}
 use Rattle.graph_model.specs.Canon.{Reached, numbered}
 
--- The numbers in the fields of what is reached are below 2 ^ 64, and so many objects are reached.
+-- The numbers in the fields of what is reached are below 2 ^ 64, and fewer than 2 ^ 64 objects are reached.
 pub record IsPrintable (g : Graph) : Type 0 where
   pub numbers : (id : Id) (i n : ℕ) → Reached g id → slice_get (fields g id) i ≡ Some (Int n) → n < 2 ^ 64
   pub objects : length (numbered g) < 2 ^ 64

@@ -24,13 +24,13 @@ pub enum Refusal {
     BadField,
     /// There is no page of that number.
     NoSuchPage,
-    /// Other transactions hold the object in a way that conflicts; this is the least of their numbers.
+    /// Other transactions hold conflicting locks on the object; this is the least of their numbers.
     Busy { holder: u64 },
     /// The transaction's volatile area has no room: that many of its words are used.
     VolatileFull { used: u64 },
-    /// The space has no room: the event needs so many words, so many are free, and so many of these are kept for copies.
+    /// The space has no room: the event needs `need` words, `free` are free, and `owed` of these are kept for copies.
     Exhausted { need: u64, free: u64, owed: u64 },
-    /// The log has no room: so many bytes are used, the event needs so many, and so many are kept for what must not fail.
+    /// The log has no room: `used` bytes are used, the event needs `need`, and `reserved` are kept for what must not fail.
     LogFull { used: u64, need: u64, reserved: u64 },
     /// The disk failed in this event.
     DiskFault,

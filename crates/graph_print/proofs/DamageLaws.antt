@@ -1,4 +1,4 @@
--- Damage is told at one address, and nowhere where a graph is seen.
+-- Damage is reported at one address only, and at none if a graph is seen.
 use Rattle.std.proofs.Common.{◌≡◌, ℕ, zero, suc, ◌<◌, inl, inr, List, [], ◌∷◌, map, Option, Some, None, refl, sym, ap, ◌∙◌, subst, arith}
 use Rattle.std.specs.Prelude.{slice_get, IsSome}
 use Rattle.std.specs.Option.{option_and_then}
@@ -14,7 +14,7 @@ use Rattle.object_layout.specs.Layout.{field_words, stand, as_ref, value, IsSeen
 use Rattle.graph_print.specs.Order.{with_places, targets, IsWholeField, AreWhole, IsOrder, first, next, IsDamage, no_root, no_object}
 use Rattle.graph_print.proofs.OrderLaws.{order_met, met_get}
 
--- the order is one at each count
+-- the order is unique at each count
 pub order_one : (words : List ℕ) (start c d : ℕ) (p q : List ℕ) → c ≡ d → IsOrder words start c p → IsOrder words start d q → p ≡ q
 order_one words start c d p q same (first {at = a} is) (first {at = b} is') = ap (λ x. x ∷ []) (same_Some a b (sym is ∙ is'))
 order_one words start c d p q same (first is) (next at order is' whole) = absurd (omega arith)
@@ -25,7 +25,7 @@ order_one words start c d p q same (next {count = n} {places = ps} a order is wh
     let one : a ≡ b = same_Some a b (sym is ∙ ap (slice_get ps) counts ∙ ap (λ xs. slice_get xs m) places ∙ is') in
     ap (λ xs. with_places xs (targets words (field_words words a))) places ∙ ap (λ x. with_places qs (targets words (field_words words x))) one
 
--- an object that an order has gone over
+-- an object that an order has visited
 pub record WasVisited (words : List ℕ) (start count : ℕ) : Type 0 where
   pub places : List ℕ
   pub at : ℕ
@@ -33,7 +33,7 @@ pub record WasVisited (words : List ℕ) (start count : ℕ) : Type 0 where
   pub is : slice_get places count ≡ Some at
   pub whole : AreWhole words (field_words words at)
 
--- an order has gone over each object before its count
+-- an order has visited each object before its count
 pub order_visited : (words : List ℕ) (start c d : ℕ) (p : List ℕ) → IsOrder words start c p → d < c → WasVisited words start d
 order_visited words start c d p (first is) less = absurd (omega arith)
 order_visited words start c d p (next {count = n} {places = ps} at order is whole) less = elim (cases_order d n) [
@@ -42,7 +42,7 @@ order_visited words start c d p (next {count = n} {places = ps} at order is whol
   | inr (inr above) ↦ absurd (omega arith)
 ]
 
--- where an order has begun an object stands
+-- where an order has reached an object stands
 pub order_root : (words : List ℕ) (start count : ℕ) (places : List ℕ) → IsOrder words start count places → (at : ℕ) × (stand words start ≡ Some at)
 order_root words start count places (first {at = at} is) = (at, is)
 order_root words start count places (next {count = n} {places = ps} at order is whole) = order_root words start n ps order
@@ -54,7 +54,7 @@ visited_whole words start c d p q at order is later less =
     let one : visited.at ≡ at = same_Some visited.at at (sym visited.is ∙ ap (λ xs. slice_get xs c) (sym places) ∙ is) in
     subst (λ (x : ℕ). AreWhole words (field_words words x)) one visited.whole
 
--- where all is gone over there is none
+-- once all are visited there is no damage
 pub complete_damage : (words : List ℕ) (start count : ℕ) (places : List ℕ) (at : ℕ) → IsOrder words start count places → slice_get places count ≡ None → IsDamage words start at → ⊥
 complete_damage words start count places at order over (no_root none) =
     let root = order_root words start count places order in let clash = sym none ∙ root.1 in cc
@@ -90,7 +90,7 @@ values_whole name words (x ∷ ws) (v ∷ vs) is zero w here =
 values_whole name words (x ∷ ws) (v ∷ vs) is (suc i) w here =
     let rest : map (λ y. value name words (meaning y)) ws ≡ map Some vs = cc in values_whole name words ws vs rest i w here
 
--- where a graph is seen there is none
+-- if a graph is seen there is none
 pub seen_damage : (name : ℕ → Id) (words : List ℕ) (start : ℕ) (g : Graph) (at : ℕ) → IsSeenAs name words start g → IsDamage words start at → ⊥
 seen_damage name words start g at seen (no_root none) = let clash = sym none ∙ seen.stands in cc
 seen_damage name words start g at seen (no_object {count = c} {places = p} x order is out) =

@@ -52,7 +52,7 @@ place_grows : (places : List ℕ) (o : Option ℕ) → (more : List ℕ) × (wit
 place_grows places None = ([], sym (append-nil places))
 place_grows places (Some at) = added_grows (list_any (nat_eq at) places) places at
 
--- places are only added behind those that are numbered
+-- places are only added after those that are numbered
 pub places_grow : (places : List ℕ) (os : List (Option ℕ)) → (more : List ℕ) × (with_places places os ≡ places ++ more)
 places_grow places [] = ([], sym (append-nil places))
 places_grow places (o ∷ os) =
@@ -79,7 +79,7 @@ place_numbered places at = added_numbered (list_any (nat_eq at) places) places a
 abbrev pub AreNumbered : List ℕ → List ℕ → List ℕ → Type 0
 AreNumbered words places ws = (i w t : ℕ) → slice_get ws i ≡ Some w → target words w ≡ Some t → IsNumbered places t
 
--- they do so once they are gone over
+-- they do so once they are visited
 pub targets_numbered : (words places ws : List ℕ) → AreNumbered words (with_places places (targets words ws)) ws
 targets_numbered words places [] i w t is leads = cc
 targets_numbered words places (x ∷ ws) zero w t is leads =
@@ -109,7 +109,7 @@ row_stays words places more (w ∷ ws) known =
     ap (λ s. s ∷ row words (places ++ more) ws) (word_stays words places more (meaning w) (λ t leads. known zero w t refl leads))
     ∙ ap (λ r. shown_word words places (meaning w) ∷ r) (row_stays words places more ws (λ i. known (suc i)))
 
--- one field more of a row
+-- one more field of a row
 pub row_push : (words places ws : List ℕ) (w : ℕ) → AreNumbered words places ws
     → row words (with_place places (target words w)) (ws ++ w ∷ []) ≡ row words places ws ++ shown_word words (with_place places (target words w)) (meaning w) ∷ []
 row_push words places ws w known =
@@ -117,12 +117,12 @@ row_push words places ws w known =
     map-append (λ x. shown_word words (with_place places (target words w)) (meaning x)) ws (w ∷ [])
     ∙ ap (λ r. r ++ shown_word words (with_place places (target words w)) (meaning w) ∷ []) (ap (λ ps. row words ps ws) more.1 ∙ row_stays words places more.0 ws known)
 
--- one field more to go over
+-- one more field to visit
 pub places_push : (places : List ℕ) (os : List (Option ℕ)) (o : Option ℕ) → with_places places (os ++ o ∷ []) ≡ with_place (with_places places os) o
 places_push places [] o = refl
 places_push places (x ∷ os) o = places_push (with_place places x) os o
 
--- the objects that were gone over lead to what has a number
+-- the objects that were visited lead to what has a number
 abbrev pub AreClosed : List ℕ → List ℕ → ℕ → Type 0
 AreClosed words places count = (k at : ℕ) → k < count → slice_get places k ≡ Some at → AreNumbered words places (field_words words at)
 
@@ -165,7 +165,7 @@ take_next : (xs : List ℕ) (n x : ℕ) → slice_get xs n ≡ Some x → take (
 take_next xs n x is =
     take_more xs n 0 (slice_get_within xs n x is) ∙ ap (λ y. take n xs ++ y ∷ []) (get_or_from_slice_get xs n x 0 is)
 
--- one row more
+-- one more row
 pub rows_push : (words : List ℕ) (start count : ℕ) (places : List ℕ) (at : ℕ) → IsOrder words start count places → slice_get places count ≡ Some at
     → let after = with_places places (targets words (field_words words at)) in
     rows words after (take (count + 1) after) ≡ rows words places (take count places) ++ row words after (field_words words at) ∷ []

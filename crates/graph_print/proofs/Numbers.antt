@@ -36,7 +36,7 @@ any_told : (p : ℕ → Bool) (xs : List ℕ) (n : ℕ) (t : Bool) → list_any 
 any_told p xs n true is told = refl
 any_told p xs n false is told = let clash = sym (no_number p xs is) ∙ told in cc
 
--- a number that is told is one
+-- a number that the map has is one
 pub told_any : (p : ℕ → Bool) (xs : List ℕ) (n : ℕ) → position p xs ≡ Some n → list_any p xs ≡ true
 told_any p xs n told = any_told p xs n (list_any p xs) refl told
 
@@ -44,7 +44,7 @@ any_none : (p : ℕ → Bool) (xs : List ℕ) (t : Bool) → list_any p xs ≡ t
 any_none p xs false is told = refl
 any_none p xs true is told = let clash = sym (a_number p xs is) ∙ told in cc
 
--- where none is told there is none
+-- if the map has none there is none
 pub none_any : (p : ℕ → Bool) (xs : List ℕ) → position p xs ≡ None → list_any p xs ≡ false
 none_any p xs told = any_none p xs (list_any p xs) refl told
 
@@ -104,7 +104,7 @@ numbering_first at numbers fits tells = record {
   told = λ q. tells q ∙ push_told [] at q (eq_by_cmp nat_cmp at q) None refl refl refl;
 }
 
--- the map with one place more
+-- the map with one more place
 pub numbering_push : (places : List ℕ) (old new : ℕ → Option ℕ) (at : ℕ) → IsNumbering places old → at < 4294967296 → old at ≡ None
     → ((q : ℕ) → new q ≡ cond (eq_by_cmp nat_cmp at q) (Some (length places)) (old q)) → IsNumbering (places ++ at ∷ []) new
 numbering_push places old new at numbering fits none tells =

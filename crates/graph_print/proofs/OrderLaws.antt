@@ -77,7 +77,7 @@ name_test : (name : ℕ → Id) (words : List ℕ) (start : ℕ) (g : Graph) (a 
 name_test name words start g a b seen one other =
     same_test name a b (is_same_id (name a) (name b)) (nat_eq a b) (seen.apart a b one other) refl refl
 
--- The test of a place among the numbered is that of its name.
+-- Testing a place among the numbered ones is testing its name.
 name_any : (name : ℕ → Id) (words : List ℕ) (start : ℕ) (g : Graph) (at : ℕ) (places : List ℕ) → IsSeenAs name words start g → IsMet words start at → AreMet words start places
     → list_any (is_same_id (name at)) (map name places) ≡ list_any (nat_eq at) places
 name_any name words start g at [] seen met all = refl
@@ -124,7 +124,7 @@ named_places name words start g places (w ∷ ws) (v ∷ vs) seen all leads is =
 known_fields : (name : ℕ → Id) (words : List ℕ) (g : Graph) (at : ℕ) (known : IsKnown name words g at) → fields g (name at) ≡ known.fields
 known_fields name words g at known = ap (λ o. unwrap_or o []) known.is
 
--- The canon's visits go as the numbering does.
+-- The canon's visits follow the numbering.
 order_visit : (name : ℕ → Id) (words : List ℕ) (start : ℕ) (g : Graph) (count : ℕ) (places : List ℕ) (n : ℕ) → IsSeenAs name words start g → IsOrder words start count places
     → visit g (n + count) 0 (Some root) (root ∷ []) ≡ visit g n count (slice_get (map name places) count) (map name places)
 order_visit name words start g count places n seen (first {at = at} is) =
@@ -147,7 +147,7 @@ no_next : (g : Graph) (n i : ℕ) (ids : List Id) → visit g n i None ids ≡ i
 no_next g zero i ids = refl
 no_next g (suc n) i ids = refl
 
--- When all are gone over, the names of the places are what the canon numbers.
+-- Once all are visited, the names of the places are what the canon numbers.
 order_numbered : (name : ℕ → Id) (words : List ℕ) (start : ℕ) (g : Graph) (count : ℕ) (places : List ℕ) → IsSeenAs name words start g → IsOrder words start count places
     → slice_get places count ≡ None → numbered g ≡ map name places
 order_numbered name words start g count places seen order over =
@@ -205,7 +205,7 @@ shown_rows name words start g places (at ∷ ats) seen all met =
     ap (λ r. r ∷ rows_of g (map name places) (map name ats)) here
     ∙ ap (λ rs. row words places (field_words words at) ∷ rs) (shown_rows name words start g places ats seen all met.1)
 
--- When all are gone over, the rows are the canon of each graph that is seen, whatever its names.
+-- Once all are visited, the rows are the canon of each graph that is seen, whatever its names.
 pub order_canon : (name : ℕ → Id) (words : List ℕ) (start : ℕ) (g : Graph) (count : ℕ) (places : List ℕ) → IsSeenAs name words start g → IsOrder words start count places
     → slice_get places count ≡ None → canon g ≡ rows words places places
 order_canon name words start g count places seen order over =

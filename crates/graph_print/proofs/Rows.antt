@@ -40,14 +40,14 @@ order_push words p0 p1 p2 ws w all one =
     ∙ sym (places_push p0 (targets words ws) (target words w))
     ∙ ap (with_places p0) (sym (map-append (target words) ws (w ∷ [])))
 
--- one field more, without its text
+-- one more field, without its text
 pub numbered_more : (words p0 p1 p2 ws : List ℕ) (w : ℕ) → AreFieldsNumbered words p0 p1 ws → IsFieldNumbered words p1 p2 w → AreFieldsNumbered words p0 p2 (ws ++ w ∷ [])
 numbered_more words p0 p1 p2 ws w all one = record {
   whole = whole_push words ws w all.whole one.whole;
   order = order_push words p0 p1 p2 ws w all.order one.order;
 }
 
--- one field more
+-- one more field
 pub fields_more : (words p0 p1 p2 t0 t1 t2 ws : List ℕ) (w : ℕ) → AreFieldsPrinted words p0 p1 t0 t1 ws → IsFieldPrinted words p1 p2 t1 t2 w → AreFieldsPrinted words p0 p2 t0 t2 (ws ++ w ∷ [])
 fields_more words p0 p1 p2 t0 t1 t2 ws w all one =
     let order = order_push words p0 p1 p2 ws w all.order one.order in
@@ -97,7 +97,7 @@ order_within words start count places (next {count = before} {places = ps} at or
 regroup : (t d c f n : List ℕ) → (((t ++ d) ++ c) ++ f) ++ n ≡ t ++ (((d ++ c) ++ f) ++ n)
 regroup t d c f n = simp append_assoc
 
--- one row more
+-- one more row
 pub rows_more : (words : List ℕ) (start count : ℕ) (places after text printed : List ℕ) (at : ℕ) → IsOrder words start count places → slice_get places count ≡ Some at
     → text ≡ rows_text 0 (rows words places (take count places))
     → AreFieldsPrinted words places after (text ++ decimal count ++ codes ":") printed (field_words words at)
@@ -135,7 +135,7 @@ rows_count words start count places order over =
     let long = length-map places (λ x. row words places (field_words words x)) in
     omega arith
 
--- when all are gone over, they are as many as the canon has rows
+-- once all are visited, they are as many as the canon has rows
 pub order_count : (name : ℕ → Id) (words : List ℕ) (start : ℕ) (g : Graph) (count : ℕ) (places : List ℕ) → IsSeenAs name words start g → IsOrder words start count places
     → slice_get places count ≡ None → count ≡ length (canon g)
 order_count name words start g count places seen order over =

@@ -3,12 +3,12 @@ use Rattle.std.specs.Prelude.{◌≡◌, ℕ, List}
 use Rattle.heap_words.specs.Word.{meaning}
 use Rattle.graph_print.specs.Order.{with_place, with_places, target, targets, IsWholeField, AreWhole}
 
--- A field is gone over: it names an object if it is a reference, which has a number then.
+-- A field is visited: if it is a reference it names an object, which has a number then.
 pub record IsFieldNumbered (words : List ℕ) (places after : List ℕ) (w : ℕ) : Type 0 where
   pub whole : IsWholeField words (meaning w)
   pub order : after ≡ with_place places (target words w)
 
--- The same of fields one after another.
+-- The same for fields one after another.
 pub record AreFieldsNumbered (words : List ℕ) (places after : List ℕ) (ws : List ℕ) : Type 0 where
   pub whole : AreWhole words ws
   pub order : after ≡ with_places places (targets words ws)

@@ -1,4 +1,4 @@
--- A map that tells the numbers of places.
+-- A map that has the numbers of places.
 use Rattle.std.specs.Prelude.{◌≡◌, ℕ, ◌<◌, List, true, nat_eq, position, Option}
 use Rattle.std.specs.List.{list_any, IsDistinct}
 

@@ -7,7 +7,7 @@ use Rattle.heap_words.specs.Word.{meaning}
 use Rattle.graph_model.specs.Canon.{Shown, Nothing, Number, Object}
 use Rattle.object_layout.specs.Layout.{field_words, stand, referred}
 
--- the numbered places, with this one behind them if it is new
+-- the numbered places, followed by this one if it is new
 abbrev pub with_place : List ℕ → Option ℕ → List ℕ
 with_place places None = places
 with_place places (Some at) = if list_any (nat_eq at) places then places else places ++ at ∷ []
@@ -36,14 +36,14 @@ IsWholeField words meant = ⊥
 abbrev pub AreWhole : List ℕ → List ℕ → Type 0
 AreWhole words ws = (i w : ℕ) → slice_get ws i ≡ Some w → IsWholeField words (meaning w)
 
--- The places that are numbered when the fields of so many of them were gone over, in the order of their numbers: the first is where an
--- address leads, and each object gives a number to those that its fields refer to and that have none.
+-- The places that are numbered after the fields of the first `count` of them were visited, in the order of their numbers: the first is where
+-- an address leads, and each object gives a number to those that its fields refer to and that have none.
 pub data IsOrder (words : List ℕ) (start : ℕ) : ℕ → List ℕ → Type 0 where
   first : {at : ℕ} → stand words start ≡ Some at → IsOrder words start 0 (at ∷ [])
   next : {count : ℕ} {places : List ℕ} (at : ℕ) → IsOrder words start count places → slice_get places count ≡ Some at → AreWhole words (field_words words at)
       → IsOrder words start (count + 1) (with_places places (targets words (field_words words at)))
 
--- The address that damage is told at: the one that is printed, where it names no object; else that of the first object, in the order of
+-- The address at which damage is reported: the one that is printed, if it names no object; otherwise that of the first object, in the order of
 -- the numbers, with a field that names none.
 pub data IsDamage (words : List ℕ) (start : ℕ) : ℕ → Type 0 where
   no_root : stand words start ≡ None → IsDamage words start start

@@ -1,4 +1,4 @@
--- The disk's error in what a print answered.
+-- The disk's error in the result of a print.
 use Rattle.std.specs.Prelude.{Option, Some, None, Result, Err}
 use Rattle.disk_model.specs.declared.disk.DiskError.{DiskError}
 use Rattle.graph_print.specs.declared.print_error.PrintError.{PrintError}

@@ -1,4 +1,4 @@
-//! How many objects a graph has, from the words in which it is seen: they are numbered as for its text, and no text is made.
+//! How many objects a graph has, from the words in which it is seen: they are numbered as for its text, but no text is made.
 ghost use Rattle.std.specs.Prelude.{◌≡◌, ℕ, Some, IsTrue, IsSome, IfOk, OnOk, Err, MatchBool, length};
 ghost use Rattle.heap_words.specs.Word.{meaning};
 ghost use Rattle.graph_model.specs.declared.id.Id.{Id};
@@ -17,7 +17,7 @@ use heap_words::{Word, decode};
 use object_layout::{ReadError, Words, fields, stand};
 use std::alloc::Global;
 
-/// How many objects the graph has that is seen from the word address `root`. Where `root` or a field that is met names no object, it tells the
+/// How many objects the graph has that is seen from the word address `root`. If `root` or a field that is met names no object, it reports the
 /// first such as `canon_text` does.
 pub fn canon_count<W: Words>(alloc: Global, words: &mut W, root: u32) -> Result<u64, PrintError>
     ensures count { IsTrue W.tells → IfOk result (λ count. (name : ℕ → Id) (g : Graph) → IsSeenAs name (W.content words.old) root g → count ≡ length (canon g)) }
@@ -49,7 +49,7 @@ fn count_from<W: Words>(alloc: Global, words: &mut W, first: u32) -> Result<u64,
     Ok(count as u64)
 }
 
-// Numbers what the fields of the object at an address refer to, if each is null, a number or names an object, and says whether they all were.
+// Numbers what the fields of the object at an address refer to, if each is null, a number or names an object, and returns whether they all were.
 fn number_object<W: Words>(
     alloc: Global,
     words: &mut W,
@@ -65,7 +65,7 @@ fn number_object<W: Words>(
     }
 }
 
-// The same of fields with these words.
+// The same for fields with these words.
 fn number_fields<W: Words>(
     words: &mut W,
     order: &mut Order,
@@ -82,7 +82,7 @@ fn number_fields<W: Words>(
     Ok(true)
 }
 
-// The same of one field.
+// The same for one field.
 fn number_field<W: Words>(words: &mut W, order: &mut Order, word: u64) -> Result<bool, ReadError>
     ensures numbered { IsTrue W.tells → IfOk result (λ whole. MatchBool whole (IsFieldNumbered (W.content words.old) order.old order.new word) (IsWholeField (W.content words.old) (meaning word) → ⊥)) }
     ensures read { IsRead W.tells W.extent W.content W.keeps W.faults W.stops words.old words.new (read_failure result) }

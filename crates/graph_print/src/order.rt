@@ -27,7 +27,7 @@ impl Model for Order {
 }
 
 impl Order {
-    /// The place that has number 0. It fails only where memory is lacking.
+    /// The place that has number 0. It fails only if memory runs out.
     pub(crate) fn of(alloc: Global, first: u32) -> Result<Order, AllocError>
         ensures { IfOk result (λ order. order ≡ first ∷ []) }
     {
@@ -53,7 +53,7 @@ impl Order {
         self.places.get(number).copied()
     }
 
-    /// The number of a place, a new one if it has none. It fails only where memory is lacking, and then nothing changes.
+    /// The number of a place, a new one if it has none. It fails only if memory runs out, and then nothing changes.
     pub(crate) fn number(&mut self, at: u32) -> Result<usize, AllocError>
         ensures placed { OnOk result (self.new ≡ with_place self.old (Some at)) }
         ensures number { IfOk result (λ number. number ≡ place_number self.new at) }

@@ -18,8 +18,8 @@ use heap_words::{Word, decode};
 use object_layout::{ReadError, Words, fields, stand};
 use std::alloc::Global;
 
-/// The text of the graph that is seen from the word address `root`: its objects numbered breadth first, and a row for each. Where `root` or
-/// a field that is met names no object, it tells the first such, in the order of the numbers, by the address of its object.
+/// The text of the graph that is seen from the word address `root`: its objects numbered breadth first, and a row for each. If `root` or
+/// a field that is met names no object, it reports the first such, in the order of the numbers, by the address of its object.
 pub fn canon_text<W: Words>(alloc: Global, words: &mut W, root: u32) -> Result<Vec<u8>, PrintError>
     ensures text { IsTrue W.tells → IfOk result (λ text. (name : ℕ → Id) (g : Graph) → IsSeenAs name (W.content words.old) root g → text.items ≡ text_of (canon g)) }
     ensures damage { IsTrue W.tells → (at : ℕ) → result ≡ Err (PrintError.Damaged at) → IsDamage (W.content words.old) root at }
@@ -54,7 +54,7 @@ fn print_from<W: Words>(alloc: Global, words: &mut W, first: u32) -> Result<Vec<
     Ok(text.into_bytes())
 }
 
-// Prints the fields of the object at an address, if each is null, a number or names an object, and says whether they all were.
+// Prints the fields of the object at an address, if each is null, a number or names an object, and returns whether they all were.
 fn push_object<W: Words>(
     alloc: Global,
     words: &mut W,
@@ -71,7 +71,7 @@ fn push_object<W: Words>(
     }
 }
 
-// The same of fields with these words.
+// The same for fields with these words.
 fn push_fields<W: Words>(
     words: &mut W,
     order: &mut Order,
@@ -89,7 +89,7 @@ fn push_fields<W: Words>(
     Ok(true)
 }
 
-// The same of one field.
+// The same for one field.
 fn push_field<W: Words>(
     words: &mut W,
     order: &mut Order,

@@ -22,7 +22,7 @@ abbrev pub area_words : (Id → Word) → Graph → ℕ → ℕ → List ℕ
 area_words place g t zero = []
 area_words place g t (suc n) = area_words place g t n ++ object_words place g (made_by t (suc n))
 
--- An object that a transaction made is in its graph: it has a length that a header can tell, and its values can be seen.
+-- An object that a transaction made is in its graph: it has a length that a header can hold, and its values can be seen.
 pub record IsMade (places : Places) (g : Graph) (t made k : ℕ) : Type 0 where
   pub values : List Val
   pub is : get g (made_by t k) ≡ Some values
@@ -35,6 +35,6 @@ pub record HasMade (places : Places) (g : Graph) (t made : ℕ) : Type 0 where
   pub apart : (k : ℕ) → address_of places (made_by t k) ≡ None
   pub few : area_used g t made ≤ VOLATILE_WORDS
 
--- the area of transaction t, which has made so many objects of a graph
+-- the area of transaction t, which has made that many objects of a graph
 abbrev pub area_of : (Id → Word) → Graph → ℕ → ℕ → AreaState
 area_of place g t made = record { transaction = t; made = made; words = area_words place g t made }

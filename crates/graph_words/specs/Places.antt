@@ -31,7 +31,7 @@ size_of g id = 2 + length (fields g id)
 abbrev pub made_by : ℕ → ℕ → Id
 made_by t k = record { t = t; k = k }
 
--- the root, or an object that a transaction made whose number is below the next one
+-- the root, or an object made by a transaction whose number is below the next one
 abbrev pub IsOld : ℕ → Id → Type 0
 IsOld next id = (id ≡ root) ⊎ ((1 ≤ id.k) × (id.t < next))
 
@@ -39,7 +39,7 @@ IsOld next id = (id ≡ root) ⊎ ((1 ≤ id.k) × (id.t < next))
 abbrev pub AreOld : ℕ → Places → Type 0
 AreOld next places = AllByRecursion (λ p. IsOld next p.0) places
 
--- the words that the first n objects take which transaction t made
+-- the words that the first n objects of transaction t take
 abbrev pub area_used : Graph → ℕ → ℕ → ℕ
 area_used g t zero = 0
 area_used g t (suc n) = area_used g t n + size_of g (made_by t (suc n))
@@ -67,7 +67,7 @@ word_of place (Ref id) = place id
 abbrev pub bits_of : (Id → Word) → Val → ℕ
 bits_of place v = bits (word_of place v)
 
--- an object that transaction t made, which has made so many
+-- an object that transaction t made, which has made that many
 pub record IsOwn (t made : ℕ) (id : Id) : Type 0 where
   pub maker : id.t ≡ t
   pub first : 1 ≤ id.k

@@ -44,7 +44,7 @@ words_taken area at = 2 + length_at area.words at
 abbrev pub Move : Type 0
 Move = ℕ × ℕ
 
--- the objects with these indices get the words from an address on, one behind the other
+-- the objects with these indices get the words from an address on, one after the other
 abbrev pub moves_to : AreaState → List ℕ → ℕ → List Move
 moves_to area [] address = []
 moves_to area (at ∷ rest) address = (at, address) ∷ moves_to area rest (address + words_taken area at)

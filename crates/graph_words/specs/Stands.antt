@@ -21,7 +21,7 @@ pub record StandsAt (place : Id → Word) (g : Graph) (words : List ℕ) (id : I
   pub object : object_at words at ≡ Some (length values)
   pub fields : field_words words at ≡ map (bits_of place) values
 
--- A graph stands in the used words of a space, as transaction t sees it that has made so many objects: the objects of these places stand
+-- A graph stands in the used words of a space, as transaction t, which has made that many objects, sees it: the objects of these places stand
 -- there end to end, the root first, no two of one name, and their references lead to objects at hand.
 pub record Stands (t made : ℕ) (places : Places) (g : Graph) (words : List ℕ) (base used : ℕ) : Type 0 where
   pub below : base + used ≤ STABLE_WORDS

@@ -29,7 +29,7 @@ ended n left before mid now result Failed is more so_far last = record {
   stopped = λ same any. absurd (cc (is, same));
 }
 
--- a run that ended at an error, behind others that passed and before others that were not made
+-- a run that ended at an error, after others that passed and before others that were not made
 pub then_err : (n m all before mid now : ℕ) (e : DiskError) → n + m < all → mid ≡ counted n before → Passes m mid now (Err e) → Passes all before now (Err e)
 then_err n m all before mid now e more first run =
     let is : now ≡ counted (n + run.some.0) before = run.some.2 ∙ ap (counted run.some.0) first ∙ counted-add run.some.0 n before in

@@ -21,7 +21,7 @@ module _ {D : Type 0} (g : Ghosts D) where
     stopped = λ is. rose_since _ _ _ stops cause.stops_kept (cause.stopped is);
   }
 
-  -- with calls behind
+  -- with calls after
   pub caused_until : (old mid new : D) (reply : Reply) → g.faults mid ≤ g.faults new → g.stops mid ≤ g.stops new → IsCausedBy g old mid reply → IsCausedBy g old new reply
   caused_until old mid new reply faults stops cause = record {
     faults_kept = omega (arith, faults, cause.faults_kept);

@@ -59,7 +59,7 @@ told_by : (o : Option State) (records : List Record) (page objects words : ℕ) 
 told_by None records page objects words is = absurd (cc is)
 told_by (Some s) records page objects words is = told_in s records s.collection (next_page s.collection) page objects words is
 
--- an answer that tells what was copied is that of a scan that was granted
+-- an answer that says what was copied is that of a scan that was granted
 told_of : (d : Core) (o : Option Refusal) (page objects words : ℕ) → reply_of o (granted_by d Scan) ≡ reply.Scanned page objects words → AreTold objects words (added d Scan o)
 told_of d None page objects words is =
     subst (AreTold objects words) (sym (added_granted d Scan)) (told_by (ground d).state (own_records d Scan) page objects words is)
@@ -79,7 +79,7 @@ begins_none : (d : Core) (o : Option Refusal) → BeginsNone (reply_of o (grante
 begins_none d None = begins_by (ground d).state (own_records d Scan)
 begins_none d (Some why) = tt
 
--- A run with a scan behind it.
+-- A run with a scan after it.
 
 run_scan : (c d : Core) (events : List Event) → IsRun c events d → IsRun c (events ++ Scan ∷ []) (after d Scan)
 run_scan c d [] run = (answer c Scan, after c Scan, inl (refl, refl), ap (λ (x : Core). after x Scan) run)
@@ -117,7 +117,7 @@ told_of_scan d next answered reached step = record {
   exact = λ c used idle way is. exact_law idle.first c d idle.events way.events way.objects way.words used idle.reached idle.idle idle.sessions idle.run way.flipped way.sessions way.run way.alone (answered_end d next answered used step is);
 }
 
--- what a step answers tells of the collection
+-- what a step answers about the collection
 pub collects_as_told : (d next : Core) (event : Event) (answered : Reply) → IsReached d → IsStep d event answered next → CollectsAsTold d event answered
 collects_as_told d next event answered reached step = record {
   few = λ other. few_of d event (core_refusal d event) (pause_law d event reached other);

@@ -14,7 +14,7 @@ module _ (s : Super) (c : Core) (image : List ℕ) (may_leave : List ℕ → Typ
   leaves_as None is d left = disk_leaves s c image may_leave (holds.unfailed is) sound d left
   leaves_as (Some entry) is d left = holds.failed (λ none. let never : None ≡ Some entry = sym none ∙ is in cc) d left
 
-  -- a crash leaves the heap's first commits, and the bytes behind the plan
+  -- a crash leaves a commit prefix of the heap, and the bytes past the plan
   pub heap_left : (d : List ℕ) → may_leave d → IsLeftByStep c image d
   heap_left d left = leaves_as (account c.history).failed refl d left
 

@@ -27,7 +27,7 @@ use Rattle.page_store.specs.Page.{frame_of}
 use Rattle.page_cache.proofs.ImageLaws.{none_stored}
 use Rattle.heap_model.specs.Image.{IsLegal}
 
--- what is written over the front of an image, behind its first byte
+-- what is written over the start of an image, after its first byte
 put_front : (t image : List ℕ) → length t ≡ 63 → 64 ≤ length image → filled 0 1 t image ≡ 1 ∷ t ++ drop 64 image
 put_front t image size long =
     let one : length (take 1 image) ≡ 1 = length-take-le 1 image (omega arith) in
@@ -40,7 +40,7 @@ module _ (s : Super) (image : List ℕ) (large : image_size s.pages s.log_bytes 
   size : length (superblock s) ≡ 64
   size = refl
 
-  -- the superblock stands in front, and what was behind it stays
+  -- the superblock stands in front, and what follows it stays
   pub front : filled 0 1 (drop 1 (superblock s)) image ≡ superblock s ++ drop 64 image
   front = put_front (drop 1 (superblock s)) image refl (omega arith)
 
@@ -140,7 +140,7 @@ module _ {D : Type 0} (moment : D → ℕ) (left_since : D → ℕ → List ℕ 
     | inr shut ↦ weaker moment left_since disk new may_leave (IsFormatting s old) (alone shut) (λ c left. inr (inl (only c left)))
   ]
 
--- the calls of a format: those that close the gate, the zeros, and the four behind them
+-- the calls of a format: those that close the gate, the zeros, and the four after them
 pub made_calls : (before closed zeroed now size : ℕ) (image : List ℕ) (result : Result (Unit {0}) DiskError) → closed ≡ counted (if slice_index image 0 == 1 then 2 else 0) before
     → zeroed ≡ counted (zero_writes (size - 64)) closed → Passes 4 zeroed now result → Passes (format_calls size image) before now result
 made_calls before closed zeroed now size image result first second last =

@@ -1,4 +1,4 @@
--- The events that take no memory find room for their entries.
+-- The events that need no memory find room for their entries.
 use Rattle.std.proofs.Common.{◌≡◌, ℕ, ◌+◌, ◌<◌, ◌≤◌, inl, inr, max, List, [], ◌∷◌, ◌++◌, length, Option, None, Some, refl, sym, ap, ◌∙◌, subst, arith}
 use Rattle.std.specs.Prelude.{◌⊎◌, IsSome, is_some, sum_by}
 use Rattle.std.proofs.lemmas.Bool.Decides.{nat_tests}
@@ -157,7 +157,7 @@ pub room_left : (old : Engine) (new : Memory) (history : List Entry) (event : Ev
 room_left old new history event reply room kept (inl more) ends = omega (arith, entries_few new (history ++ record { event = event; reply = reply } ∷ []))
 room_left old new history event reply room kept (inr ready) ends = omega (arith, ready_left (memory old) new history event reply ready ends)
 
--- an event that lacks memory had none ready
+-- an event that runs out of memory had none ready
 pub room_lacking : (m new : Memory) (history : List Entry) (event : Event) (room : ℕ) → (NeedsNoMemory m event → ⊥) → (65 < room) ⊎ IsReady m history event → entries_kept new history ≤ room
 room_lacking m new history event room lacks (inl more) = omega (arith, entries_few new history)
 room_lacking m new history event room lacks (inr ready) = absurd (lacks (ready_needs m history event ready))

@@ -1,4 +1,4 @@
--- What errors of the crates below tell, the heap's own do.
+-- What errors of the crates below say, the heap's own errors say.
 use Rattle.std.proofs.Common.{◌≡◌, ◌≢◌, ℕ, refl, ap}
 use Rattle.disk_model.specs.declared.disk.DiskError.{DiskError}
 use Rattle.disk_model.specs.declared.disk.DiskError.TheVariants.{Failed, Stopped}
@@ -41,7 +41,7 @@ damaged_as (Damaged other) at is = let same : other ≡ at = cc in ap (λ (x : A
 damaged_as (Disk Failed) at is = cc
 damaged_as (Disk Stopped) at is = cc
 
--- a print that the words and the disk don't hinder lacks memory
+-- a print that fails neither in the words nor in the disk ran out of memory
 pub only_memory : (e : PrintError) → ((at : ℕ) → e ≢ printing.Damaged at) → ((d : DiskError) → e ≢ printing.Disk d) → graph_error e ≡ graphs.NoMemory
 only_memory printing.NoMemory whole works = refl
 only_memory (printing.Damaged at) whole works = absurd (whole at refl)

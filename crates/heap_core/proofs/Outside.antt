@@ -1,4 +1,4 @@
--- What stays of an image while an empty heap is written: the bytes behind its plan.
+-- What stays of an image while an empty heap is written: the bytes past its plan.
 use Rattle.std.proofs.Common.{◌≡◌, inr, ℕ, ◌≤◌, Bool, true, false, List, [], ◌∷◌, length, drop, slice_index, ◌==◌, if◌then◌else◌, ◌∙◌, arith}
 use Rattle.disk_model.specs.Disk.{overwrite, SameOutside}
 use Rattle.gate_slot.specs.Gate.{closed, filled, SameButGate, IsFilling}

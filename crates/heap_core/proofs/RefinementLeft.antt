@@ -52,7 +52,7 @@ keeps_entry c event reply b image is same_sealed same_doubt same_acknowledged ke
 pub keeps_refused : (c : Core) (event : Event) (why : Refusal) (image : List ℕ) → IsNoFault why → IsCommitPrefix c image → IsCommitPrefix (with_entry c event (Refused why)) image
 keeps_refused c event why image sound kept = keeps_entry c event (Refused why) (record (account c.history) { entries = (account c.history).entries + 1 }) image (account_after-refused (account c.history) event why sound) refl refl refl kept
 
--- what is told of an event that the disk cut short is the failure alone
+-- the reply to an event that the disk cut short is only the failure
 pub cut_account : (a : Account) (event : Event) (reply : Reply) → AsksDisk event → (reply ≡ Refused DiskFault) ⊎ (reply ≡ Refused Stopped)
     → account_after a (record { event = event; reply = reply }) ≡ record a { failed = first_failure a.failed (a.entries + 1); entries = a.entries + 1 }
 cut_account a Force reply asks (inl told) = ap (λ (r : Reply). account_after a (record { event = Force; reply = r })) told
@@ -61,7 +61,7 @@ cut_account a (Flush p) reply asks (inl told) = ap (λ (r : Reply). account_afte
 cut_account a (Flush p) reply asks (inr told) = ap (λ (r : Reply). account_after a (record { event = Flush p; reply = r })) told
 cut_account a event reply asks told = absurd asks
 
--- such an event leaves the first commits
+-- such an event leaves a commit prefix
 pub keeps_cut : (c : Core) (event : Event) (reply : Reply) (image : List ℕ) → AsksDisk event → (reply ≡ Refused DiskFault) ⊎ (reply ≡ Refused Stopped) → IsCommitPrefix c image
     → IsCommitPrefix (with_entry c event reply) image
 keeps_cut c event reply image asks told kept = keeps_entry c event reply _ image (cut_account (account c.history) event reply asks told) refl refl refl kept

@@ -59,12 +59,12 @@ pub commits_found : (s : Super) (batches : List (List Record)) (stored : Pages) 
 commits_found s batches stored found shaped recovered =
     ap (λ (x : State). x.commits) (state_found s batches stored found shaped recovered) ∙ sym (commits_are s batches stored shaped)
 
--- the words in memory are those behind the opening
+-- the words in memory are those after the opening
 words_found : (s : Super) (batches : List (List Record)) (stored : Pages) (found : Recovered) → IsShapedLog s batches stored → IsRecovered s batches stored found
     → (cached found.cache).words ≡ rolled_words s batches stored
 words_found s batches stored found shaped recovered = ap (λ (at : Pages). at.words) recovered.cached ∙ redone_words-rolled_back s batches stored shaped
 
--- the LSNs in memory are those behind the opening
+-- the LSNs in memory are those after the opening
 lsns_found : (s : Super) (batches : List (List Record)) (stored : Pages) (found : Recovered) → IsShapedLog s batches stored → IsRecovered s batches stored found
     → length (cached found.cache).lsns ≡ pages_in s.pages
 lsns_found s batches stored found shaped recovered =

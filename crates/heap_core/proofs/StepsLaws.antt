@@ -32,7 +32,7 @@ one_steps {D} {g} s c d event reply old new reached session step keeps passes mo
     record { reply = reply; step = step; moments = moments; kept = heap_leaves s d new heap next; passes = passes; disk = keeps } in
     (d, new.disk, made, (refl, refl))
 
--- Steps behind steps.
+-- Steps after steps.
 pub steps_append : {D : Type 0} (step : Core → D → Event → Core → D → Type 0) (c mid d : Core) (old between new : D) (before behind : List Event) → AreSteps step c old before mid between → AreSteps step mid between behind d new
     → AreSteps step c old (before ++ behind) d new
 steps_append {D} step c mid d old between new [] behind first second =

@@ -24,7 +24,7 @@ same_torn from end at n first old new low high so_far torn = record {
   behind = λ i le. torn_outside at n i old new torn (inr (omega arith)) ∙ so_far.behind i le;
 }
 
--- the images that a crash may leave after one write more
+-- the images that a crash may leave after one more write
 pub crash_on : (from end at n : ℕ) (first old new : List ℕ → Type 0) → from ≤ at → at + n ≤ end → WidensBy (SameOutside from end) first old → WidensBy (Torn at n) old new → WidensBy (SameOutside from end) first new
 crash_on from end at n first old new low high so_far write c left =
     let mid = write c left in
@@ -52,7 +52,7 @@ zero_at n k = elim (cases_lt k n) [
   | inr past ↦ get_or_past (replicate n 0) k 0 (omega (arith, length-replicate {A = ℕ} n 0))
 ]
 
--- a piece more is one write more
+-- one more piece is one more write
 piece_more : (left n : ℕ) → 0 < left → n ≡ min left 65536 → 1 + zero_writes (left - n) ≡ zero_writes left
 piece_more left n some is = omega arith
 

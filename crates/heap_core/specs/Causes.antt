@@ -1,4 +1,4 @@
--- What the disk answered in a call of a heap, and what an error tells of it.
+-- What the disk answered in a call of a heap, and what an error says of it.
 use Rattle.std.specs.Prelude.{◌≡◌, ℕ, ◌≤◌, Result, Ok, Err, ⊤}
 use Rattle.std.specs.declared.alloc.AllocError.{AllocError}
 use Rattle.counts.specs.Count.{Rose}
@@ -22,7 +22,7 @@ abbrev pub step_device : Result Reply AllocError → Result (Unit {0}) DiskError
 step_device (Ok reply) = reply_device reply
 step_device (Err e) = Ok tt
 
--- Over calls that may have gone on after an error, or answered something else behind it: neither count fell, and an error is told only where that
+-- Over calls that may have continued after an error, or answered something else after it: neither count fell, and an error is returned only if that
 -- error's count rose.
 pub record WasCaused {T : Type 0} (faults faults' stops stops' : ℕ) (result : Result T DiskError) : Type 0 where
   pub faults_kept : faults ≤ faults'
@@ -34,7 +34,7 @@ pub record WasCaused {T : Type 0} (faults faults' stops stops' : ℕ) (result : 
 abbrev pub IsCausedBy : {D : Type 0} (g : Ghosts D) → D → D → Reply → Type 0
 IsCausedBy g old new reply = WasCaused (g.faults old) (g.faults new) (g.stops old) (g.stops new) (reply_device reply)
 
--- what an opening's error is of a recovery
+-- the error of an opening for each error of a recovery
 abbrev pub open_error : RecoverError → OpenError
 open_error recovery.NoMemory = opening.NoMemory
 open_error recovery.NotHeap = opening.NotHeap
@@ -52,23 +52,23 @@ abbrev pub opened_device : {H D : Type 0} → Result H (OpenError × D) → Resu
 opened_device (Ok heap) = Ok tt
 opened_device (Err e) = error_device e.0
 
--- Memory was refused or the disk failed: nothing is told of the image.
+-- Memory ran out or the disk failed: nothing is said of the image.
 abbrev pub IsFromOutside : OpenError → Type 0
 IsFromOutside opening.NotHeap = ⊥
 IsFromOutside (opening.Damaged at) = ⊥
 IsFromOutside e = ⊤
 
--- The calls of an opening that ends in an error: fewer than n where the disk stopped it, and none where memory was refused.
+-- The calls of an opening that ends in an error: fewer than n if the disk stopped it, and none if memory ran out.
 abbrev pub ErrorPasses : ℕ → ℕ → ℕ → OpenError → Type 0
 ErrorPasses n before now opening.NoMemory = now ≡ before
 ErrorPasses n before now e = Passes n before now (error_device e)
 
--- The calls of an opening: n where it succeeds.
+-- The calls of an opening: n if it succeeds.
 abbrev pub OpenedPasses : {H D : Type 0} → ℕ → ℕ → ℕ → Result H (OpenError × D) → Type 0
 OpenedPasses n before now (Ok heap) = Passes n before now (Ok tt)
 OpenedPasses n before now (Err e) = ErrorPasses n before now e.0
 
--- what a print's error is of a graph
+-- the error of a graph's text for each error of a print
 abbrev pub graph_error : PrintError → GraphError
 graph_error printing.NoMemory = graphs.NoMemory
 graph_error (printing.Disk device.Failed) = graphs.DiskFault

@@ -44,9 +44,9 @@ appended_by d event = appended d (after d event)
 abbrev pub CopiesNoGarbage : Core → Core → Type 0
 CopiesNoGarbage c d = (id : Id) → is_some (address_of (copied_since c d) id) ≡ true → Reached (sealed_graph c) id
 
--- A scan of d is answered so. The answer tells how many objects it copied, and of how many words. What a collection that began since the opening has
+-- A scan of d is answered so. The answer says how many objects it copied, and of how many words. What a collection that began since the opening has
 -- copied, before this scan and with it, was reached at its flip from the root, in the graph that the sealed transactions had left then, whichever were
--- active; and where the scan ends it, just that has been copied, and all that is in use is the copies and what became stable since.
+-- active; and if the scan ends it, exactly that has been copied, and all that is in use is the copies and what became stable since.
 pub record ScansAsTold (d : Core) (answered : Reply) : Type 0 where
   pub told : (page objects words : ℕ) → answered ≡ reply.Scanned page objects words → (objects ≡ length (copied_in (appended_by d Scan))) × (words ≡ words_copied (appended_by d Scan))
   pub within : (c : Core) → BeganIdle c → IsUnderWay c d → CopiesNoGarbage c d × CopiesNoGarbage c (after d Scan)

@@ -14,7 +14,7 @@ use Rattle.limit_laws.specs.Room.{nothing_to_end}
 use Rattle.heap_engine.specs.Ending.{SealsAlone}
 use Rattle.heap_engine.specs.Reserve.{active_count}
 
--- An event that takes no memory: the abort of a transaction, its seal where that promotes nothing, so that its Commit is the only record, and a force of
+-- An event that needs no memory: the abort of a transaction, its seal if that promotes nothing, so that its Commit is the only record, and a force of
 -- commits that were not acknowledged.
 abbrev pub TakesNoMemory : Core → Event → Type 0
 TakesNoMemory c (Abort s) = IsSome ((account c.history).active s)
@@ -22,23 +22,23 @@ TakesNoMemory c (Seal s) = (t : Transaction) × ((account c.history).active s �
 TakesNoMemory c Force = acknowledged c.history < length (sealed c.history)
 TakesNoMemory c event = ⊥
 
--- the same, as an engine behind a history tells it
+-- the same, by the engine and the history
 abbrev pub IsReady : Memory → List Entry → Event → Type 0
 IsReady m history (Abort s) = IsSome (own m s)
 IsReady m history (Seal s) = SealsAlone m (own m s)
 IsReady m history Force = acknowledged history < m.sealed
 IsReady m history event = ⊥
 
--- How many entries the history keeps room for, where so many transactions are active, so many commits were acknowledged, and so many sealed: for the
--- end of each and a force behind it, and for a force of what is sealed.
+-- How many entries the history keeps room for, if this many transactions are active, commits were acknowledged, and transactions were sealed: for
+-- the end of each and a force after it, and for a force of what is sealed.
 abbrev pub kept_entries : ℕ → ℕ → ℕ → ℕ
 kept_entries active acked sealed = 2 * active + (if nat_lt acked sealed then 1 else 0)
 
--- those of an engine behind a history
+-- those of an engine with a history
 abbrev pub entries_kept : Memory → List Entry → ℕ
 entries_kept m history = kept_entries (active_count m.table) (acknowledged history) m.sealed
 
--- An end is answered as one that is done, unless the disk failed before, or the session has no transaction: never for want of room. A force may be
+-- An end is answered as done, unless the disk failed before, or the session has no transaction: never refused for lack of room. A force may be
 -- cut short by the disk.
 abbrev pub EndsAsTold : Core → Event → Reply → Type 0
 EndsAsTold c event answered = (answered ≡ reply_of (refusal_of (account c.history).failed (nothing_to_end c event)) (granted_by c event)) ⊎ IsCutShort c event answered

@@ -1,4 +1,4 @@
--- What is made of a disk's image while an empty heap is written over it.
+-- What happens to a disk's image while an empty heap is written over it.
 use Rattle.std.specs.Prelude.{◌≡◌, ◌⊎◌, ℕ, ◌+◌, ◌-◌, ◌/◌, ◌<◌, ◌≤◌, ◌==◌, List, [], take, slice_index, if◌then◌else◌}
 use Rattle.gate_slot.specs.Gate.{IsGateClosed}
 use Rattle.image_plan.specs.declared.superblock.Super.{Super}
@@ -24,10 +24,10 @@ pub record IsEmptyHeap (s : Super) (image : List ℕ) : Type 0 where
 abbrev pub IsFormatting : Super → List ℕ → List ℕ → Type 0
 IsFormatting s old image = IsGateClosed 0 image ⊎ (image ≡ old) ⊎ IsLegal s [] (first_pages s.pages) image
 
--- the writes of so many zeros, in pieces of 65,536 bytes
+-- the writes of `bytes` zeros, in pieces of 65,536 bytes
 abbrev pub zero_writes : ℕ → ℕ
 zero_writes bytes = (bytes + 65535) / 65536
 
--- the writes and syncs of a format: two to close an open gate, the zeros behind the superblock, and four to fill and open it
+-- the writes and syncs of a format: two to close an open gate, the zeros after the superblock, and four to fill and open it
 abbrev pub format_calls : ℕ → List ℕ → ℕ
 format_calls size image = (if slice_index image 0 == 1 then 2 else 0) + zero_writes (size - 64) + 4

@@ -1,4 +1,4 @@
--- A call that takes a disk and gives it back, also with an error.
+-- A call that takes a disk and gives it back, even with an error.
 use Rattle.std.specs.Prelude.{Result, Ok, Err, ⊤}
 use Rattle.disk_model.specs.declared.disk.DiskError.{DiskError}
 use Rattle.disk_model.specs.declared.disk.DiskError.TheVariants as device
@@ -10,7 +10,7 @@ abbrev pub given_back : {D : Type 0} → Result D (FormatError × D) → D
 given_back (Ok disk) = disk
 given_back (Err e) = e.1
 
--- what a format's error is that the disk told
+-- the error of a format for each error of the disk
 abbrev pub format_error : DiskError → FormatError
 format_error device.Failed = DiskFault
 format_error device.Stopped = Stopped

@@ -13,7 +13,7 @@ pub use Rattle.heap_engine.specs.Refinement.{SameBehind, IsLeftByStep}
 use Rattle.heap_memory.specs.Memory.{own}
 use Rattle.heap_model.specs.Core.{Core}
 
--- What a heap remembers of a core, also after the disk stopped or failed: at which entry that was, whether records were pending before it, how
+-- What a heap remembers of a core, even after the disk stopped or failed: at which entry that was, whether records were pending before it, how
 -- many transactions were sealed, and which sessions have one.
 pub record Remembers (c : Core) (e : Engine) (failed : Option Failure) : Type 0 where
   pub failure : entry_of failed ≡ (account c.history).failed
@@ -21,7 +21,7 @@ pub record Remembers (c : Core) (e : Engine) (failed : Option Failure) : Type 0 
   pub sealed : e.sealed ≡ length (account c.history).sealed
   pub active : (s : ℕ) → is_some (own (memory e) s) ≡ is_some ((account c.history).active s)
 
--- The disk holds a core, until it stops or fails at an entry. From then on a crash leaves a commit prefix of the core, and each byte behind the plan as
+-- The disk holds a core, until it stops or fails at an entry. From then on a crash leaves a commit prefix of the core, and each byte past the plan as
 -- a read gives it. The names of its objects are their births.
 pub record DiskHolds (s : Super) (c : Core) (image : List ℕ) (may_leave : List ℕ → Type 0) : Type 0 where
   pub born : IsTrue c.born
@@ -38,11 +38,11 @@ module _ {D : Type 0} {g : Ghosts D} where
     pub engine : heap.failed ≡ None → IsEngine g c heap.engine heap.disk
 
   -- The disk of an open heap holds a core's image, and a crash leaves nothing else; of a core whose disk stopped or failed a
-  -- crash leaves a commit prefix, and the bytes behind the plan.
+  -- crash leaves a commit prefix, and the bytes past the plan.
   abbrev pub HoldsCore : Super → Core → Heap D g → Type 0
   HoldsCore s c heap = DiskHolds s c (g.bytes heap.disk) (g.may_leave heap.disk)
 
-  -- A heap on a disk that tells is a core, in memory and on the disk, where births name its objects.
+  -- A heap on a modelled disk is a core, in memory and on the disk, where births name its objects.
   pub record IsHeap (s : Super) (c : Core) (heap : Heap D g) : Type 0 where
     pub core : IsCore c heap
     pub disk : HoldsCore s c heap

@@ -1,4 +1,4 @@
--- What an opening's error tells of the image that it refuses.
+-- What an opening's error says of the image that it refuses.
 use Rattle.std.specs.Prelude.{◌≡◌, ◌⊎◌, ℕ, List, ⊤}
 use Rattle.heap_recovery.specs.declared.at.At.TheVariants.{Address}
 use Rattle.heap_recovery.specs.Faults.{IsNoHeap, IsFaultAt}
@@ -6,17 +6,17 @@ use Rattle.heap_core.specs.Causes.{IsFromOutside}
 use Rattle.heap_core.specs.declared.errors.OpenError.{OpenError}
 use Rattle.heap_core.specs.declared.errors.OpenError.TheVariants.{NotHeap, Damaged, DiskFault, Stopped}
 
--- what an error tells of the image
+-- what an error says of the image
 abbrev pub IsToldOf : OpenError → List ℕ → Type 0
 IsToldOf NotHeap image = IsNoHeap image
 IsToldOf (Damaged at) image = IsFaultAt at image
 IsToldOf e image = ⊤
 
--- the error is this one, or tells nothing of the image
+-- the error is this one, or says nothing of the image
 abbrev pub IsErrorOrOutside : OpenError → OpenError → Type 0
 IsErrorOrOutside this e = (e ≡ this) ⊎ IsFromOutside e
 
--- An error that comes before a write. Damage at an address is reported after the rollback.
+-- An error that is found before any write. Damage at an address is reported after the rollback.
 abbrev pub ComesBeforeWrites : OpenError → Type 0
 ComesBeforeWrites (Damaged (Address address)) = ⊥
 ComesBeforeWrites DiskFault = ⊥

@@ -15,7 +15,7 @@ use Rattle.heap_model.specs.CoreCrash.{IsCommitPrefix}
 pub record HeapStep {D : Type 0} (g : Ghosts D) (c : Core) (before : D) (event : Event) (d : Core) (after : D) : Type 0 where
   pub reply : Reply
   pub step : IsStep c event reply d
-  -- at each moment of it a crash left first commits, among them all that were acknowledged or forced before it, and each byte behind the plan as it was
+  -- at each moment of it a crash left a commit prefix with all that were acknowledged or forced before it, and each byte past the plan as it was
   pub moments : LeavesOnly g.moment g.left_since before after (IsLeftByStep c (g.bytes before))
   -- once it was answered, also those that its answer acknowledged, or that it forced
   pub kept : (image : List ℕ) → g.may_leave after image → IsCommitPrefix d image

@@ -1,4 +1,4 @@
-//! Why a call of a heap gives an error.
+//! Why a call of a heap returns an error.
 use disk_model::DiskError;
 use graph_print::PrintError;
 use heap_recovery::{At, RecoverError};
@@ -8,7 +8,7 @@ use thiserror::Error;
 /// Why a heap could not be made.
 #[derive(Clone, Copy, Debug, PartialEq, Eq, Error)]
 pub enum FormatError {
-    /// The disk has `size` bytes of the `need` that the heap takes. It is as it was.
+    /// The disk has `size` bytes of the `need` that the heap takes. It is unchanged.
     #[error("the disk has {size} bytes of {need}")]
     TooSmall { size: u64, need: u64 },
     /// The disk failed in a call.
@@ -36,13 +36,13 @@ impl From<DiskError> for FormatError {
 /// Why a heap could not be opened.
 #[derive(Clone, Copy, Debug, PartialEq, Eq, Error)]
 pub enum OpenError {
-    /// Memory was refused.
+    /// Out of memory.
     #[error("memory was refused")]
     NoMemory,
     /// The disk holds no heap.
     #[error("the disk holds no heap")]
     NotHeap,
-    /// The disk holds a heap that is damaged there.
+    /// The disk holds a heap that is damaged at that place.
     #[error("the heap is damaged: {at}")]
     Damaged { at: At },
     /// The disk failed in a call.
@@ -73,7 +73,7 @@ impl From<RecoverError> for OpenError {
 /// Why the text of a graph could not be made.
 #[derive(Clone, Copy, Debug, PartialEq, Eq, Error)]
 pub enum GraphError {
-    /// Memory was refused.
+    /// Out of memory.
     #[error("memory was refused")]
     NoMemory,
     /// The disk failed in a call.
@@ -82,7 +82,7 @@ pub enum GraphError {
     /// The disk stopped.
     #[error("the disk stopped")]
     Stopped,
-    /// No object stands as it should at that word address. No heap that was opened holds such words.
+    /// No sound object stands at that word address. No heap that was opened holds such words.
     #[error("the heap is damaged: address {address}")]
     Damaged { address: u32 },
 }

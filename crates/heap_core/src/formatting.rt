@@ -1,4 +1,4 @@
-//! An empty heap is made on a disk.
+//! Makes an empty heap on a disk.
 ghost use Rattle.std.specs.Prelude.{◌≡◌, ℕ, ◌+◌, ◌-◌, ◌<◌, ◌≤◌, List, [], replicate, IsTrue, Err, IfOk, IfErr, IsErrAnd, OnOk};
 ghost use Rattle.disk_model.specs.Disk.{Only, WidensBy, SameOutside};
 ghost use Rattle.disk_model.specs.Keeps.{KeepsDisk};
@@ -35,7 +35,7 @@ impl<D: Disk> Heap<D> {
         requires { IsSuper (heap_of pages log_bytes first) }
 
         ensures disk { KeepsDisk D.Disk disk (given_back result) (device_result result) }
-        // A disk that is too small is given back as it was.
+        // A disk that is too small is given back unchanged.
         ensures small { D.extent disk < image_size pages log_bytes → IsErrAnd result (λ e. e ≡ (TooSmall (D.extent disk) (image_size pages log_bytes), disk)) }
         ensures large { image_size pages log_bytes ≤ D.extent disk → IfErr result (λ e. IsFromDisk e.0) }
 
@@ -43,7 +43,7 @@ impl<D: Disk> Heap<D> {
         ensures empty { IsTrue D.tells → IfOk result (λ made. IsEmptyHeap (heap_of pages log_bytes first) (D.bytes made)) }
         // A crash at any moment leaves no heap, the old image, or the new empty heap.
         ensures moments { IsTrue D.tells → Only (D.bytes disk) (D.may_leave disk) → LeavesOnly D.moment D.left_since disk (given_back result) (IsFormatting (heap_of pages log_bytes first) (D.bytes disk)) }
-        // The bytes behind the plan stay as they are, at the end and at each moment of it.
+        // The bytes past the plan stay as they are, at the end and at each moment of it.
         ensures outside { IsTrue D.tells → IfOk result (λ made. SameOutside 0 (image_size pages log_bytes) (D.bytes disk) (D.bytes made)) }
         ensures moments_outside { IsTrue D.tells → Only (D.bytes disk) (D.may_leave disk) → LeavesOnly D.moment D.left_since disk (given_back result) (SameOutside 0 (image_size pages log_bytes) (D.bytes disk)) }
         ensures passes { IsTrue D.tells → image_size pages log_bytes ≤ D.extent disk → Passes (format_calls (image_size pages log_bytes) (D.bytes disk)) (D.passed disk) (D.passed (given_back result)) (device_result result) }
@@ -130,7 +130,7 @@ fn write_zeros<D: Disk>(disk: &mut D, from: u64, end: u64) -> Result<(), DiskErr
     Ok(())
 }
 
-/// That many zeros, of which there are no more than a piece.
+/// That many zeros, at most a piece.
 fn zeros(count: usize) -> &'static [u8]
     requires { count ≤ PIECE }
     ensures { result.now ≡ replicate count 0 }

@@ -43,7 +43,7 @@ use heap_recovery::{Recovered, recover};
 use std::alloc::{AllocError, Global};
 use txn_table::{SESSIONS, TxnTable};
 
-/// The most entries for which the history keeps room: of each session the end of its transaction and a force behind it, and a force of what is
+/// The most entries for which the history keeps room: for each session the end of its transaction and a force after it, and a force of what is
 /// sealed already.
 const MOST_KEPT: usize = 2 * SESSIONS as usize + 1;
 
@@ -59,7 +59,7 @@ pub struct Heap<D: Disk> {
     failed: Option<Failure>,
     ghost inside: { LiesWithin engine (D.extent disk) },
     ghost works: { failed ≡ None → HasNotFailed engine },
-    // The events that take no memory find room for their entries.
+    // The events that need no memory find room for their entries.
     ghost kept: { failed ≡ None → entries_kept (memory engine) history.entries ≤ history.room },
 }
 
@@ -72,7 +72,7 @@ struct Failure {
     pending: bool,
 }
 
-/// What an event is answered that the disk cut short.
+/// The reply to an event that the disk cut short.
 fn cut_short(e: DiskError) -> Reply
     ensures device { reply_device result ≡ Err e }
     ensures told { (result ≡ Reply.Refused DiskFault) ⊎ (result ≡ Reply.Refused Stopped) }
@@ -84,7 +84,7 @@ fn cut_short(e: DiskError) -> Reply
     Reply::Refused { why }
 }
 
-/// Adds an event to the history with its reply, for which there is room, and gives the reply back.
+/// Adds an event to the history with its reply, for which there is room, and returns the reply.
 fn entered(history: &mut History, event: Event, reply: Reply) -> Reply
     requires { 0 < history.old.room }
     ensures entries { history.new.entries ≡ history.old.entries ++ record { event = event; reply = reply } ∷ [] }
@@ -95,7 +95,7 @@ fn entered(history: &mut History, event: Event, reply: Reply) -> Reply
     reply
 }
 
-/// Whether an event takes no memory: it ends a transaction and promotes nothing, or forces commits that were not acknowledged.
+/// Whether an event needs no memory: it ends a transaction and promotes nothing, or forces commits that were not acknowledged.
 fn is_ready(history: &History, engine: &Engine, event: Event) -> bool
     ensures { IsTrue result ↔ IsReady (memory engine.now) history.now.entries event }
 {
@@ -107,7 +107,7 @@ fn is_ready(history: &History, engine: &Engine, event: Event) -> bool
     }
 }
 
-/// Makes room for the entry of an event, and behind it for those of the events that take no memory, which find it there.
+/// Makes room for the entry of an event, and after it for those of the events that need no memory, which find it there.
 fn make_room(history: &mut History, engine: &Engine, event: Event) -> Result<(), AllocError>
     ensures same { history.new.entries ≡ history.old.entries }
     ensures kept { history.old.room ≤ history.new.room }
@@ -120,7 +120,7 @@ fn make_room(history: &mut History, engine: &Engine, event: Event) -> Result<(),
     history.reserve(MOST_KEPT + 1)
 }
 
-/// The text of the graph that is seen from the root object on, which stands at this word address.
+/// The text of the graph that is seen from the root object, which stands at this word address.
 fn print(alloc: Global, mut words: CommittedWords<'_>, root: u32) -> Result<Vec<u8>, GraphError>
     ensures text { (name : ℕ → Id) (g : Graph) → IsSeenAs name (words_of words.entry) root g → IfOk result (λ text. text.items ≡ canon_text (canon g)) }
     ensures error { (name : ℕ → Id) (g : Graph) → IsSeenAs name (words_of words.entry) root g → IfErr result (λ e. e ≡ GraphError.NoMemory) }
@@ -145,24 +145,25 @@ impl<D: Disk> Heap<D> {
     ghost use Rattle.heap_recovery.specs.Faults.{IsNoHeap, IsReadable, IsFaultAt, IsLogLeft};
     ghost use Rattle.log_machine.specs.Machine.{State};
 
-    /// Opens the heap on the disk. An error gives the disk back. `NotHeap` and `Damaged` tell the first fault of its image, and the disk is then as it
-    /// was, but for a fault at an address: that is reported after the rollback was forced.
+    /// Opens the heap on the disk. An error gives the disk back. `NotHeap` and `Damaged` report the first fault of its image, and the disk is then
+    /// unchanged, except for a fault at an address: that is reported after the rollback was forced.
     pub fn open(alloc: Global, mut disk: D) -> Result<Heap<D>, (OpenError, D)>
         ensures disk { KeepsDisk D.Disk disk (opened_disk result) (opened_device result) }
 
-        // What is opened is the core that a shaped log says beside stored pages, whatever graph stands in it, under whatever names: the log and the
-        // pages that were read, in frames with so many open gates.
+        // What is opened is the core that a shaped log encodes beside stored pages, whatever graph stands in it, under whatever names: the log and the
+        // pages that were read, in frames of which this many gates are open.
         ensures opens { IfOk result (λ heap. (s : Super) × (batches : List (List Record)) × (stored : Pages) × (gates : ℕ → ℕ) × (shaped : IsShapedLog s batches stored) × ((born : Bool) (places : Places) (g : Graph) → IsFound s batches stored shaped born places g → IsCore (opened s batches stored gates born places g) heap)) }
 
         ensures unfailed { IfOk result (λ heap. failed_at heap ≡ None) }
 
-        // On a modelled disk they are those of its image. An error tells what is wrong with the image, and what is wrong is told.
+        // On a modelled disk they are those of its image. An error reports only a fault that the image has, and a fault is reported unless memory runs out
+        // or the disk fails.
         ensures sound { IsTrue D.tells → IfOk result (λ heap. (s : Super) × (batches : List (List Record)) × (stored : Pages) × (shaped : IsShaped s batches stored (D.bytes disk)) × ((born : Bool) (places : Places) (g : Graph) → IsFound s batches stored shaped.log born places g → IsCore (opened s batches stored (open_gates s.log_bytes (D.bytes disk)) born places g) heap)) }
         ensures refused { IsTrue D.tells → IfErr result (λ e. IsToldOf e.0 (D.bytes disk)) }
         ensures not_heap { IsTrue D.tells → IsNoHeap (D.bytes disk) → IsErrAnd result (λ e. IsErrorOrOutside NotHeap e.0) }
         ensures damaged { IsTrue D.tells → (at : At) → IsFaultAt at (D.bytes disk) → IsErrAnd result (λ e. IsErrorOrOutside (Damaged at) e.0) }
         ensures left_alone { IfErr result (λ e. ComesBeforeWrites e.0 → OnlyReads D.Disk disk (opened_disk result) (opened_device result)) }
-        // An image with a fault that comes before writes is only read, whatever the end: the first stop of its disk doesn't come here.
+        // An image with a fault that is found before any write is only read, however the opening ends: the first stop of its disk doesn't come here.
         ensures reads_not_heap { IsTrue D.tells → IsNoHeap (D.bytes disk) → OnlyReads D.Disk disk (opened_disk result) (opened_device result) }
         ensures reads_damaged { IsTrue D.tells → (at : At) → IsFaultAt at (D.bytes disk) → ComesBeforeWrites (Damaged at) → OnlyReads D.Disk disk (opened_disk result) (opened_device result) }
         // A crash at any moment leaves an image that is refused as this one is.
@@ -170,27 +171,27 @@ impl<D: Disk> Heap<D> {
         ensures moments_damaged { IsTrue D.tells → Only (D.bytes disk) (D.may_leave disk) → (at : At) → IsFaultAt at (D.bytes disk) → LeavesOnly D.moment D.left_since disk (opened_disk result) (IsFaultAt at) }
 
         // Of an image whose log can be read, whatever its words, a crash at any moment leaves one with that log or with that log rolled back, and each byte
-        // outside of the log as it was. The opening then makes these calls, and leaves nothing unsynced that it tells of the words.
+        // outside of the log as it was. The opening then makes these calls, and leaves nothing unsynced if it reports a fault of the words.
         ensures moments_readable { IsTrue D.tells → Only (D.bytes disk) (D.may_leave disk) → (s : Super) (batches : List (List Record)) (state : State) → IsReadable s batches state (D.bytes disk) → LeavesOnly D.moment D.left_since disk (opened_disk result) (IsLogLeft s batches (D.bytes disk)) }
         ensures passes_readable { IsTrue D.tells → (s : Super) (batches : List (List Record)) (state : State) → IsReadable s batches state (D.bytes disk) → OpenedPasses (opening_calls s batches) (D.passed disk) (D.passed (opened_disk result)) result }
         ensures durable_damaged { IsTrue D.tells → Only (D.bytes disk) (D.may_leave disk) → IfErr result (λ e. (at : At) → e.0 ≡ Damaged at → Only (D.bytes e.1) (D.may_leave e.1)) }
 
-        // Of a shaped image they are the log and the pages that the disk holds; where that is legal the disk then holds the core.
+        // Of a shaped image they are the log and the pages that the disk holds; if that is legal the disk then holds the core.
         ensures found { IsTrue D.tells → (s : Super) (batches : List (List Record)) (stored : Pages) → (shaped : IsShaped s batches stored (D.bytes disk)) → IfOk result (λ heap. (born : Bool) (places : Places) (g : Graph) → IsFound s batches stored shaped.log born places g → IsCore (opened s batches stored (open_gates s.log_bytes (D.bytes disk)) born places g) heap) }
         ensures holds { IsTrue D.tells → (s : Super) (batches : List (List Record)) (stored : Pages) → (legal : IsLegal s batches stored (D.bytes disk)) → Only (D.bytes disk) (D.may_leave disk) → IfOk result (λ heap. (places : Places) (g : Graph) → IsFound s batches stored legal.log.shaped true places g → IsHeap s (opened s batches stored (open_gates s.log_bytes (D.bytes disk)) true places g) heap) }
-        // A shaped image is refused only for want of memory or by the disk.
+        // A shaped image is refused only for lack of memory or by the disk.
         ensures shaped { IsTrue D.tells → (s : Super) (batches : List (List Record)) (stored : Pages) → IsShaped s batches stored (D.bytes disk) → IfErr result (λ e. IsFromOutside e.0) }
         // At each moment of it a crash leaves the image as it was, or with its log rolled back: both stand for the same graph and commits.
         ensures moments { IsTrue D.tells → Only (D.bytes disk) (D.may_leave disk) → (s : Super) (batches : List (List Record)) (stored : Pages) → IsShaped s batches stored (D.bytes disk) → LeavesOnly D.moment D.left_since disk (opened_disk result) (IsLeftByOpening s batches stored) }
         ensures crash { IsTrue D.tells → Only (D.bytes disk) (D.may_leave disk) → (s : Super) (batches : List (List Record)) (stored : Pages) → IsShaped s batches stored (D.bytes disk) → (image : List ℕ) → D.may_leave (opened_disk result) image → IsLeftByOpening s batches stored image }
-        // It writes only where it has to take transactions' writes back.
+        // It writes only if it has to take transactions' writes back.
         ensures passes { IsTrue D.tells → (s : Super) (batches : List (List Record)) (stored : Pages) → IsShaped s batches stored (D.bytes disk) → OpenedPasses (opening_calls s batches) (D.passed disk) (D.passed (opened_disk result)) result }
         // The disk then holds the log rolled back beside the same pages, and a crash leaves nothing else.
         ensures rolled { IsTrue D.tells → (s : Super) (batches : List (List Record)) (stored : Pages) → IsShaped s batches stored (D.bytes disk) → IfOk result (λ heap. Holds s (rolled_back s batches) stored (D.bytes (heap_disk heap))) }
         ensures durable { IsTrue D.tells → Only (D.bytes disk) (D.may_leave disk) → IfOk result (λ heap. Only (D.bytes (heap_disk heap)) (D.may_leave (heap_disk heap))) }
         ensures no_first_stop { IsTrue D.tells → (s : Super) (batches : List (List Record)) (stored : Pages) → IsShaped s batches stored (D.bytes disk) → rollback_of s batches ≡ [] → D.stops disk ≡ 0 → D.stops (opened_disk result) ≡ 0 }
     {
-        // The table takes its memory before the disk is written.
+        // The table is allocated before the disk is written.
         let mut table = match TxnTable::new(alloc) {
             Ok(table) => table,
             Err(_) => return Err((OpenError::NoMemory, disk)),
@@ -215,8 +216,8 @@ impl<D: Disk> Heap<D> {
         }
     }
 
-    /// Makes one step, and answers the event, whose session, if it has one, is from 1 to 32. Want of memory changes nothing. An abort takes no
-    /// memory, nor does a seal that promotes nothing, or a force of commits that were not acknowledged.
+    /// Makes one step and returns the reply to the event, whose session, if it has one, is from 1 to 32. If memory runs out, nothing changes. Until the
+    /// disk fails, the abort of a transaction never runs out of memory, nor does a seal that promotes nothing, or a force of unacknowledged commits.
     pub fn step(&mut self, event: Event) -> Result<Reply, AllocError>
         requires { IsOfSession event }
         ensures disk { KeepsDisk D.Disk self.old.disk self.new.disk (step_device result) }
@@ -228,16 +229,17 @@ impl<D: Disk> Heap<D> {
         ensures kept { (c : Core) → IsCore c self.old → OnErr result (IsCore c self.new) }
         ensures untouched { OnErr result (self.new.disk ≡ self.old.disk) }
 
-        // So is what a modelled disk holds.
+        // The same holds for what a modelled disk holds.
         ensures holds { IsTrue D.tells → (s : Super) (c : Core) → IsHeap s c self.old → IsReached c → IfOk result (λ reply. (d : Core) × IsStep c event reply d × IsHeap s d self.new) }
-        // At each moment of it a crash leaves first commits, among them all that were acknowledged or forced before, and each byte behind the plan as it was.
+        // At each moment of it a crash leaves a commit prefix with all that were acknowledged or forced before, and each byte past the plan as it was.
         ensures moments { IsTrue D.tells → (s : Super) (c : Core) → IsHeap s c self.old → IsReached c → LeavesOnly D.moment D.left_since self.old.disk self.new.disk (IsLeftByStep c (D.bytes self.old.disk)) }
         ensures passes { IsTrue D.tells → (c : Core) → IsCore c self.old → IsReached c → IfOk result (λ reply. Passes (calls c event) (D.passed self.old.disk) (D.passed self.new.disk) (reply_device reply)) }
         // An event that makes no write or sync leaves the disk alone, and does not read it either.
         ensures still { (c : Core) → IsCore c self.old → IsReached c → calls c event ≡ 0 → self.new.disk ≡ self.old.disk }
-        // Each event but a flip copies at most 576 objects, and a collection that began since the opening just what was reached at its flip, whichever transactions were active then.
+        // Each event but a flip copies at most 576 objects, and a collection that began since the opening exactly what was reached at its flip,
+        // whichever transactions were active then.
         ensures collects { (c : Core) → IsCore c self.old → IsReached c → IfOk result (λ reply. CollectsAsTold c event reply) }
-        // An abort, a force, and a seal that makes no object stable are never answered that the log or a space has no room for them.
+        // An abort, a force, and a seal that makes no object stable are never refused because the log or a space has no room for them.
         ensures ends { (c : Core) → IsCore c self.old → IsReached c → IsEnd c event → IfOk result (λ reply. EndsAsTold c event reply) }
         // When memory runs out, transactions can still be ended and commits forced.
         ensures memory { (c : Core) → IsCore c self.old → IsReached c → (account c.history).failed ≡ None → TakesNoMemory c event → IsOk result }
@@ -287,14 +289,14 @@ impl<D: Disk> Heap<D> {
         }
     }
 
-    /// How many transactions are committed since the heap was made, as far as 64 bits count.
+    /// How many transactions are committed since the heap was made, up to the limit of 64 bits.
     pub fn commits(&self) -> u64
         ensures { (c : Core) → IsCore c self.now → result ≡ min (c.before + length (sealed c.history)) greatest }
     {
         self.before.saturating_add(self.engine.sealed())
     }
 
-    /// Whether records have been appended that are not known to be on the disk. Where it stopped or failed in an event, they are those
+    /// Whether records have been appended that are not known to be on the disk. If it stopped or failed in an event, they are those
     /// that were pending before it.
     pub fn pending(&self) -> bool
         ensures { (c : Core) → IsCore c self.now → IsTrue result ↔ (c.pending ≢ []) }
@@ -306,7 +308,7 @@ impl<D: Disk> Heap<D> {
     }
 
     /// Whether page `p` has changed since it was stored, in memory or by what an opening redid and rolled back. There are two spaces of
-    /// pages; a page past these has not. It asks that the disk has neither failed nor stopped.
+    /// pages; a page past these has not. Requires that the disk has neither failed nor stopped.
     pub fn dirty(&self, p: u32) -> bool
         requires unfailed { failed_at self.now ≡ None }
         ensures { (c : Core) → IsCore c self.now → result ≡ is_dirty c p }
@@ -321,7 +323,7 @@ impl<D: Disk> Heap<D> {
         self.engine.active(session)
     }
 
-    /// The text of the graph, without what active transactions wrote. It asks that the disk has neither failed nor stopped.
+    /// The text of the graph, without what active transactions wrote. Requires that the disk has neither failed nor stopped.
     pub fn graph(&self, alloc: Global) -> Result<Vec<u8>, GraphError>
         requires unfailed { failed_at self.now ≡ None }
         ensures text { (c : Core) → IsCore c self.now → IsReached c → IfOk result (λ text. text.items ≡ canon_text (canon (serial c.g0 (sealed c.history)))) }
@@ -331,7 +333,7 @@ impl<D: Disk> Heap<D> {
         print(alloc, words, self.engine.root_address())
     }
 
-    /// How many objects that graph has; no text is made. It asks that the disk has neither failed nor stopped.
+    /// How many objects that graph has; no text is made. Requires that the disk has neither failed nor stopped.
     pub fn objects(&self, alloc: Global) -> Result<u64, GraphError>
         requires unfailed { failed_at self.now ≡ None }
         ensures count { (c : Core) → IsCore c self.now → IsReached c → IfOk result (λ count. count ≡ length (canon (serial c.g0 (sealed c.history)))) }

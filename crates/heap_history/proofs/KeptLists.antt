@@ -1,4 +1,4 @@
--- One entry more in a list of kept ones.
+-- One more entry in a list of kept ones.
 use Rattle.std.proofs.Common.{◌≡◌, ℕ, suc, List, [], ◌∷◌, ◌++◌, get_or, refl, sym, ◌∙◌, ap, subst, arith}
 use Rattle.std.proofs.lemmas.List.Elements.{All-push}
 use Rattle.std.proofs.lemmas.List.{map-append, get_or_append_left}
@@ -10,7 +10,7 @@ use Rattle.brief_entries.specs.declared.kept_entry.KeptEntry.TheVariants as kept
 use Rattle.brief_entries.specs.Brief.{IsWithin, entry_of}
 use Rattle.heap_history.specs.Kept.{AreWithin, Extends, IsKept, entries_in}
 
--- an entry that is kept within a list is within a longer one, and stands there for the same
+-- an entry that is kept within a list is kept within a longer one, and stands for the same there
 still_within : (whole more : List Entry) (k : KeptEntry) → IsWithin whole k → IsWithin (whole ++ more) k
 still_within whole more (kept.Wrote s h i v) within = within
 still_within whole more (kept.Read s event v) h = h
@@ -29,7 +29,7 @@ still_same whole more (kept.LogFull s event used need reserved) h = refl
 still_same whole more (kept.Scanned s event page objects words) h = refl
 still_same whole more (kept.Whole place) h = get_or_append_left whole more _ place h
 
--- behind the first, the others are kept within the list too
+-- after the first, the others are kept within the list too
 pub within_others : (whole : List Entry) (all : List KeptEntry) (first : KeptEntry) (others : List KeptEntry) → all ≡ first ∷ others → AreWithin whole all → AreWithin whole others
 within_others whole all first others is h k d below =
     let both : AreWithin whole (first ∷ others) = subst (AreWithin whole) is h in
@@ -45,7 +45,7 @@ entries_longer whole more (k ∷ all) h =
 within_longer : (whole more : List Entry) (all : List KeptEntry) → AreWithin whole all → AreWithin (whole ++ more) all
 within_longer whole more all h k d below = still_within whole more (get_or all k d) (h k d below)
 
--- one entry more, kept within the list or a longer one
+-- one more entry, kept within the list or a longer one
 pub entries_more : (old new : List Entry) (all more : List KeptEntry) (k : KeptEntry) (e : Entry) → Extends old new → AreWithin old all → entry_of new k ≡ e → more ≡ all ++ k ∷ [] → entries_in new more ≡ entries_in old all ++ e ∷ []
 entries_more old new all more k e extends h same is =
     ap (entries_in new) is

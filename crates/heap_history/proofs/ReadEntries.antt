@@ -50,6 +50,6 @@ call_keeps r e s old new begun sealed aborted durable flipped collecting scanned
     subst (λ b. TellsOf b new) (sym (account_after-call a e.event e.reply is))
     (recounted (makes_call a (session_of e.event) e.event) (a.entries + 1) new (subst (λ q. TellsOf (makes_call a q e.event) new) session (keeps a told))))
 
--- one entry more has been read
+-- one more entry has been read
 pub read_more : (before after : List Entry) (e : Entry) (old new : Reading) → after ≡ before ++ e ∷ [] → KeepsReading (λ a. account_after a e) old new → TellsOf (account before) old → TellsOf (account after) new
 read_more before after e old new is keeps told = subst (λ h. TellsOf (account h) new) (sym is) (subst (λ a. TellsOf a new) (sym (account-append before e)) (keeps (account before) told))

@@ -1,4 +1,4 @@
--- A list of kept entries beside a list of whole ones.
+-- A list of kept entries with a list of whole ones.
 use Rattle.std.specs.Prelude.{◌≡◌, ℕ, List, ◌++◌, map}
 use Rattle.std.specs.List.{All}
 use Rattle.graph_model.specs.declared.reply.Entry.{Entry}

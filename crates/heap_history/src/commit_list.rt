@@ -1,4 +1,4 @@
-//! The commits that a history tells of.
+//! The commits of a history.
 ghost use Rattle.std.specs.Prelude.{◌≡◌, [], ◌∷◌, ◌++◌, OnOk, IfOk};
 
 use graph_model::Event;
@@ -23,7 +23,7 @@ impl Model for Commit {
 impl Commit {
     ghost use Rattle.graph_model.specs.Transaction.{Transaction};
 
-    /// A transaction that has just begun. It takes no memory.
+    /// A transaction that has just begun. Does not allocate.
     pub(crate) fn begin(alloc: Global, number: u64) -> Commit
         ensures { result ≡ record { number = number; calls = [] } }
     {
@@ -47,7 +47,7 @@ impl Commit {
         &self.calls
     }
 
-    /// One call more.
+    /// Adds a call.
     pub(crate) fn push(&mut self, call: Event) -> Result<(), AllocError>
         ensures number { self.new.number ≡ self.old.number }
         ensures calls { OnOk result (self.new.calls ≡ self.old.calls ++ call ∷ []) }
@@ -83,7 +83,7 @@ impl Model for CommitList {
 }
 
 impl CommitList {
-    /// The list of these commits. It takes no memory.
+    /// The list of these commits. Does not allocate.
     pub fn from_vec(commits: Vec<Commit>) -> CommitList
         ensures { result ≡ commits.items }
     {

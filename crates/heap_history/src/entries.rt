@@ -6,7 +6,7 @@ use brief_entries::KeptEntry;
 use graph_model::Entry;
 use std::marker::Model;
 
-/// The entries of a history that are left, oldest first. Clauses see just these.
+/// The entries of a history that are left, oldest first. Clauses see exactly these.
 #[derive(Debug, Drop)]
 pub struct Entries<'a> {
     kept: &'a [KeptEntry],

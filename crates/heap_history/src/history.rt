@@ -15,8 +15,8 @@ use graph_model::{Entry, Event, Reply};
 use std::alloc::{AllocError, Global};
 use std::marker::Model;
 
-/// The entries since the heap was opened, oldest first. Clauses see them, for how many more there is room, and how many are kept whole. An entry takes
-/// 24 bytes, and one with a number that is not ordinary is kept whole and takes 96.
+/// The entries since the heap was opened, oldest first. Clauses see them, the number of further ones for which there is room, and how many are kept
+/// whole. An entry takes 24 bytes, and one with a number that is not ordinary is kept whole and takes 96.
 #[derive(Debug, Drop)]
 pub struct History {
     alloc: Global,
@@ -24,7 +24,7 @@ pub struct History {
     kept: Vec<KeptEntry>,
     /// Those that are kept whole.
     whole: Vec<Entry>,
-    /// For how many more entries both lists have room.
+    /// The number of further entries for which both lists have room.
     room: usize,
     /// The greatest number that was answered `durable`.
     durable: u64,
@@ -61,7 +61,7 @@ fn keep(whole: &mut Vec<Entry>, entry: Entry) -> KeptEntry
     }
 }
 
-/// The greatest number that was answered `durable`, with one reply more.
+/// The greatest number that was answered `durable`, with one more reply.
 fn greatest_durable(durable: u64, reply: Reply) -> u64
     ensures { (before : List Entry) (event : Event) → durable ≡ acknowledged before → result ≡ acknowledged (before ++ record { event = event; reply = reply } ∷ []) }
 {
@@ -72,7 +72,7 @@ fn greatest_durable(durable: u64, reply: Reply) -> u64
 }
 
 impl History {
-    /// Nothing has happened. It takes no memory.
+    /// An empty history. Does not allocate.
     pub fn new(alloc: Global) -> History
         ensures entries { result.entries ≡ [] }
         ensures room { result.room ≡ 0 }
@@ -87,7 +87,7 @@ impl History {
         }
     }
 
-    /// Makes room for so many entries. An error changes nothing.
+    /// Makes room for `entries` entries. An error changes nothing.
     pub fn reserve(&mut self, entries: usize) -> Result<(), AllocError>
         ensures same { self.new.entries ≡ self.old.entries }
         ensures room { OnOk result (entries ≤ self.new.room) }
@@ -101,7 +101,7 @@ impl History {
         Ok(())
     }
 
-    /// Adds an event and its reply, for which there is room. It takes no memory, and keeps none but an entry that is not ordinary whole.
+    /// Adds an event and its reply, for which there is room. Does not allocate; only an entry that is not ordinary is kept whole.
     pub fn push(&mut self, event: Event, reply: Reply)
         requires { 0 < self.old.room }
         ensures entries { self.new.entries ≡ self.old.entries ++ record { event = event; reply = reply } ∷ [] }

@@ -1,4 +1,4 @@
-//! The history of a heap: the list of events and their replies, kept in little memory, and what it tells of the commits.
+//! The history of a heap: the list of events and their replies, kept in little memory, and the commits that follow from it.
 #![tactic(auto)]
 
 mod commit_list;

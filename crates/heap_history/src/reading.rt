@@ -1,4 +1,4 @@
-//! A history read from its front, for its transactions.
+//! Reads the transactions of a history from its start.
 ghost use Rattle.std.specs.Prelude.{◌≡◌, ◌∷◌, [], ◌++◌, OnOk, IfOk};
 ghost use Rattle.std.specs.Option.{option_to_list};
 ghost use Rattle.graph_model.specs.History.{Account, account_after, nothing_yet, begins, makes_call, seals, aborts, cut_short};
@@ -19,7 +19,7 @@ pub(crate) struct Reading {
 }
 
 impl Reading {
-    /// Nothing. It takes no memory.
+    /// Nothing read yet. Does not allocate.
     pub(crate) fn new(alloc: Global) -> Reading
         ensures { TellsOf nothing_yet result }
     {
@@ -31,7 +31,7 @@ impl Reading {
         }
     }
 
-    /// Reads one entry more.
+    /// Reads one more entry.
     pub(crate) fn read(&mut self, entry: &Entry) -> Result<(), AllocError>
         ensures { OnOk result (KeepsReading (λ a. account_after a entry.now) self.old self.new) }
     {

@@ -1,4 +1,4 @@
--- What a call on a source or a sink says of its faults.
+-- What a call on a source or a sink reports of its faults.
 use Rattle.std.specs.Prelude.{ℕ, ◌≤◌, Result, IsErr}
 use Rattle.counts.specs.Count.{Rose}
 

@@ -1,4 +1,4 @@
-//! A sink in memory, whose calls fail where they are told to.
+//! A sink in memory, whose calls fail on request.
 ghost use Rattle.std.specs.Prelude.{◌≡◌, ◌-◌, ◌<◌, ◌≤◌, ◌⊎◌, ◌↔◌, [], ◌++◌, true, length, take, min, IfOk, OnErr, IsErr, is_err, Contains, if◌then◌else◌};
 ghost use Rattle.counts.specs.Count.{raised};
 ghost use Rattle.heap_io.specs.Stream.{HasCause};
@@ -8,8 +8,8 @@ use counts::Count;
 use std::alloc::{AllocError, Global};
 use std::marker::Model;
 
-/// Bytes in memory, all of it taken at the start. A call fails if its number, counted from 1, is in a list, and where
-/// bytes come and no room is left for them. Nothing else makes one fail.
+/// Bytes in memory, all of it allocated at the start. A call fails if its number, counted from 1, is in a list, or if
+/// it has bytes to write and no room is left. Nothing else makes one fail.
 #[derive(Drop)]
 pub struct MemorySink {
     bytes: Vec<u8>,
@@ -67,7 +67,7 @@ impl Sink for MemorySink {
         ensures err { OnErr result (self.new.written ≡ self.old.written) }
         ensures cause { HasCause self.old.faults self.new.faults result }
 
-        // It fails exactly where it was told to and where it is full, and takes as many bytes as fit.
+        // It fails exactly if it was asked to or is full, and takes as many bytes as fit.
         ensures fails { IsErr result
             ↔ (Contains self.old.fails (raised self.old.calls)
             ⊎ ((0 < length piece.now) × (self.old.room ≤ length self.old.written))) }
@@ -86,7 +86,7 @@ impl Sink for MemorySink {
         let count = piece.len().min(room);
         match self.bytes.extend_from_slice(&piece[..count]) {
             Ok(()) => Ok(count),
-            // The room was taken at the start.
+            // The room was allocated at the start.
             Err(_) => unreachable!(),
         }
     }

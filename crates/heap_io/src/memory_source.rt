@@ -1,4 +1,4 @@
-//! A source in memory, whose calls fail where they are told to.
+//! A source in memory, whose calls fail on request.
 ghost use Rattle.std.specs.Prelude.{◌≡◌, ◌<◌, ◌≤◌, ◌↔◌, [], ◌++◌, true, length, take, drop, min, IfOk, OnErr, IsErr, is_err, Contains, if◌then◌else◌};
 ghost use Rattle.counts.specs.Count.{raised};
 ghost use Rattle.heap_io.specs.Stream.{HasCause};
@@ -57,7 +57,7 @@ impl Source for MemorySource {
         ensures err { OnErr result (self.new.left ≡ self.old.left) }
         ensures cause { HasCause self.old.faults self.new.faults result }
 
-        // It fails exactly where it was told to, and takes as many bytes as fit.
+        // It fails exactly if it was asked to, and takes as many bytes as fit.
         ensures fails { IsErr result ↔ Contains self.old.fails (raised self.old.calls) }
         ensures most { IfOk result (λ n. n ≡ min (length into.old) (length self.old.left)) }
         ensures filled { IfOk result (λ n. into.new ≡ take n self.old.left ++ drop n into.old) }
@@ -77,7 +77,7 @@ impl Source for MemorySource {
     }
 }
 
-// Copies as many bytes as fit into the front of `into`, and answers how many.
+// Copies as many bytes as fit to the start of `into`, and returns how many.
 fn copy_front(bytes: &[u8], into: &mut [u8]) -> usize
     ensures most { result ≡ min (length into.old) (length bytes.now) }
     ensures filled { into.new ≡ take result bytes.now ++ drop result into.old }

@@ -1,4 +1,4 @@
-//! Whole streams in.
+//! Reading whole streams.
 ghost use Rattle.std.specs.Prelude.{◌≡◌, ℕ, ◌+◌, ◌<◌, ◌≤◌, ◌↔◌, [], ◌++◌, length, drop, IsTrue, IsFalse, IfOk, OnOk, OnErr, IsErrOf};
 ghost use Rattle.counts.specs.Count.{Rose};
 ghost use Rattle.heap_io.specs.declared.reading.TakeAllError.TheVariants.{NoMemory};
@@ -11,11 +11,11 @@ const PIECE: usize = 65536;
 /// Why a stream was not read to its end.
 #[derive(Clone, Copy, Debug, PartialEq, Eq)]
 pub enum TakeAllError {
-    /// There was no memory for the bytes.
+    /// Out of memory.
     NoMemory,
     /// A call of the source failed.
     SourceFailed,
-    /// More bytes came than were allowed.
+    /// The stream has more bytes than were allowed.
     TooLong,
 }
 
@@ -27,8 +27,8 @@ impl From<AllocError> for TakeAllError {
     }
 }
 
-/// Reads a source to its end, of at most `most` bytes. It ends on any source, since it stops as soon as more came.
-/// After an error the bytes that came are lost, and the source still has the ones behind them.
+/// Reads a source to its end, of at most `most` bytes. It returns for any source, since it stops as soon as there are more.
+/// After an error the bytes that were read are lost, and the source still has the ones that follow.
 pub fn take_all<S: Source>(
     alloc: Global,
     source: &mut S,
@@ -41,7 +41,7 @@ pub fn take_all<S: Source>(
     ensures too_long { IsTrue S.tells → IsErrOf result TakeAllError.TooLong → most < length (S.left source.old) }
     ensures rest { IsTrue S.tells → OnErr result ((k : ℕ) × (S.left source.new ≡ drop k (S.left source.old))) }
 
-    // Without a failed call, and with memory, it finds out which.
+    // If no call fails and memory suffices, it finds out which.
     ensures exact { IsTrue S.tells → ¬ IsErrOf result TakeAllError.SourceFailed → ¬ IsErrOf result TakeAllError.NoMemory
         → (IsErrOf result TakeAllError.TooLong ↔ (most < length (S.left source.old))) }
 
@@ -61,7 +61,7 @@ fn new_buffer(alloc: Global) -> Result<Vec<u8>, AllocError>
     vec![in alloc; 0u8; PIECE]
 }
 
-// Reads one piece onto the end of `bytes`, and answers whether more may come.
+// Appends one piece to `bytes`, and returns whether more may come.
 fn take_piece<S: Source>(
     source: &mut S,
     piece: &mut [u8],

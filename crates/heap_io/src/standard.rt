@@ -1,4 +1,4 @@
-//! Readers and writers of std, such as standard input and output. Clauses speak of their bytes where std tells them,
+//! Readers and writers of std, such as standard input and output. Clauses describe their bytes where std models them,
 //! which it doesn't for the standard ones.
 ghost use Rattle.std.specs.Prelude.{◌≡◌, ◌<◌, ◌≤◌, [], false, length, is_err, IfOk, if◌then◌else◌};
 ghost use Rattle.std.specs.Io.KnownBytes.{ReadConsumes, WriteAppends};
@@ -48,7 +48,7 @@ impl<R: Read> Source for StdSource<R> {
         ensures within { IfOk result (λ n. n ≤ length into.old) }
         ensures cause { HasCause self.old.faults self.new.faults result }
 
-        // It takes what the reader gives, and each fault is an error that was answered.
+        // It takes what the reader gives, and each fault is an error that was returned.
         ensures read { ReadConsumes self.old.unread self.new.unread result into.new }
         ensures faults { self.new.faults ≡ (if is_err result then raised self.old.faults else self.old.faults) }
     {
@@ -63,7 +63,7 @@ impl<R: Read> Source for StdSource<R> {
 }
 
 /// A writer as a sink, as standard output: `StdSink::new(rt.stdout())`. Each piece goes straight to the writer. A call
-/// also fails where the writer takes no byte of a piece.
+/// also fails if the writer accepts no byte of a piece.
 #[derive(Drop)]
 pub struct StdSink<W: Write> {
     writer: W,
@@ -102,7 +102,7 @@ impl<W: Write> Sink for StdSink<W> {
         ensures some { IfOk result (λ n. 0 < length piece.now → 0 < n) }
         ensures cause { HasCause self.old.faults self.new.faults result }
 
-        // What it says it put, the writer was given, and each fault is an error that was answered.
+        // What it reports as written, the writer was given, and each fault is an error that was returned.
         ensures wrote { WriteAppends self.old.held self.new.held result piece.now }
         ensures faults { self.new.faults ≡ (if is_err result then raised self.old.faults else self.old.faults) }
     {
@@ -115,7 +115,7 @@ impl<W: Write> Sink for StdSink<W> {
         }
     }
 
-    // Who reads it wants all of it.
+    // Its reader wants all of it.
     fn discards(&self) -> bool
         ensures { result ≡ false }
     {

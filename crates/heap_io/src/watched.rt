@@ -1,4 +1,4 @@
-//! A writer that a reader waits for, as standard output, and that may be watched on a terminal.
+//! A writer whose reader waits for it, as standard output, with progress reports on a terminal.
 ghost use Rattle.std.specs.Prelude.{◌≡◌, ◌<◌, ◌≤◌, [], false, length, is_err, IfOk, if◌then◌else◌};
 ghost use Rattle.std.specs.Io.KnownBytes.{WriteAppends};
 ghost use Rattle.counts.specs.Count.{raised};
@@ -8,11 +8,11 @@ use crate::{Sink, SinkFailed, StdSink};
 use std::io::{IsTerminal, Stderr, Write};
 use std::marker::Model;
 
-/// Pieces of work with fewer parts are not told of.
+/// Work with fewer parts is not reported.
 const LONG: u32 = 1_000;
 
-/// A writer as a sink, as standard output: `WatchedSink::new(rt.stdout(), rt.stderr())`. How far a long piece of work is it
-/// tells on standard error, where that is a terminal: a line for each tenth.
+/// A writer as a sink, as standard output: `WatchedSink::new(rt.stdout(), rt.stderr())`. It reports the progress of a long piece of work
+/// on standard error, if that is a terminal: a line for each tenth.
 #[derive(Drop)]
 pub struct WatchedSink<W: Write> {
     sink: StdSink<W>,
@@ -52,14 +52,14 @@ impl<W: Write> Sink for WatchedSink<W> {
         ensures some { IfOk result (λ n. 0 < length piece.now → 0 < n) }
         ensures cause { HasCause self.old.faults self.new.faults result }
 
-        // What it says it put, the writer was given, and each fault is an error that was answered.
+        // What it reports as written, the writer was given, and each fault is an error that was returned.
         ensures wrote { WriteAppends self.old.held self.new.held result piece.now }
         ensures faults { self.new.faults ≡ (if is_err result then raised self.old.faults else self.old.faults) }
     {
         self.sink.put(piece)
     }
 
-    // Who reads it wants all of it.
+    // Its reader wants all of it.
     fn discards(&self) -> bool
         ensures { result ≡ false }
     {
@@ -69,7 +69,7 @@ impl<W: Write> Sink for WatchedSink<W> {
     fn show_progress(&self, done: u32, all: u32) {
         if all >= LONG && done % (all / 10) == 0 && self.watcher.is_terminal() {
             let mut watcher = self.watcher;
-            // What can't be shown is not needed.
+            // Progress that can't be shown is no error.
             let _ = writeln!(watcher, "{done} of {all} rounds");
         }
     }

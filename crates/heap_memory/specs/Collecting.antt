@@ -1,4 +1,4 @@
--- A collection beside the transactions: the records that its events and the barrier plan, and the spaces and the collection behind them.
+-- A collection beside the transactions: the records that its events and the barrier plan, and the spaces and the collection after them.
 use Rattle.std.specs.Prelude.{◌≡◌, ℕ, List, [], ◌∷◌, fold, unwrap_or, length, Option, None, Some, if◌then◌else◌}
 use Rattle.std.specs.Option.{option_map}
 use Rattle.std.specs.FinSet.{empty}
@@ -29,24 +29,24 @@ abbrev pub place_barrier : Memory → Place → ℕ → List Record
 place_barrier m (Stable at) i = barrier_records m at i
 place_barrier m (Volatile at) i = []
 
--- the spaces behind a record of a collection that runs, or of a write
+-- the spaces after a record of a collection that runs, or of a write
 abbrev pub spaces_with : SpacesState → Record → SpacesState
 spaces_with spaces (Copy from to words) = with_copied spaces (length words)
 spaces_with spaces Collected = with_none_owed spaces
 spaces_with spaces rec = spaces
 
--- the spaces behind these
+-- the spaces after these
 abbrev pub spaces_behind : SpacesState → List Record → SpacesState
 spaces_behind spaces records = fold spaces_with spaces records
 
--- the collection behind such a record
+-- the collection after such a record
 abbrev pub collection_with : Option Collection → Record → Option Collection
 collection_with runs (Copy from to words) = option_map (λ k. with_copies k (copied_by (Copy from to words))) runs
 collection_with runs (Scan page writes) = option_map (λ k. with_scanned k page) runs
 collection_with runs Collected = None
 collection_with runs rec = runs
 
--- the collection behind these
+-- the collection after these
 abbrev pub collection_behind : Option Collection → List Record → Option Collection
 collection_behind runs records = fold collection_with runs records
 

@@ -33,7 +33,7 @@ use Rattle.heap_memory.specs.Refusals.{asked, sealing_records, sealing_need}
 use Rattle.heap_memory.specs.Replies.{words_behind}
 use Rattle.heap_memory.specs.Collecting.{place_barrier, spaces_behind, collection_behind, flip_copies, flip_records, scan_event_records, IsNextPage}
 
--- The log has these records waiting besides, and is where it was.
+-- The log has these further pending records, and is where it was.
 pub record Adds (old new : Log) (records : List Record) : Type 0 where
   pub place : IsPlaced old new
   pub kept : (batches : List (List Record)) (pending : List Record) → Keeps old batches pending → Keeps new batches (pending ++ records)
@@ -42,7 +42,7 @@ pub record Adds (old new : Log) (records : List Record) : Type 0 where
 abbrev pub pages_of : Memory → Pages
 pages_of m = record { words = m.words; lsns = m.lsns }
 
--- What an event leaves: these records more wait, their effect is in the words, and the pages that they touch have their LSNs; the rest is
+-- What an event leaves: these further records are pending, their effect is in the words, and the pages that they touch have their LSNs; the rest is
 -- this.
 pub record Leaves (old new : Memory) (records : List Record) (transactions : TableState) (held : Holdings) (current : SpacesState) (runs : Option Collection) (count : ℕ) : Type 0 where
   pub log : Adds old.log new.log records
@@ -67,7 +67,7 @@ pub record IsAsItWas (old new : Memory) : Type 0 where
   pub collection : new.collection ≡ old.collection
   pub sealed : new.sealed ≡ old.sealed
 
--- What an event of session s leaves that appends these records: of its transaction this, these locks, and the spaces and the collection behind
+-- What an event of session s leaves that appends these records: of its transaction this, these locks, and the spaces and the collection after
 -- the records of its barrier.
 abbrev pub LeavesOwn : Memory → Memory → ℕ → List Record → TransactionState → Holdings → Type 0
 LeavesOwn old new s records t held =
@@ -87,7 +87,7 @@ pub record SetsHandle (old new : Memory) (s h : ℕ) (o : Option Place) : Type 0
   pub was : own old s ≡ Some transaction
   pub left : LeavesOwn old new s [] (with_handle transaction h o) old.locks
 
--- the transaction with an object more in its area, which a handle holds
+-- the transaction with one more object in its area, which a handle holds
 abbrev pub with_made : TransactionState → ℕ → ℕ → TransactionState
 with_made t h len = record t { handles = slice_set t.handles h (Some (Volatile (length t.area.words))); area = with_object t.area len }
 
@@ -112,7 +112,7 @@ abbrev pub with_lock : Holdings → TransactionState → Mode → Place → Hold
 with_lock locks t mode (Stable at) = set.insert locks (asked t.number mode at)
 with_lock locks t mode (Volatile at) = locks
 
--- A word was put into a field of the object at a place, behind the scan of its page where that is needed.
+-- A word was put into a field of the object at a place, after the scan of its page where that is needed.
 pub record Writes (old new : Memory) (s : ℕ) (p : Place) (i w : ℕ) : Type 0 where
   pub transaction : TransactionState
   pub was : own old s ≡ Some transaction
@@ -136,7 +136,7 @@ with_read t h (Some (word.Stable at)) = with_handle t h (Some (Stable at))
 with_read t h (Some (word.Volatile at)) = with_handle t h (Some (Volatile at))
 with_read t h meant = t
 
--- A field of the object at a place was read, behind the scan of its page where that is needed, and h2 holds what it refers to.
+-- A field of the object at a place was read, after the scan of its page where that is needed, and h2 holds what it refers to.
 pub record GetsAt (old new : Memory) (s : ℕ) (p : Place) (i h2 : ℕ) : Type 0 where
   pub transaction : TransactionState
   pub was : own old s ≡ Some transaction

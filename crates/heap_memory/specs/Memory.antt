@@ -20,7 +20,7 @@ use Rattle.txn_table.specs.Table.{TransactionState, TableState, transaction_of}
 
 -- What an open heap keeps in memory, as contracts see it.
 pub record Memory : Type 0 where
-  pub log : Log  -- with the records that wait
+  pub log : Log  -- with the pending records
   pub words : List ℕ  -- those of both spaces, by address
   pub lsns : List ℕ  -- the LSN of each page
   pub store : PageStore  -- with which LSN, and in which frame, each page is stored

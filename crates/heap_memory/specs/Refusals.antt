@@ -44,7 +44,7 @@ abbrev pub and_then : Result Place Refusal → (Place → Option Refusal) → Op
 and_then (Err why) next = Some why
 and_then (Ok p) next = next p
 
--- why a field can't be named of an object with so many
+-- why a field of an object with that many can't be named
 abbrev pub field_refusal : ℕ → ℕ → Option Refusal
 field_refusal count i = if nat_le count i then Some BadField else None
 
@@ -56,7 +56,7 @@ range_refusal v = if nat_le no_int v then Some Range else None
 abbrev pub asked : ℕ → Mode → ℕ → Holding
 asked t mode at = record { key = record { address = at }; transaction = t; mode = mode }
 
--- why the object at a place can't be used in a mode: others hold it. Objects of its own area no other transaction holds.
+-- why the object at a place can't be used in a mode: others hold it. No other transaction holds objects of its own area.
 abbrev pub lock_refusal : Holdings → TransactionState → Mode → Place → Option Refusal
 lock_refusal locks t mode (Stable at) = busy_with (holder_of locks (asked t.number mode at))
 lock_refusal locks t mode (Volatile at) = None
@@ -103,7 +103,7 @@ same_refusal m s h h2 = and_then (held_place (own m s) h) (λ p. and_then (held_
 abbrev pub len_refusal : Memory → ℕ → ℕ → Option Refusal
 len_refusal m s h = and_then (held_place (own m s) h) (λ p. None)
 
--- why a transaction's area has no room for an object of so many fields
+-- why a transaction's area has no room for an object of that many fields
 abbrev pub area_refusal : Option TransactionState → ℕ → Option Refusal
 area_refusal None len = Some NotActive
 area_refusal (Some t) len = if nat_lt VOLATILE_WORDS (length t.area.words + 2 + len) then Some (VolatileFull (length t.area.words)) else None
@@ -124,7 +124,7 @@ sealing_records m t = seal_records t.area m.words t.undo (m.spaces.base + m.spac
 abbrev pub sealing_need : Memory → TransactionState → ℕ
 sealing_need m t = promoted_need t.area m.words t.undo
 
--- why the current space has no room for so many words
+-- why the current space has no room for that many words
 abbrev pub space_refusal : SpacesState → ℕ → Option Refusal
 space_refusal spaces need = if nat_lt (open_words spaces) need then Some (Exhausted need (free_words spaces) spaces.owed) else None
 
@@ -140,10 +140,10 @@ seal_refusal_of m (Some t) =
 abbrev pub seal_refusal : Memory → ℕ → Option Refusal
 seal_refusal m s = seal_refusal_of m (own m s)
 
--- why no collection can begin that has these roots
+-- why no collection with these roots can begin
 abbrev pub flip_refusal : Memory → List ℕ → Option Refusal
 flip_refusal m roots = if is_some m.collection then None else records_room m (flip_records m roots)
 
--- why there can be no scan, whose next page is this
+-- why there can be no scan whose next page is this
 abbrev pub scan_refusal : Memory → Option ℕ → Option Refusal
 scan_refusal m next = records_room m (scan_event_records m m.collection next)

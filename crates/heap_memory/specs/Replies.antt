@@ -1,4 +1,4 @@
--- What an event of a session is answered that is not refused, by what is kept in memory.
+-- What an event of a session that is not refused is answered, by what is kept in memory.
 use Rattle.std.specs.Prelude.{ℕ, List, length, fold, Option, None, Some, is_some, Result, Ok, Err, slice_index, if◌then◌else◌}
 use Rattle.graph_model.specs.declared.reply.Refusal.{Refusal}
 use Rattle.graph_model.specs.declared.reply.Reply.{Reply}
@@ -24,7 +24,7 @@ word_reply meant = answer.Null
 abbrev pub meant_held : Memory → ℕ → ℕ → ℕ → Option Word
 meant_held m s h i = meaning (slice_index (fields_held m (own m s) (held_place (own m s) h)) i)
 
--- the words behind the scan that comes before field i of the object at a place is read or written
+-- the words after the scan that comes before field i of the object at a place is read or written
 abbrev pub words_behind : Memory → Result Place Refusal → ℕ → List ℕ
 words_behind m (Ok p) i = fold put_record m.words (place_barrier m p i)
 words_behind m (Err why) i = m.words
@@ -44,7 +44,7 @@ same_reply_of one other = answer.No
 abbrev pub same_reply : Memory → ℕ → ℕ → ℕ → Reply
 same_reply m s h h2 = same_reply_of (held_place (own m s) h) (held_place (own m s) h2)
 
--- how many fields the object has that a handle holds
+-- how many fields the object that a handle holds has
 abbrev pub len_reply : Memory → ℕ → ℕ → Reply
 len_reply m s h = answer.Length (length (fields_held m (own m s) (held_place (own m s) h)))
 
@@ -57,7 +57,7 @@ scan_reply_of m None next = answer.Idle
 scan_reply_of m (Some k) None = answer.Collected m.spaces.used
 scan_reply_of m (Some k) (Some page) = answer.Scanned page (length (copied_in (page_records m page))) (words_copied (page_records m page))
 
--- what a scan is answered whose next page is this
+-- what a scan whose next page is this is answered
 abbrev pub scan_reply : Memory → Option ℕ → Reply
 scan_reply m next = scan_reply_of m m.collection next
 

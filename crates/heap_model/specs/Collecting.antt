@@ -45,7 +45,7 @@ abbrev pub is_reference_to : Id → Val → Bool
 is_reference_to id (Ref target) = is_same_id target id
 is_reference_to id v = false
 
--- a field of an object that transaction t made refers to the object, also one of an object that nothing names any more
+-- a field of an object that transaction t made refers to the object, even a field of an object that nothing names any more
 abbrev pub refers_to : View → ℕ → Id → Bool
 refers_to view t id = list_any (λ k. list_any (is_reference_to id) (fields view.graph (made_by t k))) (range_with_len 1 view.made)
 
@@ -151,7 +151,7 @@ copied_in records = flat_map copied_by records
 abbrev pub words_copied : List Record → ℕ
 words_copied records = sum_by (λ (c : CopiedObject). c.words) (copied_in records)
 
--- what a flip is answered that has these records
+-- what a flip with these records is answered
 abbrev pub flip_reply : List Record → Reply
 flip_reply [] = answer.Collecting
 flip_reply (rec ∷ more) = answer.Flipped (length (copies_in rec)) (copied_size (copies_in rec))
@@ -161,7 +161,7 @@ scan_reply_in s records None page = answer.Idle
 scan_reply_in s records (Some k) None = answer.Collected s.used
 scan_reply_in s records (Some k) (Some page) = answer.Scanned page (length (copied_in records)) (words_copied records)
 
--- what a scan is answered that has these records
+-- what a scan with these records is answered
 abbrev pub scan_reply : Option State → List Record → Reply
 scan_reply None records = answer.Idle
 scan_reply (Some s) records = scan_reply_in s records s.collection (next_page s.collection)

@@ -45,22 +45,22 @@ pub record Core : Type 0 where
   pub before : ℕ  -- how many transactions were committed at the opening
   pub history : List Entry  -- the events since then and their replies
   pub batches : List (List Record)  -- the log's batches on the disk
-  pub words : List ℕ  -- the words of both spaces behind these
+  pub words : List ℕ  -- the words of both spaces after these
   pub pending : List Record  -- the pending records after them
   pub stored_lsns : ℕ → ℕ  -- the LSN with which each page is stored, or 0
   pub gates : ℕ → ℕ  -- how many gates of each page's two frames are open
-  pub places : Places  -- the objects that stand in the current space behind all of these, with their addresses
+  pub places : Places  -- the objects that stand in the current space after all of these, with their addresses
   pub remaining : Places  -- those that a collection has not copied yet, with their addresses in the from-space
 
 -- the next transaction's number
 abbrev pub next_number : Core → ℕ
 next_number c = c.first + (account c.history).begun
 
--- the records on the disk and those that wait
+-- the records on the disk and the pending ones
 abbrev pub all_records : Core → List Record
 all_records c = records_of c.batches ++ c.pending
 
--- the words behind all of them
+-- the words after all of them
 abbrev pub all_words : Core → List ℕ
 all_words c = fold put_record c.words c.pending
 
@@ -92,7 +92,7 @@ abbrev pub undo_with : Option State → ℕ → List UndoEntry
 undo_with None t = []
 undo_with (Some s) t = undo_of s t
 
--- the writes of each transaction that may be taken back behind records, the newest first
+-- the writes of each transaction that may be taken back after records, the newest first
 abbrev pub undo_behind : Core → List Record → ℕ → List UndoEntry
 undo_behind c records t = undo_with (state_behind c records) t
 
@@ -130,7 +130,7 @@ write_records place t g (Some id) i v = update place t (place id) (fields g id) 
 abbrev pub view_records : Places → ℕ → View → ℕ → ℕ → Val → List Record
 view_records places t view h i v = write_records (place_of places view.graph) t view.graph (held view.registers h) i v
 
--- the objects that the seal of a transaction moves which sees this
+-- the objects moved by the seal of a transaction that sees this
 abbrev pub seal_moves : Ground → ℕ → View → List Move
 seal_moves ground t view = moves_of (area_in ground.places view t) ground.words (undo_with ground.state t) (next_word ground.state)
 
@@ -188,7 +188,7 @@ abbrev pub held_barrier : Ground → Option Id → ℕ → List Record
 held_barrier ground None i = []
 held_barrier ground (Some id) i = barrier_at ground.state ground.words (address_of ground.places id) i
 
--- the records of the barrier in front of field i of what a handle of a session's transaction holds, if it has one
+-- the records of the barrier before field i of what a handle of a session's transaction holds, if it has one
 abbrev pub call_barrier : Ground → Graph → Account → Option Transaction → ℕ → ℕ → List Record
 call_barrier ground g0 a None h i = []
 call_barrier ground g0 a (Some t) h i = held_barrier ground (held (view g0 a t).registers h) i
@@ -217,14 +217,14 @@ barrier_records c event = barrier_for (ground c) c.g0 (account c.history) event
 abbrev pub placing : Core → Placing
 placing c = placing_of c.places c.remaining
 
--- the core with these records of a collection behind all that wait, and its objects where they move them
+-- the core with these records of a collection after all pending ones, and its objects where they move them
 abbrev pub moved : Core → List Record → Core
 moved c [] = c
 moved c (r ∷ rs) =
     let there = moved_by_all (placing c) (r ∷ rs) in
     record c { pending = c.pending ++ (r ∷ rs); places = there.places; remaining = there.remaining }
 
--- the core on which an event is made: behind the barrier's scan, and the core itself where there is none
+-- the core on which an event is made: after the barrier's scan, and the core itself where there is none
 abbrev pub behind_barrier : Core → Event → Core
 behind_barrier c event = moved c (barrier_records c event)
 
@@ -252,7 +252,7 @@ event_places c event = places_for (ground c) c.g0 (account c.history) event
 abbrev pub used : Core → ℕ
 used c = length (batches_bytes c.batches) + 1 + length (pending_batch c.pending)
 
--- the bytes that records take behind those that wait, with those of a batch where none waits
+-- the bytes that records take after the pending ones, with those of a batch where none is pending
 abbrev pub need : List Record → List Record → ℕ
 need pending [] = 0
 need [] (r ∷ rs) = length (spellings (r ∷ rs)) + BATCH_BYTES
@@ -290,14 +290,14 @@ area_refusal view t len =
 abbrev pub seal_need : Ground → ℕ → View → ℕ
 seal_need ground t view = promoted_need (area_in ground.places view t) ground.words (undo_with ground.state t)
 
--- why the current space has no room for so many words: fewer are free and not owed to a collection
+-- why the current space has no room for that many words: fewer are free and not owed to a collection
 abbrev pub space_refusal : Option State → ℕ → Option Refusal
 space_refusal None need = None
 space_refusal (Some s) need =
     let free = space_words s.pages - s.used in
     if nat_lt (free - owed s) need then Some (Exhausted need free (owed s)) else None
 
--- why there is no room for what a transaction asks: for a new object, or for those that its seal promotes
+-- why there is no room for what a transaction asks for: a new object, or those that its seal promotes
 abbrev pub room_refusal : Ground → Graph → Account → Option Transaction → Event → Option Refusal
 room_refusal ground g0 a None event = None
 room_refusal ground g0 a (Some t) (Begin s) = None
@@ -340,15 +340,15 @@ granted_by c Scan = scan_reply (ground c).state (own_records c Scan)
 granted_by c (Flush p) = if is_dirty c p then Flushed p else Clean p
 granted_by c event = granted (next_number c) c.g0 (account c.history) event
 
--- what an event is answered where the disk does what it is asked
+-- what an event is answered where the disk does not fail
 abbrev pub answer : Core → Event → Reply
 answer c event = reply_of (core_refusal c event) (granted_by c event)
 
--- the state with one entry more
+-- the state with one more entry
 abbrev pub with_entry : Core → Event → Reply → Core
 with_entry c event reply = record c { history = c.history ++ record { event = event; reply = reply } ∷ [] }
 
--- all that waits is on the disk, as one batch
+-- all pending records are on the disk, as one batch
 abbrev pub forced : Core → List Record → Core
 forced c [] = c
 forced c (r ∷ rs) = record c { batches = c.batches ++ (r ∷ rs) ∷ []; words = fold put_record c.words (r ∷ rs); pending = [] }
@@ -382,12 +382,12 @@ done c event =
     let b = behind_barrier c event in
     record b { pending = b.pending ++ own_records c event; places = b.places ++ event_places b event }
 
--- what an event does that may be refused
+-- what an event that may be refused does
 abbrev pub after_refusal : Option Refusal → Core → Event → Core
 after_refusal None c event = done c event
 after_refusal (Some why) c event = c
 
--- the state after an event where the disk does what it is asked
+-- the state after an event where the disk does not fail
 abbrev pub after : Core → Event → Core
 after c event = with_entry (after_refusal (core_refusal c event) c event) event (answer c event)
 
@@ -416,7 +416,7 @@ calls_if None c Force = force_calls c.pending
 calls_if None c (Flush p) = flush_calls c p
 calls_if why c event = 0
 
--- the writes and syncs of an event where the disk does what it is asked
+-- the writes and syncs of an event where the disk does not fail
 abbrev pub calls : Core → Event → ℕ
 calls c event = calls_if (core_refusal c event) c event
 

@@ -23,7 +23,7 @@ pub record IsLogged (c : Core) (stored : Pages) : Type 0 where
   pub prefixes : EachHoldsPrefix (log_origin c) (records_of c.batches) stored
   pub lsns : (p : ℕ) → p < pages_in c.pages → lsn_of stored p ≡ c.stored_lsns p
 
--- The disk holds the batches that were forced, or those that wait as one more.
+-- The disk holds the batches that were forced, or the pending ones as one more.
 abbrev pub IsOnDisk : Core → List (List Record) → Type 0
 IsOnDisk c batches = (batches ≡ c.batches) ⊎ (batches ≡ with_batch c.batches c.pending)
 
@@ -34,8 +34,8 @@ pub record IsSuperOf (s : Super) (c : Core) : Type 0 where
   pub room : s.log_bytes ≡ c.room
   pub first : s.first ≡ c.first_number
 
--- An image stands for the first k commits of a core since its opening. All that was acknowledged is among them, and so is what was forced of
--- which no reply has told. It has the core's superblock, and its next transaction number is not below the core's first.
+-- An image stands for the first k commits of a core since its opening. All that was acknowledged is among them, and so is what was forced
+-- though no reply says so. It has the core's superblock, and its next transaction number is not below the core's first.
 pub record StandsForFirst (c : Core) (k : ℕ) (image : List ℕ) : Type 0 where
   pub stands : StandsFor (serial c.g0 (take k (commits c.history))) (c.before + k) image
   pub of : IsSuperOf stands.super c
@@ -44,11 +44,11 @@ pub record StandsForFirst (c : Core) (k : ℕ) (image : List ℕ) : Type 0 where
   pub forced : commits_on_disk c ≤ c.before + k
   pub some : k ≤ length (commits c.history)
 
--- The image stands for first commits, and all that was acknowledged is among them.
+-- The image stands for a commit prefix: for the first k commits, with all that was acknowledged among them.
 abbrev pub IsCommitPrefix : Core → List ℕ → Type 0
 IsCommitPrefix c image = (k : ℕ) × StandsForFirst c k image
 
--- The image stands for first commits, so many at least.
+-- The image stands for the first commits, at least `least` of them.
 pub record HasAtLeast (c : Core) (least : ℕ) (image : List ℕ) : Type 0 where
   pub count : ℕ
   pub stands : StandsFor (serial c.g0 (take count (commits c.history))) (c.before + count) image

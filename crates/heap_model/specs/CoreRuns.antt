@@ -1,4 +1,4 @@
--- Events, one after another, where the disk does what it is asked.
+-- Events, one after another, where the disk does not fail.
 use Rattle.std.specs.Prelude.{◌≡◌, ℕ, ◌+◌, ◌≤◌, ◌<◌, List, [], ◌∷◌, ◌++◌}
 use Rattle.graph_model.specs.declared.event.Event.{Event}
 use Rattle.heap_model.specs.Core.{Core, after, calls}
@@ -13,7 +13,7 @@ abbrev pub total_calls : Core → List Event → ℕ
 total_calls c [] = 0
 total_calls c (event ∷ events) = calls c event + total_calls (after c event) events
 
--- The place among the events at which a disk stops that makes n writes and syncs from c on.
+-- The place among the events at which a disk that makes n writes and syncs from c on stops.
 pub record StopsAt (c : Core) (n : ℕ) (events : List Event) : Type 0 where
   pub before : List Event
   pub event : Event

@@ -1,4 +1,4 @@
--- When records and words tell a graph and a number of commits, and what an active transaction has at hand.
+-- When records and words encode a graph and a number of commits, and what an active transaction has at hand.
 use Rattle.std.specs.Prelude.{◌≡◌, ℕ, ◌+◌, ◌<◌, ◌≤◌, IsTrue, Bool, List, Option, Some, MatchOption}
 use Rattle.std.specs.List.{AllByRecursion}
 use Rattle.graph_model.specs.declared.id.Id.{Id}
@@ -15,7 +15,7 @@ use Rattle.graph_words.specs.Stands.{StandsCommitted}
 use Rattle.walk_laws.specs.Heap.{TellsBirths}
 use Rattle.heap_model.specs.Bits.{AreOf64Bits}
 
--- Records of a log that begins with the state `from`, and the words behind them, tell a graph: k transactions are committed and have left
+-- Records of a log that begins with the state `from`, and the words after them, encode a graph: k transactions are committed and have left
 -- it. Its objects stand at `places` in the current space, or remain in the from-space; and it stands in the completed words without the
 -- writes of transactions that have not ended.
 pub record IsTold (from : State) (born : Bool) (places remaining : Places) (g : Graph) (k : ℕ) (records : List Record) (words : List ℕ) (state : State) : Type 0 where

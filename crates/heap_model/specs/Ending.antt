@@ -14,7 +14,7 @@ abbrev pub abort_of : ℕ → Option Transaction → List Event
 abort_of s None = []
 abort_of s (Some t) = Abort s ∷ []
 
--- the force of records that wait, if some do
+-- the force of pending records, if there are any
 abbrev pub force_of : List Record → List Event
 force_of [] = []
 force_of (r ∷ rs) = Force ∷ []
@@ -30,7 +30,7 @@ forcing c = force_of c.pending
 abbrev pub ending : Core → List Event
 ending c = aborting c ++ forcing (after_events c (aborting c))
 
--- All events of a run from c on: those that were asked, and then those that end the run. One that is to be stopped has no end of its own.
+-- All events of a run from c on: those that were asked for, and then those that end the run. One that is to be stopped has no end of its own.
 abbrev pub all_events : Option ℕ → Core → List Event → List Event
 all_events None c events = events ++ ending (after_events c events)
 all_events (Some n) c events = events

@@ -69,7 +69,7 @@ pub record IsShaped (s : Super) (batches : List (List Record)) (stored : Pages) 
   pub log : IsShapedLog s batches stored
   pub held : Holds s batches stored image
 
--- A legal image: it holds a log, and that is legal. Of what is opened on a disk that tells nothing no more is known than that a log is shaped.
+-- A legal image: it holds a log, and that is legal. Of what is opened on an unmodelled disk no more is known than that a log is shaped.
 pub record IsLegal (s : Super) (batches : List (List Record)) (stored : Pages) (image : List ℕ) : Type 0 where
   pub log : IsLegalLog s batches stored
   pub held : Holds s batches stored image

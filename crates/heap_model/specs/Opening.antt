@@ -1,4 +1,4 @@
--- What an opening of a legal image does: it takes back the writes of transactions that have not ended, in one batch more.
+-- What an opening of a legal image does: it takes back the writes of transactions that have not ended, in one more batch.
 use Rattle.std.specs.Prelude.{◌⊎◌, ℕ, Bool, not, IsTrue, List, [], Option, None, Some, filter, fold}
 use Rattle.graph_model.specs.Graph.{Graph}
 use Rattle.image_plan.specs.declared.superblock.Super.{Super}
@@ -25,11 +25,11 @@ rollback_in (Some state) = rollback state
 abbrev pub rollback_of : Super → List (List Record) → List Record
 rollback_of s batches = rollback_in (state_of s batches)
 
--- the batches behind an opening
+-- the batches after an opening
 abbrev pub rolled_back : Super → List (List Record) → List (List Record)
 rolled_back s batches = with_batch batches (rollback_of s batches)
 
--- the words behind an opening
+-- the words after an opening
 abbrev pub rolled_words : Super → List (List Record) → Pages → List ℕ
 rolled_words s batches stored = fold put_record (redone_words s batches stored) (rollback_of s batches)
 
@@ -41,7 +41,7 @@ abbrev pub next_in : Option State → ℕ
 next_in None = 0
 next_in (Some state) = state.next
 
--- the number of the first transaction behind an opening
+-- the number of the first transaction after an opening
 abbrev pub next_of : Super → List (List Record) → ℕ
 next_of s batches = next_in (state_of s batches)
 
@@ -65,7 +65,7 @@ abbrev pub remaining_in : Option State → Places → Places
 remaining_in None places = []
 remaining_in (Some state) places = filter (λ p. in_other_space state p.1) places
 
--- The core of a heap just opened, where the log held these batches, its pages were stored so in frames with so many open gates, and this
+-- The core of a heap just opened, where the log held these batches, its pages were stored so in frames with these open gates, and this
 -- graph stands in the words at these places.
 abbrev pub opened : Super → List (List Record) → Pages → (ℕ → ℕ) → Bool → Places → Graph → Core
 opened s batches stored gates born places g =
@@ -94,6 +94,6 @@ pub record IsFound (s : Super) (batches : List (List Record)) (stored : Pages) (
   pub old : AreOld shaped.state.next places
   pub births : IsTrue born → TellsBirths shaped.state (current_in (Some shaped.state) places) (remaining_in (Some shaped.state) places) (words_of s batches stored)
 
--- An opening of this log leaves an image of it, or of the log behind the opening, beside the same pages.
+-- An opening of this log leaves an image of it, or of the log after the opening, beside the same pages.
 abbrev pub IsLeftByOpening : Super → List (List Record) → Pages → List ℕ → Type 0
 IsLeftByOpening s batches stored image = Holds s batches stored image ⊎ Holds s (rolled_back s batches) stored image

@@ -1,11 +1,11 @@
 -- Theorems on images and logs that do not depend on the steps of a core; those on its steps are in core_laws/specs/Theorems.antt.
 --
--- `OneMeaningTheorem`: an image stands for one graph and one number of commits (CoreLawsOneMeaning, `one_graph`). `SayingTheorem`: a legal
--- log says its graph, and so does the log behind an opening (CoreLawsOpened, `saying_law`).
+-- `OneMeaningTheorem`: an image stands for one graph and one number of commits (`one_graph` of proofs/Opening/OneMeaning). `SayingTheorem`: a
+-- legal log says its graph, and so does the log after an opening (`saying_law` of proofs/Opening/Opened).
 --
--- CoreLawsOpening and CoreLawsHeld are on the batches behind an opening and on what it leaves of an image, CoreLawsLegal on which logs are
--- legal, CoreLawsNew on an empty log. CoreLawsTold, CoreLawsHandles, CoreLawsRoom, CoreLawsGoes and CoreLawsGranted are on parts of one event,
--- CoreLawsStep, CoreLawsRun, CoreLawsLogged, CoreLawsGrow, CoreLawsCalls and CoreLawsEnding on what all steps keep, ListLaws on lists.
+-- In proofs/Opening, Rolled and Held are on the batches after an opening and on what it leaves of an image, Legal on which logs are legal, New
+-- on an empty log, and Told on a write. In proofs/Step, Handles, Room, Goes and Granted are on parts of one event, and Step, Logged, Grow and
+-- Calls, with Calls and Ending of proofs/Run, are on what all steps keep. ListLaws is on lists.
 use Rattle.std.specs.Prelude.{◌≡◌, ℕ, true, List}
 use Rattle.graph_model.specs.Canon.{canon}
 use Rattle.graph_model.specs.Graph.{Graph}
@@ -20,7 +20,7 @@ use Rattle.graph_words.specs.Places.{Places}
 abbrev pub OneMeaningTheorem : Type 0
 OneMeaningTheorem = (g h : Graph) (k j : ℕ) (image : List ℕ) → StandsFor g k image → StandsFor h j image → (canon g ≡ canon h) × (k ≡ j)
 
--- A legal log and the one behind its opening say the same.
+-- A legal log and the one after its opening say the same.
 pub record SaysOn (g : Graph) (s : Super) (batches : List (List Record)) (stored : Pages) : Type 0 where
   pub found : Says g (commits_of s batches) s batches stored
   pub left : Says g (commits_of s batches) s (rolled_back s batches) stored

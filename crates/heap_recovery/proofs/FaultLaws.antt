@@ -78,7 +78,7 @@ take_front (suc a) zero rs le = absurd (omega (arith, le))
 take_front (suc a) (suc b) [] le = refl
 take_front (suc a) (suc b) (r ∷ rs) le = ap (λ (l : List Record). r ∷ l) (take_front a b rs (omega arith))
 
--- none is stuck behind one that is
+-- a record after the first that can't follow is not the first
 never_later : (o : Origin) (rs : List Record) (a b : ℕ) → a < b → IsFirstUnshaped o rs a → IsFirstUnshaped o rs b → ⊥
 never_later o rs a b less first other =
     let Stuck : List Record → Type 0 = λ l. after_all o.state l ≡ None in
@@ -112,14 +112,14 @@ module _ (s : Super) (image : List ℕ) where
   pub one_state : (bs cs : List (List Record)) (m n : State) → IsReplayed s bs m image → IsReplayed s cs n image → m ≡ n
   one_state bs cs m n one other = let both : Some m ≡ Some n = sym one.reached ∙ reached_on s bs cs n one.log other in cc both
 
--- where all records follow one another none is told
+-- where all records follow one another none is reported
 pub replayed_unstuck : (s : Super) (batches : List (List Record)) (state : State) (image : List ℕ) (lsn : ℕ) → IsReplayed s batches state image → IsFaultAt (Rec lsn) image → ⊥
 replayed_unstuck s batches state image lsn replayed (r, bs, log, first) =
     let stuck = none_follow (origin_of r) (records_of bs) lsn first in
     let never : None ≡ Some state = sym stuck ∙ reached_on r image s bs batches state log replayed in
     cc never
 
--- where there is room for the rollback no lack of it is told
+-- where there is room for the rollback no lack of it is reported
 pub room_enough : (s : Super) (batches : List (List Record)) (state : State) (image : List ℕ) → HasRoom s batches state image → IsFaultAt Reserve image → ⊥
 room_enough s batches state image roomy (r, bs, n, replayed, lack) =
     let log = roomy.replayed.log in
@@ -139,7 +139,7 @@ one_first lsn at p q first other = elim (cases_order p q) [
   | inr (inr more) ↦ absurd (omega (arith, first.before q more, other.past))
 ]
 
--- what is told of the pages is told of those that are stored beside the image's log
+-- what is reported of the pages is reported of those that are stored beside the image's log
 first_ahead : (s : Super) (batches : List (List Record)) (image : List ℕ) (page : ℕ) → HoldsLog s batches image → IsFaultAt (Page page) image → IsFirstPast (next_lsn (origin_of s) (records_of batches) - 1) page (stored_in s image)
 first_ahead s batches image page log (r, bs, n, roomy, first) =
     let other = roomy.replayed.log in
@@ -149,13 +149,13 @@ first_ahead s batches image page log (r, bs, n, roomy, first) =
     let Q : List (List Record) → Type 0 = λ l. IsFirstPast (next_lsn (origin_of s) (records_of l) - 1) page (stored_in s image) in
     subst Q (one_batches s bs batches image mine.0 log) mine.1
 
--- where no page is ahead none is told
+-- where no page is ahead none is reported
 pub pages_behind : (s : Super) (batches : List (List Record)) (state : State) (image : List ℕ) (page : ℕ) → IsReadable s batches state image → IsFaultAt (Page page) image → ⊥
 pages_behind s batches state image page readable fault =
     let first = first_ahead s batches image page readable.roomy.replayed.log fault in
     omega (arith, first.past, readable.behind page)
 
--- what is told of the words is told of those that the log leaves
+-- what is reported of the words is reported of those that the log leaves
 pub readable_walk : (s : Super) (batches : List (List Record)) (state : State) (image : List ℕ) (address : ℕ) → IsReadable s batches state image → IsFaultAt (Address address) image
     → IsWalkFaultBeside (words_of s batches (stored_in s image)) state.base state.used (from_space state) address
 readable_walk s batches state image address readable (r, bs, n, other, fault) =
@@ -261,16 +261,16 @@ one_fault image (Address a) Reserve (s, bs, m, readable, walk) other = absurd (r
 one_fault image (Address a) (Page b) (s, bs, m, readable, walk) other = absurd (pages_behind s bs m image b readable other)
 one_fault image (Address a) (Address b) (s, bs, m, readable, walk) other = ap Address (beside_fault_one (words_of s bs (stored_in s image)) m.base m.used (from_space m) a b walk (readable_walk s bs m image b readable other))
 
--- What an error tells.
+-- What an error reports.
 
--- of what is no heap an error tells that, or nothing
+-- of what is no heap an error reports that, or nothing
 pub told_not_heap : (e : RecoverError) (image : List ℕ) → IsToldOf e image → IsNoHeap image → IsErrorOrOutside NotHeap e
 told_not_heap NoMemory image told none = inr tt
 told_not_heap NotHeap image told none = inl refl
 told_not_heap (Damaged at) image told none = absurd (no_heap_fault at image none told)
 told_not_heap (Disk e) image told none = inr tt
 
--- of what is damaged it tells where, or nothing
+-- of what is damaged it reports where, or nothing
 pub told_damaged : (e : RecoverError) (image : List ℕ) (at : At) → IsToldOf e image → IsFaultAt at image → IsErrorOrOutside (Damaged at) e
 told_damaged NoMemory image at told fault = inr tt
 told_damaged NotHeap image at told fault = absurd (no_heap_fault at image told fault)

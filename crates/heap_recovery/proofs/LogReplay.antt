@@ -1,4 +1,4 @@
--- How the replay of a log goes on, and how it ends.
+-- How the replay of a log continues, and how it ends.
 use Rattle.std.proofs.Common.{◌≡◌, ℕ, ◌+◌, ◌-◌, ◌<◌, ◌≤◌, true, false, List, [], ◌∷◌, ◌++◌, length, take, Option, None, Some, is_some, refl, sym, ap, ◌∙◌, subst, arith, length-append, inl, inr}
 use Rattle.std.specs.Prelude.{Bool, IsFalse, max}
 use Rattle.std.proofs.lemmas.Bool.{cases_lt}
@@ -33,7 +33,7 @@ use Rattle.heap_recovery.specs.Recovered.{IsRedone, IsRead, log_error}
 use Rattle.heap_recovery.specs.Replayed.{OneStuck, HasReplayed, HasReplayedLog}
 use Rattle.heap_recovery.proofs.Opening.{used_of}
 
--- One record more.
+-- One more record.
 
 pub none_of : (o : Option ℕ) → is_some o ≡ false → o ≡ None
 none_of None is = refl
@@ -45,7 +45,7 @@ one_more rs r = length-append rs (r ∷ [])
 bounds_more : (pages i : ℕ) (s : State) → Bounds pages i s → Bounds pages (i + 1) s
 bounds_more pages i s b = record { sound = b.sound; same_pages = b.same_pages; few = omega (arith, b.few); room = omega (arith, b.room) }
 
--- a record that can't follow is so with more behind it
+-- a record that can't follow is so with more after it
 stuck_on : (s : Super) (rs : List Record) (lsn : ℕ) (r : Record) → OneStuck s rs lsn → OneStuck s (rs ++ r ∷ []) lsn
 stuck_on s rs lsn r is =
     let P : List Record → Type 0 = λ l. is_some (after_all (start s.pages s.first) l) ≡ true in
@@ -68,7 +68,7 @@ module _ (s : Super) (stored : Pages) (rs : List Record) (r : Record) (old new :
   some_more : (state : State) → Bounds s.pages (length rs + 1) state → Bounds s.pages (length (rs ++ r ∷ [])) state
   some_more state b = subst (λ (n : ℕ). Bounds s.pages n state) (sym (one_more rs r)) b
 
-  -- behind one that can't follow nothing is done
+  -- after one that can't follow nothing is done
   pub replayed_behind : (lsn : ℕ) → old.unshaped ≡ Some lsn → new.unshaped ≡ old.unshaped → new.state ≡ old.state → HasReplayed s stored (rs ++ r ∷ []) new
   replayed_behind lsn is kept state = record {
     plan = ap (λ (x : PageStore). store_plan x) same ∙ was.plan;
@@ -107,7 +107,7 @@ module _ (s : Super) (stored : Pages) (rs : List Record) (r : Record) (old new :
         stuck = λ at here. (let never : None ≡ Some at = sym none' ∙ here in cc never);
       }
 
-  -- the first that can't follow is told
+  -- the first that can't follow is reported
   pub replayed_to : (lsn : ℕ) → lsn ≡ length rs + 1 → old.unshaped ≡ None → new.unshaped ≡ Some lsn → after old.state r ≡ None → new.state ≡ old.state → HasReplayed s stored (rs ++ r ∷ []) new
   replayed_to lsn next none is stuck state =
       let so_far = was.all none in
@@ -166,7 +166,7 @@ first_ahead s stored rs count page same first =
       before = λ q lt. omega (arith, first.before q lt, (lsn_reached s stored rs q (omega (arith, lt, here))).0, same);
     }
 
--- what is in memory behind a log whose records all follow
+-- what is in memory after a log whose records all follow
 pub redone_log : (s : Super) (stored : Pages) (rs : List Record) (replay : Replay) (count : ℕ) → HasReplayed s stored rs replay → replay.unshaped ≡ None → count ≡ length rs → EachLacks (count + 1) (cached replay.cache) → IsRedone s rs stored replay.cache
 redone_log s stored rs replay count is none same lacking =
     let all = is.all none in
@@ -180,13 +180,13 @@ redone_log s stored rs replay count is none same lacking =
       flushed = is.flushed;
     }
 
--- what a log's error tells of its bytes
+-- what a log's error reports of its bytes
 pub log_told_of : (log : List ℕ) (e : LogError) → ((offset : ℕ) → e ≡ logging.BadBatch offset → BreaksAt log offset) → IsToldOfLog log (log_error e)
 log_told_of log logging.NoMemory bad = tt
 log_told_of log (logging.BadBatch offset) bad = bad offset refl
 log_told_of log (logging.Disk e) bad = tt
 
--- What a replayed log tells of an image that holds it.
+-- What a replayed log says of an image that holds it.
 module _ (s : Super) (batches : List (List Record)) (stored : Pages) (log : Log) (replay : Replay) (is : HasReplayedLog s batches stored log replay) where
   count : log_count log ≡ length (records_of batches)
   count = omega (arith, is.keeps.count)
@@ -238,7 +238,7 @@ pub record IsOnWay (tells : Bool) (bytes : List ℕ) (s : Super) (first : Replay
   pub count : length given ≡ reader_lsn reader
   pub replayed : (stored : Pages) → HasReplayed s stored [] first → HasReplayed s stored given replay
 
--- a disk that tells the same bytes holds the same log
+-- a disk with the same bytes holds the same log
 pub log_still : (log image now : List ℕ) (at room at' room' : ℕ) → log ≡ part image at room → now ≡ image → at' ≡ at → room' ≡ room → log ≡ part now at' room'
 log_still log image now at room at' room' is same place size =
     is ∙ ap (λ (l : List ℕ). part l at room) (sym same) ∙ ap (λ (k : ℕ). part now k room) (sym place) ∙ ap (λ (k : ℕ). part now at' k) (sym size)

@@ -46,7 +46,7 @@ use Rattle.heap_recovery.specs.declared.reading.Reading.{Reading}
 use Rattle.heap_recovery.specs.declared.recovery.Recovered.{Recovered}
 use Rattle.heap_recovery.specs.Recovered.{IsRead, IsRecovered, IsFromOutside, ErrorPasses, OpenPasses}
 
--- a log in which no record waits is known to be so
+-- a log with no pending record is known to be so
 pub none_waits : (log : Log) (batches : List (List Record)) → Keeps log batches [] → IsBufferEmpty log
 none_waits log batches keeps = buffer_size-Keeps log batches [] keeps
 
@@ -128,7 +128,7 @@ module _ (s : Super) (batches : List (List Record)) (stored : Pages) (read : Rea
       ap (λ (pages : Pages). all_taken_back read.state pages.words) is.cache.pages
       ∙ sym (ap (λ (o : Option State). each_taken_back (losing_in o) (redone_words s batches stored)) is.state)
 
-  -- the records that roll back are redone behind those of the log
+  -- the records that roll back are redone after those of the log
   pub rolled_pages : redo_all (log_count read.log + 1) (cached read.cache) (rollback read.state) ≡ redone (origin_of s) stored (records_of (rolled_back s batches))
   rolled_pages =
       let first : log_count read.log + 1 ≡ 1 + length (records_of batches) = omega (arith, is.log.count) in
@@ -226,7 +226,7 @@ pub ok_passes : (r : Result Recovered RecoverError) (n before now : ℕ) → IsO
 ok_passes (Ok found) n before now ok passes = passes
 ok_passes (Err e) n before now ok passes = cc ok
 
--- a force makes four calls where a record waits
+-- a force makes four calls where a record is pending
 some_bytes : (r : Record) (rs : List Record) → 0 < length (spellings (r ∷ rs))
 some_bytes r rs = omega (arith, some_spelling r, length-append (spelling r) (spellings rs))
 
@@ -242,7 +242,7 @@ module _ (s : Super) (batches : List (List Record)) (stored : Pages) (read : Rea
       waiting_calls (buffer_size log) (rollback read.state) (buffer_size-Keeps log batches (rollback read.state) keeps) ∙ ap force_calls (sym (same_rollback s batches stored read is)) in
       subst (λ (n : ℕ). Passes n before now r) calls (subst (λ (n : ℕ). Passes (if is_waiting log then 4 else 0) n now r) same passes)
 
-  -- and no record waits where nothing is rolled back
+  -- and no record is pending where nothing is rolled back
   pub nothing_waits : rollback_of s batches ≡ [] → IsBufferEmpty log
   nothing_waits none = none_waits log batches (subst (λ (rs : List Record). Keeps log batches rs) (sym (same_rollback s batches stored read is) ∙ none) keeps)
 

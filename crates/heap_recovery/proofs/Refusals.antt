@@ -1,4 +1,4 @@
--- What an opening tells of an image that it refuses, and what it leaves of it.
+-- What an opening reports of an image that it refuses, and what it leaves of it.
 use Rattle.std.proofs.Common.{inl, inr, ◌≡◌, ◌≢◌, ◌⊎◌, ⊎_elim, ℕ, ◌+◌, ◌≤◌, List, Option, None, Some, Result, Ok, Err, refl, sym, ap, ◌∙◌, subst, arith}
 use Rattle.std.specs.Prelude.{IfOk, IfErr, IsOk, IsErrAnd}
 use Rattle.std.specs.List.{AllByRecursion}
@@ -33,14 +33,14 @@ use Rattle.heap_recovery.proofs.FaultLaws.{one_numbers, one_batches, shaped_log,
 use Rattle.heap_recovery.specs.Recovered.{IsRead, IsRecovered, IsFromOutside, ErrorPasses, OpenPasses}
 use Rattle.heap_recovery.proofs.Opening.{committed, only_still, in_log, held_there, outside_log, rolled_held, placed_there, read_shaped}
 
--- no numbers are those of an image of which an opening tells no damage, if none lets it end so but the outside
+-- an error that is no damage is true of an image, if it comes from outside wherever the image has numbers
 pub numbers_told : (e : RecoverError) (image : List ℕ) → ((at : At) → e ≢ Damaged at) → ((s : Super) → HasSuper s image → IsFromOutside e) → IsToldOf e image
 numbers_told NoMemory image never outside = tt
 numbers_told NotHeap image never outside = outside
 numbers_told (Damaged at) image never outside = absurd (never at refl)
 numbers_told (Disk e) image never outside = tt
 
--- What is told of an image that is shaped is nothing of it.
+-- An error on a shaped image reports nothing of it.
 pub told_outside : (s : Super) (batches : List (List Record)) (stored : Pages) (image : List ℕ) (e : RecoverError) → IsShaped s batches stored image → IsToldOf e image → IsFromOutside e
 told_outside s batches stored image NoMemory shaped told = tt
 told_outside s batches stored image NotHeap shaped told = absurd (told s (shaped_log s batches stored image shaped).super)
@@ -75,7 +75,7 @@ read_own s batches stored image (Ok read) shaped (bs, is, readable) =
 abbrev pub IsFoundOn : List ℕ → Recovered → Type 0
 IsFoundOn image found = (s : Super) × (batches : List (List Record)) × (stored : Pages) × IsShaped s batches stored image × IsRecovered s batches stored found
 
--- of what is no heap nothing is opened, and an error tells that
+-- of what is no heap nothing is opened, and an error reports that
 pub not_heap_told : (r : Result Recovered RecoverError) (image : List ℕ) → IfErr r (λ e. IsToldOf e image) → IfOk r (IsFoundOn image) → IsNoHeap image → IsErrAnd r (IsErrorOrOutside NotHeap)
 not_heap_told (Ok found) image told sound none = absurd (none sound.0 (shaped_log sound.0 sound.1 sound.2 image sound.3).super)
 not_heap_told (Err e) image told sound none = told_not_heap e image told none
@@ -103,7 +103,7 @@ module _ (r : Result Recovered RecoverError) (fault : Option ℕ) (damaged : (at
       either (Ok found) told = passes
       either (Err e) told = told
 
-  -- an error tells that fault
+  -- an error reports that fault
   pub finish_told : (image : List ℕ) → ((at : ℕ) → fault ≡ Some at → IsFaultAt (Address at) image) → IfErr r (λ e. IsToldOf e image)
   finish_told image told = ended fault (λ e. IsToldOf e image) refl told
 

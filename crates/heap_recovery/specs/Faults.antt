@@ -72,19 +72,19 @@ IsFaultAt (Page page) image =
 IsFaultAt (Address address) image =
     (s : Super) × (batches : List (List Record)) × (state : State) × IsReadable s batches state image × IsWalkFaultBeside (words_of s batches (stored_in s image)) state.base state.used (from_space state) address
 
--- what an error tells of the image
+-- what an error reports of the image
 abbrev pub IsToldOf : RecoverError → List ℕ → Type 0
 IsToldOf NoMemory image = Unit {0}
 IsToldOf NotHeap image = IsNoHeap image
 IsToldOf (Damaged at) image = IsFaultAt at image
 IsToldOf (Disk e) image = Unit {0}
 
--- what an error tells of a log's bytes: where they break off
+-- what an error reports of a log's bytes: where they break off
 abbrev pub IsToldOfLog : List ℕ → RecoverError → Type 0
 IsToldOfLog log (Damaged (Batch offset)) = BreaksAt log offset
 IsToldOfLog log e = IsFromOutside e
 
--- the error is this one, or tells nothing of the image
+-- the error is this one, or reports nothing of the image
 abbrev pub IsErrorOrOutside : RecoverError → RecoverError → Type 0
 IsErrorOrOutside this e = (e ≡ this) ⊎ IsFromOutside e
 
@@ -94,7 +94,7 @@ ComesBeforeWrites (Damaged (Address address)) = ⊥
 ComesBeforeWrites (Disk e) = ⊥
 ComesBeforeWrites e = Unit {0}
 
--- An opening of an image that holds this log leaves one that holds it, or the log behind the opening. Each byte outside of the log is as it was.
+-- An opening of an image that holds this log leaves one that holds it, or the log after the opening. Each byte outside of the log is as it was.
 abbrev pub IsLogLeft : Super → List (List Record) → List ℕ → List ℕ → Type 0
 IsLogLeft s batches old image = (HoldsLog s batches image ⊎ HoldsLog s (rolled_back s batches) image) × SameOutside log_offset (log_offset + s.log_bytes) old image
 

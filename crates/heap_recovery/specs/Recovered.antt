@@ -66,14 +66,14 @@ pub record IsRecovered (s : Super) (batches : List (List Record)) (stored : Page
   pub flushed : (p : ℕ) → p < pages_in s.pages → flushed_lsn found.cache p ≡ lsn_of stored p
   pub state : state_of s (rolled_back s batches) ≡ Some found.state
 
--- Memory was refused or the disk failed: nothing is told of the image.
+-- An allocation failed or the disk did: nothing is reported of the image.
 abbrev pub IsFromOutside : RecoverError → Type 0
 IsFromOutside NoMemory = Unit {0}
 IsFromOutside NotHeap = ⊥
 IsFromOutside (Damaged at) = ⊥
 IsFromOutside (Disk e) = Unit {0}
 
--- The calls of an opening that ends in an error: fewer than n where the disk stopped it, and none where memory was refused.
+-- The calls of an opening that ends in an error: fewer than n where the disk stopped it, and none where an allocation failed.
 abbrev pub ErrorPasses : ℕ → ℕ → ℕ → RecoverError → Type 0
 ErrorPasses n before now NoMemory = now ≡ before
 ErrorPasses n before now e = Passes n before now (error_device e)

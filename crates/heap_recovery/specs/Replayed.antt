@@ -1,4 +1,4 @@
--- What the records of a log leave that were replayed on pages as they were read.
+-- What the records of a log leave when replayed on pages as they were read.
 use Rattle.std.specs.Prelude.{◌≡◌, ℕ, ◌<◌, List, [], length, None, Some, IsFalse}
 use Rattle.std.specs.List.{AllByRecursion}
 use Rattle.gated_log.specs.declared.log.Log.{Log}
@@ -30,7 +30,7 @@ pub record OneStuck (s : Super) (records : List Record) (lsn : ℕ) : Type 0 whe
   pub reached : lsn < next_lsn (origin_of s) records
   pub first : IsFirstUnshaped (origin_of s) records lsn
 
--- These records were replayed, of a heap with these numbers, on pages that were stored so.
+-- These records of a heap with these numbers were replayed on pages that were stored so.
 pub record HasReplayed (s : Super) (stored : Pages) (records : List Record) (replay : Replay) : Type 0 where
   pub plan : store_plan (cache_store replay.cache) ≡ plan_of s
   pub unfailed : IsFalse (cache_failed replay.cache)

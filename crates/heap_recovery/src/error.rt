@@ -8,7 +8,7 @@ use std::alloc::AllocError;
 /// Why an image can't be opened.
 #[derive(Clone, Copy, Debug, PartialEq, Eq)]
 pub enum RecoverError {
-    /// Memory was refused.
+    /// Out of memory.
     NoMemory,
     /// The disk holds no heap: no good superblock, or fewer bytes than its plan.
     NotHeap,

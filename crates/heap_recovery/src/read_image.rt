@@ -42,15 +42,15 @@ pub fn read_image<D: Disk>(alloc: Global, disk: &mut D) -> Result<Reading, Recov
     ensures next { IfOk result (λ read. EachLacks (log_next_lsn read.log) (cached read.cache)) }
     ensures few { IfOk result (λ read. log_count read.log < 2 ^ 32) }
 
-    // They are the image's own, and an error tells what is wrong with it.
+    // They are the image's own, and an error reports what is wrong with it.
     ensures sound { IsTrue D.tells → IfOk result (λ read. (batches : List (List Record)) × IsRead read.of batches (stored_in read.of (D.bytes disk.old)) read × IsReadable read.of batches read.state (D.bytes disk.old)) }
     ensures refused { IsTrue D.tells → IfErr result (λ e. IsToldOf e (D.bytes disk.old)) }
     ensures known { IsTrue D.tells → IfOk result (λ read. Knows (cache_store read.cache) (D.bytes disk.old)) }
 
-    // Of a shaped image its own are read.
+    // Of a shaped image, its own log and pages are read.
     ensures found { IsTrue D.tells → (s : Super) (batches : List (List Record)) (stored : Pages) → IsShaped s batches stored (D.bytes disk.old) → IfOk result (IsRead s batches stored) }
     ensures shaped { IsTrue D.tells → (s : Super) (batches : List (List Record)) (stored : Pages) → IsShaped s batches stored (D.bytes disk.old) → IfErr result IsFromOutside }
-    // The words are not looked at yet.
+    // The words are not checked yet.
     ensures no_address { (address : ℕ) → result ≢ Err (Damaged (Address address)) }
     ensures disk { OnlyReads D.Disk disk.old disk.new (open_device result) }
 {
@@ -80,7 +80,7 @@ fn read_numbers<D: Disk>(disk: &mut D) -> Result<Super, RecoverError>
     Ok(found)
 }
 
-/// Reads the pages of a heap with these numbers, and then its log once, whose records it redoes on them.
+/// Reads the pages of a heap with these numbers, and then its log, once, and redoes its records on them.
 fn read_log<D: Disk>(alloc: Global, disk: &mut D, of: Super) -> Result<Reading, RecoverError>
     requires good { IsSuper of }
     requires fits { image_size of.pages of.log_bytes ≤ D.extent disk.old }

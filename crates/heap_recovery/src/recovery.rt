@@ -37,7 +37,7 @@ use object_layout::{FromSpace, WalkError, WordSlice, walk_beside};
 use page_cache::PageCache;
 use std::alloc::Global;
 
-/// A heap that was opened, in which no writes may be taken back any more.
+/// A heap that was opened, in which no writes are left to be taken back.
 #[derive(Debug, Drop)]
 pub struct Recovered {
     /// The log, with no pending record.
@@ -50,7 +50,7 @@ pub struct Recovered {
 
 /// Opens the image on the disk. The writes of unfinished transactions are rolled back, ascending by number and each newest
 /// first, by one forced batch of compensation records (repeating history as in ARIES, 1992); where there are none the disk is only read.
-/// `NotHeap` and `Damaged` tell the first fault of the image. The disk is then as it was, but for a fault at an address: that is reported
+/// `NotHeap` and `Damaged` report the first fault of the image. The disk is then as it was, but for a fault at an address: that is reported
 /// after the rollback was forced.
 pub fn recover<D: Disk>(alloc: Global, disk: &mut D) -> Result<Recovered, RecoverError>
     // On every disk what is opened is a log that is shaped beside some pages, rolled back.
@@ -59,13 +59,13 @@ pub fn recover<D: Disk>(alloc: Global, disk: &mut D) -> Result<Recovered, Recove
     ensures pages_inside { IfOk result (λ found. cache_size found.cache ≤ D.extent disk.new) }
     ensures disk { KeepsDisk D.Disk disk.old disk.new (open_device result) }
 
-    // They are the log and the pages of the image. An error tells what is wrong with the image, and every fault is reported.
+    // They are the log and the pages of the image. An error reports what is wrong with the image, and every fault is reported.
     ensures sound { IsTrue D.tells → IfOk result (λ found. (s : Super) × (batches : List (List Record)) × (stored : Pages) × IsShaped s batches stored (D.bytes disk.old) × IsRecovered s batches stored found) }
     ensures refused { IsTrue D.tells → IfErr result (λ e. IsToldOf e (D.bytes disk.old)) }
     ensures not_heap { IsTrue D.tells → IsNoHeap (D.bytes disk.old) → IsErrAnd result (IsErrorOrOutside NotHeap) }
     ensures damaged { IsTrue D.tells → (at : At) → IsFaultAt at (D.bytes disk.old) → IsErrAnd result (IsErrorOrOutside (Damaged at)) }
     ensures left_alone { IfErr result (λ e. ComesBeforeWrites e → OnlyReads D.Disk disk.old disk.new (open_device result)) }
-    // An image with a fault that comes before writes is only read, whatever the end: the first stop of its disk doesn't come here.
+    // An image with a fault that comes before writes is only read, whatever the outcome: its disk doesn't stop here for the first time.
     ensures reads_not_heap { IsTrue D.tells → IsNoHeap (D.bytes disk.old) → OnlyReads D.Disk disk.old disk.new (open_device result) }
     ensures reads_damaged { IsTrue D.tells → (at : At) → IsFaultAt at (D.bytes disk.old) → ComesBeforeWrites (Damaged at) → OnlyReads D.Disk disk.old disk.new (open_device result) }
 
@@ -86,7 +86,7 @@ pub fn recover<D: Disk>(alloc: Global, disk: &mut D) -> Result<Recovered, Recove
     // A crash at any moment leaves the image as it was, or with its log rolled back: both stand for the same graph and commits.
     ensures moments { IsTrue D.tells → Only (D.bytes disk.old) (D.may_leave disk.old) → (s : Super) (batches : List (List Record)) (stored : Pages) → IsShaped s batches stored (D.bytes disk.old) → LeavesOnly D.moment D.left_since disk.old disk.new (IsLeftByOpening s batches stored) }
     ensures passes { IsTrue D.tells → (s : Super) (batches : List (List Record)) (stored : Pages) → IsShaped s batches stored (D.bytes disk.old) → OpenPasses (opening_calls s batches) (D.passed disk.old) (D.passed disk.new) result }
-    // So many calls it makes too where the words are damaged, and leaves nothing unsynced that it tells.
+    // It makes that many calls also where the words are damaged, and where it reports damage it leaves nothing unsynced.
     ensures passes_readable { IsTrue D.tells → (s : Super) (batches : List (List Record)) (state : State) → IsReadable s batches state (D.bytes disk.old) → OpenPasses (opening_calls s batches) (D.passed disk.old) (D.passed disk.new) result }
     ensures durable_damaged { IsTrue D.tells → Only (D.bytes disk.old) (D.may_leave disk.old) → (at : At) → result ≡ Err (Damaged at) → Only (D.bytes disk.new) (D.may_leave disk.new) }
     // Where nothing is rolled back the disk is only read.
@@ -101,8 +101,8 @@ pub fn recover<D: Disk>(alloc: Global, disk: &mut D) -> Result<Recovered, Recove
 }
 
 impl Reading {
-    /// Rolls back the writes of unfinished transactions in memory. The records that do so are pending, and their pages have
-    /// them.
+    /// Rolls back the writes of unfinished transactions in memory. The records that do so are pending, and are redone on
+    /// their pages.
     fn roll_back(&mut self) -> Result<(), RecoverError>
         requires room { log_used self.old.log + reserve self.old.state ≤ log_room self.old.log }
         requires next { EachLacks (log_next_lsn self.old.log) (cached self.old.cache) }
@@ -125,7 +125,7 @@ impl Reading {
         Ok(())
     }
 
-    /// The first address at which the used words are no objects that refer to one another, if there is one: those of the current space,
+    /// The first address at which the used words are not objects that refer to one another, if there is one: those of the current space,
     /// and where a collection is under way those of the space that it empties.
     fn walk_fault(&self, alloc: Global) -> Result<Option<u32>, RecoverError>
         ensures passes { IfOk result (λ fault. fault ≡ None → IsStateWalked self.now.state (cached self.now.cache).words) }
@@ -179,7 +179,7 @@ impl Reading {
             cache,
             mut state,
         } = self;
-        // The rollback's records have ended each transaction that had not.
+        // The rollback's records have ended each transaction that had not ended.
         state.settle(alloc);
         Ok(Recovered { log, cache, state })
     }

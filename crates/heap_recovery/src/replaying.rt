@@ -1,4 +1,4 @@
-//! The log's records are replayed as they are read: each is taken by the record machine, redone on the pages, and dropped.
+//! The log's records are replayed as they are read: each is checked by the record machine, redone on the pages, and dropped.
 ghost use Rattle.std.specs.Prelude.{◌≡◌, length};
 ghost use Rattle.log_machine.specs.Machine.{words_in};
 ghost use Rattle.page_cache.specs.CacheState.{cached};
@@ -13,7 +13,7 @@ use log_records::Record;
 use page_cache::PageCache;
 use std::alloc::Global;
 
-/// What the records leave that were read so far.
+/// What the records that were read so far leave.
 #[derive(Debug, Drop)]
 pub struct Replay {
     /// The state after them, up to the first that can't follow.

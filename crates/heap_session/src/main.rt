@@ -55,7 +55,7 @@ fn end_of(rt: &HostRuntime) -> Result<End, AllocError> {
 fn main(rt: HostRuntime) -> ExitCode {
     let end = end_of(&rt).unwrap_or(End::Served(Status::NoMemory));
     if end != End::Served(Status::Done) {
-        // Nothing is left to be told where standard error can't be written.
+        // If standard error can't be written, nothing is left to report.
         let _ = eprintln!(rt; "{end}");
     }
     ExitCode::from(end.code())

@@ -16,7 +16,7 @@ use thread_program::run;
 /// The file of the heap, in the current folder.
 const HEAP_FILE: &str = "heap.img";
 
-/// The words of the command line, or the status where they can't be had: one that is no text is no word of the grammar.
+/// The words of the command line, or the status if they can't be read: one that is no text is no word of the grammar.
 fn command_line(rt: &(impl Env + AllocGlobal)) -> Result<Vec<String>, Status> {
     match env::args(rt) {
         Ok(args) => Ok(args.collect(rt.alloc()).map_err(|_| Status::NoMemory)?),
@@ -52,7 +52,7 @@ fn status_of<R: Threads + Wait + Sync>(
 fn main(rt: HostRuntime) -> ExitCode {
     let status = status_of(&rt, &rt).unwrap_or(Status::NoMemory);
     if status != Status::Done {
-        // Nothing is left to be told where standard error can't be written.
+        // If standard error can't be written, nothing is left to report.
         let _ = eprintln!(rt; "{status}");
     }
     ExitCode::from(status.code())

@@ -27,11 +27,11 @@ or-false : (b : Bool) → (b || false) ≡ b
 or-false true = refl
 or-false false = refl
 
--- a test of a list with one item more
+-- a test of a list with one more item
 pub any_push : {X : Type 0} (p : X → Bool) (xs : List X) (x : X) → list_any p (xs ++ x ∷ []) ≡ (list_any p xs || p x)
 any_push p xs x = list_any-append p xs (x ∷ []) ∙ ap (λ b. list_any p xs || b) (or-false (p x))
 
--- one address more
+-- one more address
 pub with_all-push : (s : FinSet nat_cmp) (xs : List ℕ) (x : ℕ) → with_all s (xs ++ x ∷ []) ≡ insert (with_all s xs) x
 with_all-push s [] x = refl
 with_all-push s (y ∷ ys) x = with_all-push (insert s y) ys x
@@ -49,7 +49,7 @@ without_more false true true = refl
 without_more false true false = refl
 without_more false false any = refl
 
--- one address more is taken out
+-- one more address is taken out
 pub removed_more : (s : FinSet nat_cmp) (b any : Bool) (at q : ℕ) → contains s q ≡ (b && not any) → contains (remove s at) q ≡ (b && not (any || (at == q)))
 removed_more s b any at q is =
     contains-remove nat_cmp_total s at q

@@ -85,14 +85,14 @@ pub none_of_none : named [] ≡ empty
 unfolding named named_below
 none_of_none = refl
 
--- a page that has none, behind the others
+-- a page that has none, after the others
 pub zero_behind : (pages : List ℕ) (p : ℕ) → get_or (pages ++ 0 ∷ []) p 0 ≡ get_or pages p 0
 zero_behind [] zero = refl
 zero_behind [] (suc p) = refl
 zero_behind (x ∷ xs) zero = refl
 zero_behind (x ∷ xs) (suc p) = zero_behind xs p
 
--- nor does a page more that has none
+-- nor does one more page that has none
 pub grown : (pages : List ℕ) → named (pages ++ 0 ∷ []) ≡ named pages
 unfolding is_named
 grown pages = same_addresses _ _ (λ q. seen (pages ++ 0 ∷ []) q ∙ ap (λ bits. is_set bits (q % 64)) (zero_behind pages (page_of q)) ∙ sym (seen pages q))

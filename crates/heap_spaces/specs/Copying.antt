@@ -6,7 +6,7 @@ use Rattle.heap_spaces.specs.declared.collection.CopiedObject.{CopiedObject}
 use Rattle.heap_spaces.specs.Collection.{Collection, gray_from, page_of}
 use Rattle.heap_spaces.specs.Addresses.{with_all, without_page}
 
--- a collection whose from-space has objects of so many words, of which none is copied
+-- a collection whose from-space has objects of that many words, of which none is copied
 abbrev pub begun : ℕ → Collection
 begun used = record { used = used; copied = 0; moved = empty; gray = empty }
 

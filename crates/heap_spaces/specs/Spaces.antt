@@ -29,7 +29,7 @@ with_taken spaces words = record spaces { used = spaces.used + words }
 abbrev pub flipped : SpacesState → SpacesState
 flipped spaces = record { pages = spaces.pages; base = space_words spaces.pages - spaces.base; used = 0; owed = spaces.used }
 
--- the spaces when so many words, which were kept for it, are taken by a copy
+-- the spaces when that many words, which were kept for it, are taken by a copy
 abbrev pub with_copied : SpacesState → ℕ → SpacesState
 with_copied spaces words = record spaces { used = spaces.used + words; owed = spaces.owed - words }
 

@@ -33,7 +33,7 @@ impl Model for AddressSet {
 }
 
 impl AddressSet {
-    /// No address. It takes no memory.
+    /// An empty set. Does not allocate.
     pub(crate) fn new(alloc: Global) -> AddressSet
         ensures { result ≡ record { set = empty; room = 0 } }
     {
@@ -60,7 +60,7 @@ impl AddressSet {
         has_bit(page_bits(&self.pages, page_of(at)), place_of(at))
     }
 
-    /// Takes the memory for an address. An error adds none.
+    /// Allocates the memory for an address. An error adds none.
     pub(crate) fn make_room(&mut self, at: u32) -> Result<(), AllocError>
         ensures room { OnOk result (page_of at < self.new.room) }
         ensures grows { self.old.room ≤ self.new.room }
@@ -83,7 +83,7 @@ impl AddressSet {
         self.first = self.first.min(page);
     }
 
-    /// Takes the address away. It takes no memory.
+    /// Removes the address. Does not allocate.
     pub(crate) fn remove(&mut self, at: u32)
         ensures { self.new ≡ record self.old { set = remove self.old.set at } }
     {
@@ -94,7 +94,7 @@ impl AddressSet {
         self.pages[page] = without_bit(self.pages[page], place_of(at));
     }
 
-    /// Takes the addresses of a page away. It takes no memory, and looks at no other address.
+    /// Removes the addresses of a page. Does not allocate, and visits no other address.
     pub(crate) fn remove_page(&mut self, page: u32)
         ensures { self.new ≡ record self.old { set = without_page self.old.set page } }
     {
@@ -177,7 +177,7 @@ fn place_of(at: u32) -> u32
     at % PAGE_WORDS
 }
 
-/// The bits of a page, which are 0 where it has none.
+/// The bits of a page, which are 0 if it has none.
 fn page_bits(pages: &[u64], page: usize) -> u64
     ensures { result ≡ slice_index pages.now page }
 {

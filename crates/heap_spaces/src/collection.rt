@@ -48,7 +48,7 @@ impl Model for Collection {
 }
 
 impl Collection {
-    /// A collection whose from-space has objects of so many words, of which none is copied. It takes no memory.
+    /// A collection whose from-space has objects of `used` words, of which none is copied. Does not allocate.
     pub fn begin(alloc: Global, used: u32) -> Collection
         ensures { result ≡ begun used }
     {
@@ -146,7 +146,7 @@ impl Collection {
         Ok(())
     }
 
-    /// These copies, which were the last ones added, are taken back: what was not there before them is not there any more. It takes no memory.
+    /// Takes back these copies, which were the last ones added: what was not there before them is removed. Does not allocate.
     pub fn take_back(&mut self, copies: &[CopiedObject])
         requires { sum_by (λ (c : CopiedObject). c.words) copies.now ≤ self.old.copied }
         ensures used { self.new.used ≡ self.old.used }
@@ -161,7 +161,7 @@ impl Collection {
         }
     }
 
-    /// All objects that start in the page have been scanned, so none of them is gray any more. It takes no memory.
+    /// All objects that start in the page have been scanned, so none of them is gray any more. Does not allocate.
     pub fn scanned(&mut self, page: u32)
         requires { page < 2 ^ 26 }
         ensures { self.new ≡ with_scanned self.old page }

@@ -24,7 +24,7 @@ pub struct Exhausted {
 }
 
 /// The current space of a heap of two spaces. Its objects take its first words, and what a collection has still to copy always has room
-/// behind them.
+/// after them.
 #[derive(Debug, Drop)]
 pub struct Spaces {
     pages: u32,
@@ -44,8 +44,8 @@ impl Model for Spaces {
 }
 
 impl Spaces {
-    /// Two spaces of so many pages, of which the current one begins at the word address `base`. So many of its words are taken, and so
-    /// many of the others owed to a collection.
+    /// Two spaces of `pages` pages, of which the current one begins at the word address `base`. Its first `used` words are taken, and `owed`
+    /// of the others are owed to a collection.
     pub fn new(pages: u32, base: u32, used: u32, owed: u32) -> Spaces
         requires { IsSpaces (record { pages = pages; base = base; used = used; owed = owed }) }
         ensures { result ≡ record { pages = pages; base = base; used = used; owed = owed } }
@@ -97,7 +97,7 @@ impl Spaces {
         self.owed
     }
 
-    /// Takes so many words, the next ones of the current space, and tells the address of the first. It is refused where fewer are free
+    /// Takes the next `words` words of the current space, and returns the address of the first. It is refused if fewer are free
     /// and not owed, and then changes nothing.
     pub fn take(&mut self, words: u64) -> Result<u32, Exhausted>
         ensures address { IfOk result (λ address. address ≡ self.old.base + self.old.used) }
@@ -129,7 +129,7 @@ impl Spaces {
         self.used = 0;
     }
 
-    /// An object of so many words, which were owed, is copied to the next words of the current space.
+    /// An object of that many words, which were owed, is copied to the next words of the current space.
     pub fn copied(&mut self, words: u32)
         requires { words ≤ self.old.owed }
         ensures { self.new ≡ with_copied self.old words }

@@ -48,7 +48,7 @@ pub fn one_canon_is_seen()
     ensures { (name other : ℕ → Id) (words : List ℕ) (start : ℕ) (g h : Graph) → IsSeenAs name words start g → IsSeenAs other words start h → canon g ≡ canon h }
 {}
 
-/// The text of a graph that is seen in words is that of just those whole graphs, of numbers below 2^64, that are the same up to renaming objects.
+/// The text of a graph that is seen in words is that of exactly those whole graphs, of numbers below 2^64, that are the same up to renaming objects.
 pub fn seen_text_tells_renaming()
     ensures { (name : ℕ → Id) (words : List ℕ) (start : ℕ) (g h : Graph) → IsSeenAs name words start g → length words < 2 ^ 64 → IsWhole h → IsPrintable h → (canon_text (canon g) ≡ canon_text (canon h)) ↔ AreRenamed g h }
 {}

@@ -42,12 +42,12 @@ pub fn answers()
 
 /// Transactions do not see collections: without the flips and scans among them, on a heap large enough, all other events but flushes are answered
 /// the same, and the same transactions are committed, where these lacked no room and the disk did not fail. It speaks of replies and commits; which
-/// graph an image stands for then is told by those.
+/// graph an image stands for then follows from those.
 pub fn collections_are_not_seen()
     ensures { UnseenTheorem }
 {}
 
-/// An event but a flip copies at most 576 objects, the scan that comes before it with it.
+/// An event but a flip copies at most 576 objects, including the scan that precedes it.
 pub fn pauses_are_short()
     ensures { PauseTheorem }
 {}
@@ -67,22 +67,22 @@ pub fn refuses_as_the_plain_heap()
     ensures { (c : Core) (event : Event) (why : Refusal) → refusal (next_number c) c.g0 (account c.history) event ≡ Some why → answer c event ≡ plain_reply c.first c.g0 (account c.history) event }
 {}
 
-/// What the plain heap does not refuse a core refuses for want of room alone.
+/// What the plain heap does not refuse a core refuses for lack of room alone.
 pub fn refuses_for_room_alone()
     ensures { (c : Core) (event : Event) → refusal (next_number c) c.g0 (account c.history) event ≡ None → core_refusal c event ≡ first_of_two (words_refusal c event) (log_refusal c event) }
 {}
 
-/// A call that is answered `busy T` is hindered, and T is the least number in its way.
+/// A call that is answered `busy T` is hindered, and T is the least of the transactions with a conflicting lock.
 pub fn busy_names_the_least()
     ensures { (c : Core) (event : Event) (holder : ℕ) → AreInSessions (account c.history) → core_refusal c event ≡ Some (Busy holder) → GivesWay c.g0 (account c.history) event holder }
 {}
 
-/// A call that is not refused for what it asks, and is hindered, is answered `busy` with the least number in its way.
+/// A call that is not refused for what it asks for, and is hindered, is answered `busy` with the least number of a transaction in its way.
 pub fn least_is_answered_busy()
     ensures { (c : Core) (event : Event) (holder : ℕ) → AreInSessions (account c.history) → (account c.history).failed ≡ None → event_refusal (next_number c) c.g0 (account c.history) event ≡ None → GivesWay c.g0 (account c.history) event holder → core_refusal c event ≡ Some (Busy holder) }
 {}
 
-/// Where a call is hindered there is a least number in its way.
+/// Where a call is hindered one of the transactions with a conflicting lock has the least number.
 pub fn some_number_is_least()
     ensures { (g0 : Graph) (a : Account) (event : Event) → AreInSessions a → IsHindered g0 a event → (holder : ℕ) × GivesWay g0 a event holder }
 {}
@@ -107,7 +107,7 @@ pub fn again()
     ensures { AgainTheorem }
 {}
 
-/// The events that end a run are granted while the disk does what it is asked.
+/// The events that end a run are granted while the disk does not fail.
 pub fn ending_is_granted()
     ensures { (c : Core) → IsReached c → IsUnfailed c → AreGranted c (ending c) }
 {}

@@ -73,7 +73,7 @@ pub fn redo_repeats_without_effect()
     ensures { (o : Origin) → HasAllWords o → (records : List Record) (stored : Pages) → EachHoldsPrefix o records stored → redone o (redone o stored records) records ≡ redone o stored records }
 {}
 
-/// Where the records of a log follow one another, the transactions that are committed behind them are those of the log's origin, and one more
+/// Where the records of a log follow one another, the transactions that are committed after them are those of the log's origin, and one more
 /// for each record of a commit.
 pub fn commits_of_a_log()
     ensures { (o : Origin) (state : State) (records : List Record) → state_from o records ≡ Some state → commits_in (state_from o records) ≡ o.state.commits + commits records }
@@ -89,7 +89,7 @@ pub fn each_image_is_of_one_kind()
     ensures { (image : List ℕ) → AreBytes image → IsOfOneKind image }
 {}
 
-/// Each legal image is one of which the theorems on runs speak: a graph stands in it, each object under the name of its birth.
+/// Each legal image is one that the theorems on runs are about: a graph stands in it, each object under the name of its birth.
 pub fn legal_image_is_stored()
     ensures { (s : Super) (batches : List (List Record)) (stored : Pages) (image : List ℕ) → IsLegal s batches stored image → IsStored image }
 {}

@@ -34,7 +34,7 @@ pub fn collections_take_few_bytes()
     ensures { BytesTheorem }
 {}
 
-/// A collection copies no garbage, at no moment.
+/// At no moment has a collection copied garbage.
 pub fn collections_copy_no_garbage()
     ensures { NoGarbageTheorem }
 {}

@@ -1,4 +1,4 @@
--- Headers and births are read as they are written, and no word is read as two.
+-- Headers and births are read as they are written, and no word has two readings.
 use Rattle.std.proofs.Common.{◌≡◌, ℕ, ◌^◌, ◌<◌, Some, None, refl, arith}
 use Rattle.heap_words.specs.declared.Header.{Header}
 use Rattle.heap_words.specs.declared.Header.TheVariants.{Length, Forward}
@@ -22,7 +22,7 @@ pub header_zero : header 0 ≡ None
 unfolding header
 header_zero = refl
 
--- a birth tells the transaction
+-- a birth gives the transaction
 pub born_in-birth_bits : (t k : ℕ) → k < 2 ^ 32 → born_in (birth_bits t k) ≡ t
 born_in-birth_bits t k within = omega arith
 
@@ -30,6 +30,6 @@ born_in-birth_bits t k within = omega arith
 pub born_as-birth_bits : (t k : ℕ) → k < 2 ^ 32 → born_as (birth_bits t k) ≡ k
 born_as-birth_bits t k within = omega arith
 
--- a birth word is told by the two
+-- a birth word is determined by the two
 pub birth_bits-born : (birth : ℕ) → birth_bits (born_in birth) (born_as birth) ≡ birth
 birth_bits-born birth = omega arith

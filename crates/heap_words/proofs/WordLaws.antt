@@ -1,4 +1,4 @@
--- Field words are read as they are written, and no word is read as two.
+-- Field words are read as they are written, and no word has two readings.
 use Rattle.std.proofs.Common.{◌≡◌, ℕ, Some, refl, ap, arith}
 use Rattle.heap_words.specs.declared.Word.{Word}
 use Rattle.heap_words.specs.declared.Word.TheVariants.{Null, Int, Stable, Volatile}
@@ -20,7 +20,7 @@ bits-meaning w (Int n) is = (grind arith, grind arith)
 bits-meaning w (Stable address) is = (grind arith, grind arith)
 bits-meaning w (Volatile index) is = (grind arith, grind arith)
 
--- whether a word refers to a stable object is told by its meaning
+-- whether a word refers to a stable object follows from its meaning
 pub is_stable-bits : (word : Word) → IsWord word → is_stable (bits word) ≡ refers_to_stable (Some word)
 is_stable-bits word within = ap refers_to_stable (meaning-bits word within)
 

@@ -1,4 +1,4 @@
--- What stands in front of an object's fields: a header, and the word of the object's birth.
+-- The words in front of an object's fields: its header, and the word of its birth.
 use Rattle.std.specs.Prelude.{ℕ, ◌+◌, ◌*◌, ◌/◌, ◌%◌, ◌^◌, ◌==◌, nat_le, nat_lt, Option, None, Some, if◌then◌else◌}
 use Rattle.heap_words.specs.declared.TheConstants.{STABLE_WORDS, MOST_FIELDS}
 use Rattle.heap_words.specs.declared.Header.{Header}

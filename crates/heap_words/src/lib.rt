@@ -21,7 +21,7 @@ pub const PAGE_WORDS: u32 = 64;
 /// The most fields that an object has.
 pub const MOST_FIELDS: u32 = 510;
 
-/// Where an object's fields begin behind its address: behind its header and its birth.
+/// The offset of an object's fields from its address: they follow its header and its birth.
 pub const FIELDS_AT: u32 = 2;
 
 /// The fields of the root object.
@@ -84,7 +84,7 @@ pub fn is_volatile(w: u64) -> bool
     matches!(decode(w), Some(Word::Volatile(_)))
 }
 
-/// What stands in front of an object.
+/// What an object's header says.
 #[derive(Clone, Copy, Debug, PartialEq, Eq)]
 pub enum Header {
     /// The object has that many fields, at most 510.

@@ -10,7 +10,7 @@ use Rattle.graph_model.specs.declared.reply.Refusal.TheVariants.{Failed}
 use Rattle.graph_model.specs.History.{session_of}
 use Rattle.heap_workers.specs.Playing.{ends, IsBusyTo, Makes, Played, IsBegun}
 
--- what was sent by this place of the events: with what is sent of those from there on it is what is sent of all
+-- what was sent before this place of the events: with what is then sent for the events from there on, it is what is sent for all
 abbrev pub Goes : ℕ → List Event → ℕ → List Entry → Type 0
 Goes tries events place part = (more : List Entry) → Played tries (drop place events) more → Played tries events (part ++ more)
 
@@ -27,7 +27,7 @@ played_last tries event events busy last made end =
     let same : none ≡ none = refl in
     (busy, last, none, refl, made, subst (λ b. MatchBool b (none ≡ none) (Played tries events none)) (sym end) same)
 
--- where an event was answered busy no more often than it may be made, what was sent is the beginning of a part
+-- where an event was answered busy at most as often as it is tried, what was sent is the beginning of a part
 played_begun : (tries : ℕ) (event : Event) (events : List Event) (busy : List Entry) → AllByRecursion (IsBusyTo event) busy → length busy ≤ tries → IsBegun tries (event ∷ events) busy
 played_begun tries event events busy again le =
     let Last : Entry → Type 0 = λ last. ((length busy < tries) × (last.event ≡ event) × (false ≡ false)) ⊎ ((length busy ≡ tries) × (last.event ≡ Abort (session_of event))) in
@@ -52,13 +52,13 @@ module _ (tries : ℕ) (xs events : List Event) (same : xs ≡ events) (place : 
   pub goes_to_end : (busy : List Entry) (last : Entry) → Makes tries (get_or xs place d) busy last → ends last.reply ≡ true → Played tries events (part ++ (busy ++ last ∷ []))
   goes_to_end busy last made end = goes (busy ++ last ∷ []) (subst (λ l. Played tries l (busy ++ last ∷ [])) (sym left) (played_last tries (get_or xs place d) (drop (place + 1) events) busy last made end))
 
-  -- memory was refused here
+  -- out of memory here
   pub goes_begun : (busy : List Entry) → AllByRecursion (IsBusyTo (get_or xs place d)) busy → length busy ≤ tries → IsBegun tries events (part ++ busy)
   goes_begun busy again le =
       let b = played_begun tries (get_or xs place d) (drop (place + 1) events) busy again le in
       (b.0, simp append_assoc (goes (busy ++ b.0) (subst (λ l. Played tries l (busy ++ b.0)) (sym left) b.1)))
 
--- A worker makes at most so many calls for each event, and one more.
+-- A worker makes at most `tries` calls for each event, and one more.
 pub played_few : (tries : ℕ) (events : List Event) (part : List Entry) → Played tries events part → length part ≤ (tries + 1) * length events
 played_few tries [] part is = omega (arith, ap length is)
 played_few tries (event ∷ events) part (busy, last, rest, is, made, then) =

@@ -9,14 +9,14 @@ use Rattle.graph_model.specs.declared.reply.Reply.TheVariants.{Refused}
 use Rattle.graph_model.specs.declared.reply.Refusal.TheVariants.{Busy, Failed, DiskFault, Stopped}
 use Rattle.graph_model.specs.History.{session_of}
 
--- nothing is sent behind this answer: the heap has failed
+-- nothing is sent after this answer: the heap has failed
 abbrev pub ends : Reply → Bool
 ends (Refused (Failed entry)) = true
 ends (Refused DiskFault) = true
 ends (Refused Stopped) = true
 ends reply = false
 
--- other transactions hold the object of this event, which is of a session
+-- other transactions hold conflicting locks on the object of this event, which is of a session
 abbrev pub is_busy : Event → Reply → Bool
 is_busy event (Refused (Busy holder)) = nat_lt 0 (session_of event)
 is_busy event reply = false
@@ -26,22 +26,22 @@ pub record IsBusyTo (event : Event) (entry : Entry) : Type 0 where
   pub event_is : entry.event ≡ event
   pub busy : is_busy event entry.reply ≡ true
 
--- An event is made: it is answered `busy` fewer than so many times and then otherwise, or so many times and then its session's transaction is aborted.
+-- An event is made: it is answered `busy` fewer than `tries` times and then otherwise, or `tries` times and then its session's transaction is aborted.
 pub record Makes (tries : ℕ) (event : Event) (busy : List Entry) (last : Entry) : Type 0 where
   pub again : AllByRecursion (IsBusyTo event) busy
   pub last_is : ((length busy < tries) × (last.event ≡ event) × (is_busy event last.reply ≡ false)) ⊎ ((length busy ≡ tries) × (last.event ≡ Abort (session_of event)))
 
--- This part of a history is what a worker sends of its events, with the answers: each is made, in their order, and nothing behind an answer that ends it.
+-- This part of a history is what a worker sends of its events, with the answers: each is made, in their order, and nothing after an answer that ends it.
 abbrev pub Played : ℕ → List Event → List Entry → Type 0
 Played tries [] part = part ≡ []
 Played tries (event ∷ events) part =
     (busy : List Entry) × (last : Entry) × (rest : List Entry) × (part ≡ busy ++ last ∷ rest) × Makes tries event busy last × MatchBool (ends last.reply) (rest ≡ []) (Played tries events rest)
 
--- it is how such a part begins
+-- a part that begins so
 abbrev pub IsBegun : ℕ → List Event → List Entry → Type 0
 IsBegun tries events part = (more : List Entry) × Played tries events (part ++ more)
 
--- an event may be asked, and that its session's transaction is aborted
+-- the event may be asked, and so may the abort of its session's transaction
 pub record MayMake (takes : Event → Type 0) (event : Event) : Type 0 where
   pub asked : takes event
   pub abort : 0 < session_of event → takes (Abort (session_of event))

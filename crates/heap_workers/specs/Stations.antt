@@ -1,4 +1,4 @@
--- A worker beside what it calls.
+-- A worker with the heap that it calls.
 use Rattle.std.specs.Prelude.{◌≡◌, All, List, ◌++◌, MatchResult}
 use Rattle.graph_model.specs.declared.event.Event.{Event}
 use Rattle.graph_model.specs.declared.reply.Entry.{Entry}

@@ -1,4 +1,4 @@
-//! Where a worker stops before each event.
+//! The gate that a worker passes before each event.
 use std::sync::Wait;
 
 /// What a worker passes before each event of its list. It may wait there for other workers.

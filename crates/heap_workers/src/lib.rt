@@ -1,4 +1,4 @@
-//! Workers, each of which sends its own events to a heap that may be shared, in their order, and makes an event that is answered busy again.
+//! Workers: each sends its own events, in their order, to a heap that may be shared, and retries an event that is answered busy.
 #![tactic(auto)]
 
 mod calls;

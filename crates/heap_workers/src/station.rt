@@ -1,11 +1,11 @@
-//! A worker beside what it calls.
+//! A worker with the heap that it calls.
 use crate::calls::HeapCalls;
 use crate::gate::Gate;
 use crate::worker::Worker;
 use std::alloc::AllocError;
 use std::sync::Wait;
 
-/// A worker beside what it calls, and how its work ended.
+/// A worker, the heap that it calls, and how its work ended.
 #[derive(Drop)]
 pub struct Station<C: HeapCalls> {
     pub calls: C,

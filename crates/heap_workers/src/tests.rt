@@ -1,4 +1,4 @@
-//! Workers with a caller that answers from a table, alone and in threads.
+//! Workers over a caller that answers from a table, alone and in threads.
 use crate::{Gate, HeapCalls, OpenGate, Station, Worker, work_all};
 use crossbeam_utils::Backoff;
 use graph_model::{Entry, Event, Refusal, Reply};
@@ -7,10 +7,10 @@ use std::sync::Wait;
 use std::sync::atomic::{AtomicU64, Ordering};
 use std::test::Fail;
 
-// How often a worker looks for the other one before it goes on alone.
+// How often a worker looks for the other one before it continues alone.
 const LOOKS: u32 = 1_000_000;
 
-// Answers from a table, and `done` behind its end.
+// Answers from a table, and `done` after its end.
 #[derive(Drop)]
 struct Answers {
     replies: Vec<Reply>,
@@ -57,7 +57,7 @@ fn station(
     }
 }
 
-// Counts the turns of one worker, and those that come in another order than from 1 on.
+// Counts the turns of one worker, and those that do not come in the order 1, 2 and so on.
 #[derive(Drop)]
 struct Counts {
     last: AtomicU64,
@@ -120,7 +120,7 @@ fn has(station: &Station<Answers>, sent: &[(Event, Reply)]) -> bool {
             && entry.reply == *reply)
 }
 
-// Where the workers 1 and 2 meet: at turn 2 each waits until the other one has come there.
+// Where the workers 1 and 2 meet: at turn 2 each waits for the other.
 #[derive(Drop)]
 struct Meeting {
     first: AtomicU64,
@@ -140,7 +140,7 @@ impl Gate for Meeting {
 }
 
 impl Meeting {
-    // Comes, and looks for the other one.
+    // Arrives, and looks for the other worker.
     fn meet(&self, own: &AtomicU64, other: &AtomicU64) {
         own.store(1, Ordering::SeqCst);
         let backoff = Backoff::new();
@@ -185,7 +185,7 @@ fn two_workers_meet_in_threads(rt: HostRuntime) -> Result<(), Fail> {
     Ok(())
 }
 
-// One behind the other they do not meet: the first waits in vain.
+// Run one after the other they do not meet: the first waits in vain.
 #[test]
 fn two_workers_in_turn_do_not_meet(rt: HostRuntime) -> Result<(), Fail> {
     let mut stations = two_stations(rt.alloc())?;

@@ -9,10 +9,10 @@ use std::sync::Wait;
 use std::thread;
 use std::thread::Threads;
 
-/// How many workers there are at most: one a session, the collector and the flusher.
+/// The greatest number of workers: one for each session, the collector and the flusher.
 pub const MOST_WORKERS: usize = 34;
 
-/// Each worker sends its events in a thread of its own, where one can be made: at most 34 run beside each other.
+/// Each worker sends its events in a thread of its own, if one can be started: at most 34 run at once.
 pub fn work_all<C: HeapCalls + Send, G: Gate + Sync, R: Threads + Wait + Sync>(
     rt: &R,
     stations: &mut [Station<C>],

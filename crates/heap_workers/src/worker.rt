@@ -17,12 +17,12 @@ pub const COLLECTOR: u32 = 33;
 /// The number of the worker that sends forces and flushes.
 pub const FLUSHER: u32 = 34;
 
-/// One that sends its own events in their order, and knows of no other worker.
+/// A worker that sends its own events in their order, independently of other workers.
 #[derive(Drop)]
 pub struct Worker {
     /// Its number at the gate.
     pub number: u32,
-    /// How often an event that is answered busy is made in all.
+    /// How often an event is made in all while it is answered busy.
     pub tries: u32,
     /// What it sends.
     pub events: Vec<Event>,
@@ -30,8 +30,8 @@ pub struct Worker {
 }
 
 impl Worker {
-    /// Sends all events, or until an answer says that the heap has failed. An event of a session that is answered busy is made again; where all
-    /// tries are answered so, the session's transaction is aborted, and the next event follows. Want of memory ends it too: what it had sent by then
+    /// Sends all events, or until an answer says that the heap has failed. An event of a session that is answered busy is retried; if all tries are
+    /// answered busy, the session's transaction is aborted, and the next event follows. Running out of memory also ends it: what it sent before
     /// stands.
     pub fn work<R: Wait, C: HeapCalls, G: Gate>(
         &self,
@@ -53,7 +53,7 @@ impl Worker {
         Ok(())
     }
 
-    // Makes one event, again while it is answered busy, and says the last answer.
+    // Makes one event, retrying while it is answered busy, and returns the last answer.
     fn make<R: Wait, C: HeapCalls>(
         &self,
         rt: &R,
@@ -75,7 +75,7 @@ impl Worker {
     }
 }
 
-// Whether nothing more is sent behind this answer.
+// Whether nothing more is sent after this answer.
 fn ends_part(reply: &Reply) -> bool
     ensures { result ≡ ends reply.now }
 {
@@ -87,7 +87,7 @@ fn ends_part(reply: &Reply) -> bool
     )
 }
 
-// Whether the event is of a session, and other transactions hold its object.
+// Whether the event is of a session, and other transactions hold conflicting locks on its object.
 fn asks_again(event: &Event, reply: &Reply) -> bool
     ensures { result ≡ is_busy event.now reply.now }
 {

@@ -35,7 +35,7 @@ spelled_or_not (suc left) (b ∷ bs) few fits =
       | inr none ↦ inr (λ s. none (spelled_behind (b ∷ bs) s.records (omega arith) s.good s.are))
     ]
 
--- The bytes behind an open gate that tell their size are those of records, and a gate stands behind them.
+-- The bytes behind an open gate that state their size are those of records, and a gate follows them.
 record IsFilledBy (size : ℕ) (rest : List ℕ) : Type 0 where
   inside : size < length rest
   body : AreSpelled (take size rest)

@@ -47,12 +47,12 @@ pub record BeginsThen {A : Type 0} (spell : A → List ℕ) (Good : A → Type 0
   pub here : bytes ≡ spell what ++ rest
   pub more : More what rest
 
--- No spelling of something good is a first part of another one, and it can be told whether bytes begin with one.
+-- No spelling of something good is a prefix of another one, and it can be decided whether bytes begin with one.
 pub record IsReadable {A : Type 0} (spell : A → List ℕ) (Good : A → Type 0) : Type 0 where
   pub one : (a b : A) (more rest : List ℕ) → Good a → Good b → spell a ++ more ≡ spell b ++ rest → (a ≡ b) × (more ≡ rest)
   pub read : (bytes : List ℕ) → IsBytes bytes → Test (Begins spell Good bytes)
 
--- so it can be told whether more is so
+-- so it can be decided whether more is so
 pub begins_then : {A : Type 0} (spell : A → List ℕ) (Good : A → Type 0) (More : A → List ℕ → Type 0) → IsReadable spell Good
     → (bytes : List ℕ) → IsBytes bytes → ((a : A) (rest : List ℕ) → bytes ≡ spell a ++ rest → IsBytes rest → Test (More a rest)) → Test (BeginsThen spell Good More bytes)
 begins_then spell Good More readable bytes fits test = elim (readable.read bytes fits) [
@@ -153,10 +153,10 @@ readable_word = record {
       ];
 }
 
--- Lists of so many.
+-- Lists of a given length.
 
 module _ {A : Type 0} (spell : A → List ℕ) (Good : A → Type 0) where
-  -- so many, each of them good
+  -- that many, each of them good
   abbrev pub AreGood : ℕ → List A → Type 0
   AreGood n xs = (length xs ≡ n) × AllByRecursion Good xs
 

@@ -11,7 +11,7 @@ use Rattle.image_laws.proofs.Bytes.{IsBytes, Test, Begins, IsReadable, Fits16, F
 use Rattle.image_laws.proofs.Walk.{same_or_not}
 use Rattle.image_laws.proofs.Objects.{After16, After32, AfterWord, after_16, after_32, after_word, AWord, word_or_not, ANumber, number_or_not, ACopy, copy_shape_or_not, readable_write, readable_copy}
 
--- What stands behind the number of each kind.
+-- What follows the number of each kind.
 
 abbrev AnUpdate : List ℕ → Type 0
 AnUpdate bytes = After32 (λ t r. After32 (λ object r. After16 (λ field r. AfterWord (λ was r. AWord r) r) r) r) bytes
@@ -59,7 +59,7 @@ kind_number (Scan page writes) = 8
 kind_number (Flip copies) = 9
 kind_number Collected = 10
 
--- A kind of record: its number, and what stands behind that.
+-- A kind of record: its number, and what follows it.
 record IsKind (number : ℕ) (Shape : List ℕ → Type 0) : Type 0 where
   test : (bytes : List ℕ) → IsBytes bytes → Test (Shape bytes)
   make : (bytes : List ℕ) → Shape bytes → ARecord (number ∷ bytes)

@@ -98,7 +98,7 @@ redone_fit lsn at (r ∷ rs) fit good = redone_fit (lsn + 1) (redo_record lsn at
 
 -- Rollback.
 
--- words without what may be taken back are those behind the records of the rollback
+-- words without what may be taken back are those after the records of the rollback
 back_fit : (s : State) → CanRollBack s → (now : List ℕ) → AreOf64Bits now → AreOf64Bits (all_taken_back s now)
 back_fit s can now fit =
     let behind = fold put_record now (rollback s) in

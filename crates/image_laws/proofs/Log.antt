@@ -8,7 +8,7 @@ use Rattle.log_machine.proofs.ListLaws.{AllByRecursion-append}
 use Rattle.gated_log.specs.Log.{batch, batches_bytes, records_of, HoldsBatches, HasBatch, BreaksAt}
 use Rattle.image_laws.proofs.Walk.{same_or_not}
 
--- one batch behind others
+-- one batch after others
 bytes_push : (batches : List (List Record)) (records : List Record) → batches_bytes (batches ++ records ∷ []) ≡ batches_bytes batches ++ batch records
 bytes_push [] records = append-nil (batch records)
 bytes_push (b ∷ bs) records = ap (λ (l : List ℕ). batch b ++ l) (bytes_push bs records) ∙ sym (append_assoc (batch b) (batches_bytes bs) (batch records))
@@ -23,7 +23,7 @@ HoldsOrBreaks log = ((batches : List (List Record)) × AllByRecursion IsRecord (
 
 module _ (Bytes : List ℕ → Type 0) (behind_bytes : (front rest : List ℕ) → Bytes (front ++ rest) → Bytes rest)
     (batch_or_not : (bytes : List ℕ) → Bytes bytes → HasBatch bytes ⊎ ¬ HasBatch bytes) (log : List ℕ) (is_bytes : Bytes log) where
-  -- from behind some batches on
+  -- from the end of some batches on
   rest_or_breaks : (left : ℕ) (batches : List (List Record)) (rest : List ℕ) → length rest ≤ left → 0 < length rest → log ≡ batches_bytes batches ++ rest → AllByRecursion IsRecord (records_of batches) → HoldsOrBreaks log
   rest_or_breaks left batches [] few some is good = absurd (omega (arith, some))
   rest_or_breaks zero batches (gate ∷ rest) few some is good = absurd (omega (arith, few))

@@ -13,7 +13,7 @@ use Rattle.log_records.specs.Record.{IsObjectWords, IsObjectCopy, IsWrite}
 use Rattle.log_records.proofs.RecordLaws.{one_number, one_object, field_word_small}
 use Rattle.image_laws.proofs.Bytes.{IsBytes, Test, Begins, BeginsThen, IsReadable, begins_then, Fits16, Fits32, Fits64, readable_16, readable_32, readable_64, readable_word, AreGood, many_or_not}
 
--- Numbers and words, and what stands behind them.
+-- Numbers and words, and what follows them.
 
 abbrev pub After16 : (ℕ → List ℕ → Type 0) → List ℕ → Type 0
 After16 More bytes = BeginsThen (to_le_bytes w16) Fits16 More bytes
@@ -56,14 +56,14 @@ number_or_not bytes fits = readable_32.read bytes fits
 
 -- The words of an object.
 
--- a birth, and so many words of fields
+-- a birth, and that many words of fields
 abbrev Fields : ℕ → List ℕ → Type 0
 Fields n bytes = After64 (λ birth rest. Begins (flat_map (to_le_bytes w64)) (AreGood (to_le_bytes w64) IsFieldWord n) rest) bytes
 
 fields_or_not : (n : ℕ) (bytes : List ℕ) → IsBytes bytes → Test (Fields n bytes)
 fields_or_not n = after_64 (λ birth rest. Begins (flat_map (to_le_bytes w64)) (AreGood (to_le_bytes w64) IsFieldWord n) rest) (λ birth rest fits. many_or_not (to_le_bytes w64) IsFieldWord readable_word n rest fits)
 
--- a header of so many, and these
+-- a header of some number of fields, and these
 record IsHeaded (h : ℕ) (rest : List ℕ) : Type 0 where
   n : ℕ
   few : n < 511

@@ -8,7 +8,7 @@ use Rattle.image_plan.specs.declared.superblock.Super.{Super}
 use Rattle.image_plan.specs.Super.{IsSuper, superblock}
 
 module _ (s : Super) (good : IsSuper s) where
-  -- what stands behind each number
+  -- what follows each number
   abbrev behind_log : List ℕ
   behind_log = to_le_bytes w32 s.first ++ replicate 40 0
 

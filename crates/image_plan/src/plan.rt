@@ -62,6 +62,8 @@ impl Plan {
         ensures behind_log { log_offset + self.now.log_bytes ≤ result }
         ensures inside { p < 2 * self.now.pages → f < 2 → result + 528 ≤ image_size self.now.pages self.now.log_bytes }
     {
-        self.log_at() + u64::from(self.log_bytes) + (2 * u64::from(p) + u64::from(f)) * FRAME_BYTES
+        self.log_at()
+            + u64::from(self.log_bytes)
+            + (FRAMES * u64::from(p) + u64::from(f)) * FRAME_BYTES
     }
 }

@@ -17,7 +17,7 @@ const ROUND_BYTES: u32 = 400;
 
 const HEAP_BYTES: usize = 200_000;
 
-/// Makes an event, whatever it is answered.
+/// Makes an event, whatever the reply.
 fn make<D: Disk>(heap: &mut Heap<D>, event: Event) -> Result<(), AllocError> {
     if event.is_of_session() {
         heap.step(event)?;
@@ -52,7 +52,7 @@ fn play<D: Disk>(
     Ok(())
 }
 
-/// A new heap in memory, with a log for so many rounds. Its disk keeps what was written, so it has room for that twice.
+/// A new heap in memory, with a log for `count` rounds. Its disk keeps what was written, so it has room for that twice.
 fn new_heap(alloc: Global, count: u32) -> Result<Heap<MemoryDisk>, Error> {
     let log_bytes = count
         .saturating_mul(ROUND_BYTES)

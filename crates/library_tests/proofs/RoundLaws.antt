@@ -62,7 +62,7 @@ going_opened {image = image} unharmed stands =
       reached = opened_reached stands.super stands.batches stands.stored stands.says.legal.shaped (open_gates stands.super.log_bytes image) true found.0 found.1 found.2;
     }
 
--- one event more
+-- one more event
 going_on : {g : Graph} {k : ℕ} {image : List ℕ} {events : List Event} {before now : Type 0} (c d : Core) (event : Event) (reply : Reply) → IsGoing g k image events before c → IsOfSession event → IsStep c event reply d → (now → before)
     → (now → d ≡ after c event) → IsGoing g k image (events ++ event ∷ []) now d
 going_on {events = events} c d event reply going one step sooner whole =
@@ -93,7 +93,7 @@ of_session_at (e ∷ es) zero d lt all = all.0
 of_session_at (e ∷ es) (suc i) d lt all = of_session_at es i d (omega arith) all.1
 
 module _ {D : Type 0} {ghosts : Ghosts D} where
-  -- A disk that was not harmed until later was not harmed until now, nor from then on.
+  -- A disk that was not harmed up to a later point was not harmed up to an earlier one, nor from there on.
   pub unharmed_until : (start mid end : D) → KeepsCounts ghosts mid end → Unharmed ghosts start end → Unharmed ghosts start mid
   unharmed_until start mid end keeps unharmed harm = unharmed (⊎_elim
       (λ (rose : Rose (ghosts.faults start) (ghosts.faults mid)). inl (rose_until _ _ _ keeps.faults rose))
@@ -112,7 +112,7 @@ module _ {D : Type 0} {ghosts : Ghosts D} where
   pub counts_of : {T : Type 0} (old new : D) (result : Result T DiskError) → KeepsDisk {T = T} ghosts old new result → KeepsCounts ghosts old new
   counts_of old new result keeps = record { faults = keeps.cause.faults_kept; stops = keeps.cause.stops_kept }
 
-  -- a heap on which one event more was made
+  -- a heap on which one more event was made
   pub gone_on : {g : Graph} {k : ℕ} (events : List Event) (i : ℕ) (d : Event) (start : D) (old new : Heap D ghosts) (reply : Reply) → i < length events → AllByRecursion IsOfSession events
       → (gone : HasGone g k (take i events) start old) → KeepsCounts ghosts start (heap_disk old) → KeepsDisk {T = Unit {0}} ghosts (heap_disk old) (heap_disk new) (reply_device reply)
       → (next : Core) × IsStep gone.core (get_or events i d) reply next × IsHeap gone.super next new → HasGone g k (take (i + 1) events) start new
@@ -129,7 +129,7 @@ module _ {D : Type 0} {ghosts : Ghosts D} where
         is = stepped.2;
       }
 
-  -- a crash leaves first commits
+  -- a crash leaves a commit prefix
   pub round_ends : {g : Graph} {k : ℕ} {events : List Event} (disk : D) (heap : Heap D ghosts) (left : D) (gone : HasGone g k events disk heap) → KeepsCounts ghosts (heap_disk heap) left → IsCommitPrefix gone.core (ghosts.bytes left)
       → (h : Graph) × (j : ℕ) × IsRound ghosts events disk g k left h j × StandsFor h j (ghosts.bytes left)
   round_ends disk heap left gone since kept =

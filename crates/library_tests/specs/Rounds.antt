@@ -1,4 +1,4 @@
--- What a program keeps that opens a heap, makes events, crashes, and goes on.
+-- What a program keeps that opens a heap, makes events, crashes, and continues.
 use Rattle.std.specs.Prelude.{◌≡◌, ◌⊎◌, ℕ, ◌+◌, true, List, take}
 use Rattle.counts.specs.Count.{Rose}
 use Rattle.disk_model.specs.declared.disk.Disk.{Ghosts}
@@ -21,8 +21,8 @@ use Rattle.core_laws.specs.Valid.{IsReached}
 abbrev pub opened_on : {g : Graph} {k : ℕ} {image : List ℕ} → StandsFor g k image → Places → Graph → Core
 opened_on {image = image} stands places named = opened stands.super stands.batches stands.stored (open_gates stands.super.log_bytes image) true places named
 
--- A heap was opened on an image that stands for graph g and k commits, and these events led from the core that was opened to c. Where the disk was
--- not harmed they all were made, one after another; else the run was cut short, and it is not said where.
+-- A heap was opened on an image that stands for graph g and k commits, and these events led from the core that was opened to c. If the disk was
+-- not harmed, all of them were made, one after another; otherwise the run was cut short at some event.
 pub record IsGoing (g : Graph) (k : ℕ) (image : List ℕ) (events : List Event) (unharmed : Type 0) (c : Core) : Type 0 where
   pub stands : StandsFor g k image
   pub places : Places
@@ -39,7 +39,7 @@ module _ {D : Type 0} (ghosts : Ghosts D) where
   Unharmed old new = ¬ (Rose (ghosts.faults old) (ghosts.faults new) ⊎ Rose (ghosts.stops old) (ghosts.stops new))
 
   -- A round: a heap was opened on a disk whose image stood for graph g and k commits, these events were made, and after a crash the disk stands
-  -- for h and j: for the first of that run's commits, among them all that were acknowledged or forced in it.
+  -- for h and j: for a commit prefix of that run that has all that were acknowledged or forced in it.
   pub record IsRound (events : List Event) (disk : D) (g : Graph) (k : ℕ) (left : D) (h : Graph) (j : ℕ) : Type 0 where
     pub core : Core
     pub going : IsGoing g k (ghosts.bytes disk) events (Unharmed disk left) core
@@ -48,7 +48,7 @@ module _ {D : Type 0} (ghosts : Ghosts D) where
     pub graph : h ≡ serial core.g0 (take first (commits core.history))
     pub count : j ≡ core.before + first
 
-  -- So many rounds of the same events, one after another, each on the disk that the one before it left.
+  -- A number of rounds of the same events, one after another, each on the disk that the one before it left.
   pub data Rounds (events : List Event) (disk : D) (g : Graph) (k : ℕ) : ℕ → D → Graph → ℕ → Type 0 where
     none : Rounds events disk g k 0 disk g k
     more : {n : ℕ} {mid : D} {h : Graph} {j : ℕ} (left : D) (i : Graph) (m : ℕ) → Rounds events disk g k n mid h j → IsRound events mid h j left i m → Rounds events disk g k (n + 1) left i m

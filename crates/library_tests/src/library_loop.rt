@@ -1,4 +1,4 @@
-//! A program that stands on the heap as a library: it opens a heap, makes events of any sessions, crashes, and goes on, for any number of
+//! A program over the heap as a library: it opens a heap, makes events of any sessions, crashes, and continues, for any number of
 //! rounds. What it promises follows from the public clauses of the heap.
 ghost use Rattle.std.specs.Prelude.{◌≡◌, ℕ, IsTrue, IfOk};
 ghost use Rattle.std.specs.List.{AllByRecursion};
@@ -18,7 +18,7 @@ use std::alloc::{AllocError, Global};
 pub enum Halt {
     /// The heap was not opened.
     Open(OpenError),
-    /// Memory was refused.
+    /// Out of memory.
     NoMemory,
 }
 
@@ -28,9 +28,9 @@ impl From<AllocError> for Halt {
     }
 }
 
-/// Opens the heap on the disk, makes these events, and crashes: the disk is started again. It then stands for the first commits of a run of these
-/// events, among them all that were acknowledged or forced in it. The run made all of them unless the disk failed or stopped; then it was cut short,
-/// and it is not said where. An error tells nothing of the disk, which is gone.
+/// Opens the heap on the disk, makes these events, and crashes: the disk is restarted. It then stands for a commit prefix of a run of these
+/// events that has all that were acknowledged or forced in it. The run made all of them unless the disk failed or stopped; then it was cut short
+/// at some event. An error says nothing of the disk, which is gone.
 fn round<D: Disk + Drop>(alloc: Global, disk: D, events: &[Event]) -> Result<D, Halt>
     requires { AllByRecursion IsOfSession events.now }
     ensures { IsTrue D.tells → Only (D.bytes disk) (D.may_leave disk) → (g : Graph) (k : ℕ) → StandsFor g k (D.bytes disk)
@@ -48,7 +48,7 @@ fn round<D: Disk + Drop>(alloc: Global, disk: D, events: &[Event]) -> Result<D, 
     Ok(disk)
 }
 
-/// Makes so many rounds of these events.
+/// Makes `count` rounds of these events.
 pub fn rounds<D: Disk + Drop>(
     alloc: Global,
     mut disk: D,

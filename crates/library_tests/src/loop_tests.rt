@@ -5,7 +5,7 @@ use disk_model::Pick;
 use graph_model::Event;
 use std::test::Fail;
 
-/// A transaction of session 1 that is on the disk, and one of session 2 beside it that no force has reached.
+/// A transaction of session 1 that is on the disk, and with it one of session 2 that no force has reached.
 static EVENTS: [Event; 9] = [
     Event::Begin { s: 2 },
     Event::Begin { s: 1 },

@@ -99,7 +99,7 @@ pub fn compare<T: PartialEq + Debug + Copy>(rt: &impl Abort, found: T, want: T) 
     assert_eq!(rt; found, want);
 }
 
-/// Makes an empty heap of so many pages a space.
+/// Makes an empty heap of that many pages a space.
 pub fn format(rt: &impl Abort, disk: MemoryDisk, pages: u32) -> MemoryDisk {
     assert!(rt; 1 <= pages && pages <= 16_384);
     match Heap::format(disk, pages, LOG_BYTES, 1) {
@@ -113,7 +113,7 @@ pub fn make_heap(rt: &impl Abort, alloc: Global, pick: Pick) -> Result<MemoryDis
     Ok(format(rt, make_disk(alloc, pick)?, 1))
 }
 
-/// Closes a heap, and starts its disk again.
+/// Closes a heap, and restarts its disk.
 pub fn crash(heap: Heap<MemoryDisk>) -> MemoryDisk {
     let mut disk = heap.close();
     disk.restart();
@@ -142,7 +142,7 @@ pub fn expect(
     Ok(heap.close())
 }
 
-/// Makes a step, which asks nothing but memory to succeed.
+/// Makes a step, which requires only memory to succeed.
 pub fn ask<D: Disk + Drop>(
     rt: &impl Abort,
     heap: &mut Heap<D>,
@@ -164,7 +164,7 @@ pub fn ask_all<D: Disk + Drop>(
     Ok(())
 }
 
-/// A disk that was stopped behind these events, and started again.
+/// A disk that was stopped after these events, and restarted.
 fn make_unended(rt: &impl Abort, alloc: Global, pick: Pick) -> Result<MemoryDisk, AllocError> {
     let mut heap = open(rt, alloc, make_heap(rt, alloc, pick)?);
     ask_all(rt, &mut heap, &EVENTS)?;
@@ -211,7 +211,7 @@ pub fn refused<D: Disk + Drop>(rt: &impl Abort, alloc: Global, disk: D) -> (Open
     }
 }
 
-/// Stops an opening after so many calls.
+/// Stops an opening after that many calls.
 fn cut_off(rt: &impl Abort, alloc: Global, disk: MemoryDisk, calls: u64) -> MemoryDisk {
     let (error, fuse) = refused(rt, alloc, FuseDisk::new(disk, calls));
     compare(rt, (calls, error), (calls, OpenError::Stopped));
@@ -220,7 +220,7 @@ fn cut_off(rt: &impl Abort, alloc: Global, disk: MemoryDisk, calls: u64) -> Memo
     disk
 }
 
-/// Stops an opening after so many calls, and compares what another one finds.
+/// Stops an opening after that many calls, and compares what another one finds.
 fn check_cut_off(rt: &impl Abort, alloc: Global, pick: Pick, calls: u64) -> Result<(), Fail> {
     let disk = make_unended(rt, alloc, pick)?;
     expect(rt, alloc, cut_off(rt, alloc, disk, calls), 1, GRAPH)?;

@@ -1,4 +1,4 @@
-//! Objects that transactions make, on a disk that is stopped and started again: what a sealed one made reachable is there, and what
+//! Objects that transactions make, on a disk that is stopped and restarted: what a sealed one made reachable is there, and what
 //! another made is not.
 use crate::opening_tests::{PICKS, ask, compare, crash, expect, format, make_heap, open};
 use disk_model::{MemoryDisk, Pick};
@@ -72,7 +72,7 @@ fn first_session() -> [Step; 19] {
     ]
 }
 
-/// Transaction 3 finds these objects, and puts one more behind them.
+/// Transaction 3 finds these objects, and appends one more.
 fn second_session() -> [Step; 12] {
     [
         begin(3),
@@ -94,7 +94,7 @@ const FIRST_GRAPH: &str = "graph 3\n0: - @1 - -\n1: @2 @1\n2: 5 @0\n";
 
 const SECOND_GRAPH: &str = "graph 4\n0: - @1 - -\n1: @2 @1\n2: @3 @0\n3: -\n";
 
-/// Makes these steps, which get these answers, and stops the disk and starts it again.
+/// Makes these steps, which get these answers, and stops the disk and restarts it.
 pub fn play(
     rt: &impl Abort,
     alloc: Global,
@@ -130,7 +130,7 @@ fn what_was_sealed_is_reached(rt: HostRuntime) -> Result<(), Fail> {
 /// The most pages of a space.
 const MOST_PAGES: u32 = 16_384;
 
-/// The bytes of a heap of so many pages: the superblock, the log, and two frames for each page of both spaces.
+/// The bytes of a heap of that many pages: the superblock, the log, and two frames for each page of both spaces.
 const LARGEST_BYTES: usize = 34_604_096;
 
 fn make_largest(alloc: Global) -> Result<MemoryDisk, AllocError> {

@@ -1,4 +1,4 @@
-//! Two sessions side by side, on a disk that is stopped and started again: what the one has sealed is there, and what the other wrote is not.
+//! Two sessions side by side, on a disk that is stopped and restarted: what one has sealed is there, and what the other wrote is not.
 use crate::opening_tests::{PICKS, ask, compare, expect, make_heap, open};
 use crate::reached_tests::{Step, play};
 use disk_model::MemoryDisk;
@@ -34,8 +34,8 @@ fn seal(s: u32, n: u64) -> Step {
     (Event::Seal { s }, Reply::Sealed { n })
 }
 
-/// Transaction 1 makes two objects. Then session 1 writes the first and session 2 the second, and session 2 gives way where it asks for what
-/// session 1 holds, until that is sealed. A force brings the writes of both to the disk.
+/// Transaction 1 makes two objects. Then session 1 writes the first and session 2 the second, and session 2 is refused what session 1
+/// holds until that is sealed. A force brings the writes of both to the disk.
 fn side_by_side() -> [Step; 21] {
     let busy = Reply::Refused {
         why: Refusal::Busy { holder: 2 },

@@ -77,7 +77,7 @@ fn redo(rt: &impl Abort, alloc: Global, cache: &mut PageCache, records: &[Record
     cache.redo_all(1, records);
 }
 
-/// Stores page `p` as it is in memory, where the disk has it otherwise. The log has so many records.
+/// Stores page `p` as it is in memory, if the disk has it otherwise. The log has `forced` records.
 fn flush(
     rt: &impl Abort,
     cache: &mut PageCache,
@@ -93,10 +93,10 @@ fn flush(
     cache.flush(disk, p, forced)
 }
 
-/// When a page is stored: behind so many of the log's records.
+/// When a page is stored: after that many of the log's records.
 type Store = (usize, u32);
 
-/// Stores a page as it is behind these records, if it isn't stored as it was later.
+/// Stores a page as it is after these records, if it isn't stored as it was later.
 fn store_behind(
     rt: &impl Abort,
     alloc: Global,
@@ -110,7 +110,7 @@ fn store_behind(
     Ok(())
 }
 
-/// Stores a page as it is behind so many of the log's records.
+/// Stores a page as it is after that many of the log's records.
 fn store(
     rt: &impl Abort,
     alloc: Global,
@@ -137,7 +137,7 @@ fn make_stored(rt: &impl Abort, alloc: Global, stores: [Store; 3]) -> Result<Mem
     Ok(disk)
 }
 
-/// Stores pages one after another, and compares what is then found.
+/// Stores pages one after another, and compares what is found then.
 fn check(rt: &impl Abort, alloc: Global, stores: [Store; 3], graph: &[u8]) -> Result<(), Fail> {
     let disk = make_stored(rt, alloc, stores)?;
     let (commits, found) = opened(rt, alloc, disk)?;
@@ -145,7 +145,7 @@ fn check(rt: &impl Abort, alloc: Global, stores: [Store; 3], graph: &[u8]) -> Re
     Ok(())
 }
 
-/// Stores both pages, behind so many records each, and one of them twice.
+/// Stores both pages, after the given number of records each, and one of them twice.
 fn check_ages(
     rt: &impl Abort,
     alloc: Global,
@@ -224,7 +224,7 @@ fn make_wrong(rt: &impl Abort, alloc: Global, p: u32, lsn: u64) -> Result<Memory
     Ok(disk)
 }
 
-/// With which LSN the wrong page is stored, what is then found, since only records behind the LSN are redone, and whether these changed the
+/// With which LSN the wrong page is stored, what is then found, since only records after the LSN are redone, and whether these changed the
 /// page, so that it is dirty.
 const WRONG: [(u64, &str, bool); 4] = [
     (1, "graph 1\n0: 99 8 - -\n", true),
@@ -243,7 +243,7 @@ fn what_a_page_has_is_not_redone(rt: HostRuntime) -> Result<(), Fail> {
     Ok(())
 }
 
-/// Which of the first pages are dirty behind an opening. There are two.
+/// Which of the first pages are dirty after an opening. There are two.
 fn dirty(rt: &impl Abort, alloc: Global, disk: MemoryDisk) -> [bool; 3] {
     let heap = open(rt, alloc, disk);
     [heap.dirty(0), heap.dirty(1), heap.dirty(2)]
@@ -269,14 +269,14 @@ fn a_page_ahead_of_the_log_is_refused(rt: HostRuntime) -> Result<(), Fail> {
     Ok(())
 }
 
-/// A step, which of the two pages are dirty behind it, and whether records wait.
+/// A step, which of the two pages are dirty after it, and whether records are pending.
 type Stored = (Step, [bool; 2], bool);
 
 fn flush_step(p: u64, reply: Reply) -> Step {
     (Event::Flush { p }, reply)
 }
 
-/// A flush forces only where the page has a record that waits: a commit has none on any page.
+/// A flush forces only if the page has a pending record: a commit has none on any page.
 fn flush_steps() -> [Stored; 13] {
     let gone = Reply::Refused {
         why: Refusal::NoSuchPage,
@@ -299,7 +299,7 @@ fn flush_steps() -> [Stored; 13] {
     ]
 }
 
-/// Makes a step, and compares what it is answered and what the heap then says of its pages and its log.
+/// Makes a step, and compares its answer and what the heap then says of its pages and its log.
 fn expect_step(
     rt: &impl Abort,
     heap: &mut Heap<MemoryDisk>,
@@ -323,7 +323,7 @@ fn a_flushed_page_is_clean(rt: HostRuntime) -> Result<(), Fail> {
     Ok(())
 }
 
-/// A flush of a page whose record waits.
+/// A flush of a page with a pending record.
 static FLUSH_WAITING: [Event; 4] = [
     Event::Begin { s: 1 },
     Event::Root { s: 1, h: 0 },
@@ -350,7 +350,7 @@ static FLUSH_FORCED: [Event; 5] = [
     Event::Flush { p: 0 },
 ];
 
-/// Makes events of which the last one stops after so many calls. What waited before it waits, though a force of its own may be done.
+/// Makes events of which the last one stops after that many calls. What was pending before it stays pending, though its own force may be done.
 fn stopped(
     rt: &impl Abort,
     alloc: Global,

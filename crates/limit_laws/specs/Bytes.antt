@@ -39,7 +39,7 @@ moved_by_record (Undo t object field word) = 0
 moved_by_record (Commit t) = 0
 moved_by_record (End t) = 0
 
--- how many references it leads to the current space
+-- how many references it redirects to the current space
 abbrev pub led_by : Record → ℕ
 led_by (Scan page writes) = length writes
 led_by (Copy from to words) = 0
@@ -70,7 +70,7 @@ abbrev pub left_in : Option State → ℕ
 left_in None = 0
 left_in (Some s) = left_by s.collection
 
--- What collections append takes 16 bytes for each word that they copy, 12 for each reference that a scan leads to the current space, and 6 for
+-- What collections append takes 16 bytes for each word that they copy, 12 for each reference that a scan redirects to the current space, and 6 for
 -- each of them, to begin and to end. Scans and the barrier's are among them, however often they come. Where one runs from the first on, it has 7
 -- more for each object that is gray then, and one byte to end.
 abbrev pub BytesTheorem : Type 0

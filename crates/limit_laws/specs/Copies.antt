@@ -42,7 +42,7 @@ sealed_graph c = serial c.g0 (account c.history).sealed
 abbrev pub words_of : Graph → Places → ℕ
 words_of g places = sum_by (λ p. 2 + length (fields g p.0)) places
 
--- What was copied from c to d is just what is reached from the root in the graph of c, and takes so many words.
+-- What was copied from c to d is just what is reached from the root in the graph of c, and takes `used` words.
 pub record CopiesReached (c d : Core) (used : ℕ) : Type 0 where
   pub exactly : (id : Id) → (is_some (address_of (copied_since c d) id) ≡ true) ↔ Reached (sealed_graph c) id
   pub words : used ≡ words_of (sealed_graph c) (copied_since c d)
@@ -75,7 +75,7 @@ is_made_by ts id = list_any (λ (t : Transaction). t.number == id.t) ts
 abbrev pub promoted_since : Core → Core → Places
 promoted_since c d = filter (λ p. is_made_by (sealed_since c d) p.0) d.places
 
--- So many words are what the objects take that were copied from c to d, and those that became stable meanwhile.
+-- That many words are taken by the objects that were copied from c to d and by those that became stable meanwhile.
 abbrev pub AreUsed : Core → Core → ℕ → Type 0
 AreUsed c d used = used ≡ words_of (sealed_graph c) (copied_since c d) + words_of (sealed_graph d) (promoted_since c d)
 
@@ -86,7 +86,7 @@ UsedTheorem =
     (c d : Core) (events : List Event) (objects words used : ℕ) → IsReached c → answer c Flip ≡ reply.Flipped objects words
     → AllByRecursion IsOfSession events → IsRun (after c Flip) events d → BeganNone (after c Flip) d → answer d Scan ≡ reply.Collected used → AreUsed c d used
 
--- What was copied from c to d is just what is reached from the root in the graph of c, and so many words are in use.
+-- What was copied from c to d is just what is reached from the root in the graph of c, and `used` words are in use.
 pub record CopiesJust (c d : Core) (used : ℕ) : Type 0 where
   pub exactly : (id : Id) → (is_some (address_of (copied_since c d) id) ≡ true) ↔ Reached (sealed_graph c) id
   pub words : AreUsed c d used

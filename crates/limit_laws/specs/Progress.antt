@@ -20,7 +20,7 @@ abbrev pub scanned_page : Reply → List ℕ
 scanned_page (answer.Scanned page objects words) = page ∷ []
 scanned_page reply = []
 
--- the pages that these entries say were scanned, in their order; a scan that comes before a field is read or written is told by none
+-- the pages that these entries say were scanned, in their order; a scan that comes before a field is read or written is reported by none
 abbrev pub scanned_pages : List Entry → List ℕ
 scanned_pages entries = flat_map (λ (entry : Entry). scanned_page entry.reply) entries
 
@@ -40,7 +40,7 @@ pub record IsCollecting (c : Core) : Type 0 where
   pub collection : Collection
   pub runs : state.collection ≡ Some collection
 
--- The pages that scans went over from c to d, with one collection at most under way: each lies behind those before it, and there are no more
+-- The pages that scans went over from c to d, with one collection at most under way: each lies after those before it, and there are no more
 -- of them than a space has pages.
 pub record GoesThrough (c d : Core) : Type 0 where
   pub ascending : IsStrictlyIncreasing (scanned_pages (since c d))

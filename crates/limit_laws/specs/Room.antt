@@ -1,4 +1,4 @@
--- The room of the log. What it keeps for the ends of active transactions is enough, so their ends are never refused for want of it.
+-- The room of the log. What it keeps for the ends of active transactions is enough, so their ends are never refused for lack of it.
 use Rattle.std.specs.Prelude.{◌≡◌, ℕ, ◌+◌, ◌≤◌, Bool, List, [], length, Option, None, Some}
 use Rattle.std.specs.List.{AllByRecursion}
 use Rattle.graph_model.specs.declared.event.Event.{Event}
@@ -52,7 +52,7 @@ EndsTheorem =
     (c d : Core) (events : List Event) (event : Event) → IsReached c → AllByRecursion IsOfSession events → IsRun c events d → IsEnd d event
     → core_refusal d event ≡ refusal_of (account d.history).failed (nothing_to_end d event)
 
--- The batch in which an opening takes back what had not ended has room, with a gate behind it.
+-- The batch in which an opening takes back what had not ended has room, with a gate after it.
 abbrev pub RollbackTheorem : Type 0
 RollbackTheorem =
     (s : Super) (batches : List (List Record)) (stored : Pages) (shaped : IsShapedLog s batches stored) (born : Bool) (places : Places) (g : Graph)

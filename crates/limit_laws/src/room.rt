@@ -7,7 +7,7 @@ pub fn logs_keep_room_for_all_ends()
 {}
 
 /// An abort, a force, and a seal that makes no object stable are refused only where the disk failed before or the session has no transaction:
-/// never for want of room.
+/// never for lack of room.
 pub fn ends_never_lack_room()
     ensures { EndsTheorem }
 {}

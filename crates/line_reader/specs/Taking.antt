@@ -5,7 +5,7 @@ use Rattle.line_reader.specs.declared.reader.Taken.{Taken}
 use Rattle.line_reader.specs.declared.reader.Taken.TheVariants.{Line, TooLong, Part, End}
 use Rattle.line_reader.specs.declared.reader.TheConstants.{MOST_LINE}
 
--- What a reader holds: bytes that it has had from its source, and whether those before them were the front of a line too long.
+-- What a reader holds: bytes that it has had from its source, and whether those before them were the front of a line that is too long.
 pub record Holding : Type 0 where
   pub held : List ℕ
   pub passing : Bool
@@ -20,7 +20,7 @@ pub record HasLine (bytes : List ℕ) : Type 0 where
   pub behind : List ℕ
   pub parts : bytes ≡ line ++ 10 ∷ behind
 
--- The text stands first in a stream, up to the first newline or to the end, and the rest is what stands behind that.
+-- The text stands first in a stream, up to the first newline or to the end, and the rest is what follows.
 pub record IsCutAt (text stream rest : List ℕ) : Type 0 where
   pub within : IsWithinLine text
   pub parts : (stream ≡ text ++ 10 ∷ rest) ⊎ ((stream ≡ text) × (rest ≡ []))
@@ -31,7 +31,7 @@ pub record IsFirstLine (text stream rest : List ℕ) : Type 0 where
   pub some : 0 < length stream
   pub short : length text ≤ MOST_LINE
 
--- A line ends there that is too long, or the rest of one whose front was passed.
+-- A line that is too long ends there, or the rest of one whose front was passed.
 pub record EndsTooLong (passing : Bool) (stream rest : List ℕ) : Type 0 where
   pub text : List ℕ
   pub cut : IsCutAt text stream rest

@@ -1,4 +1,4 @@
-//! Lines in: a source is read one line at a time, and no further than its lines are asked for.
+//! Reads a source one line at a time, and no further than the lines that are requested.
 #![tactic(auto)]
 
 mod reader;

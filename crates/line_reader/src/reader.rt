@@ -1,4 +1,4 @@
-//! The reader, which holds the bytes that came behind the lines it gave.
+//! The reader, which holds the bytes that came after the lines it returned.
 ghost use Rattle.std.specs.Prelude.{◌≡◌, ◌≢◌, ◌⊎◌, ◌↔◌, ℕ, ◌+◌, ◌<◌, ◌≤◌, [], ◌∷◌, ◌++◌, false, true, length, take, drop, None, IsTrue, IsFalse, IfOk, IfSome, OnOk, OnErr, IsErrOf};
 ghost use Rattle.counts.specs.Count.{Rose};
 ghost use Rattle.line_reader.specs.Taking.{IsWithinLine, HasLine, IsTaken, IsLineOf, IsRestOf, Takes};
@@ -7,10 +7,10 @@ use heap_io::{Source, SourceFailed};
 use std::alloc::{AllocError, Global};
 use std::marker::Model;
 
-/// The most bytes of a line, its newline left out: as many as a script may have.
+/// The most bytes of a line without its newline: as many as a script may have.
 pub const MOST_LINE: usize = 1_048_576;
 
-/// The most bytes that the source is asked for at once.
+/// The most bytes that are read from the source at once.
 const PIECE: usize = 8192;
 
 /// What was taken.
@@ -18,7 +18,7 @@ const PIECE: usize = 8192;
 pub enum Taken {
     /// A line, without its newline.
     Line(Vec<u8>),
-    /// A line of more than `MOST_LINE` bytes came to its end. Its bytes are gone.
+    /// The end of a line of more than `MOST_LINE` bytes. Its bytes are gone.
     TooLong,
     /// A part of such a line is gone, and its end is still to come.
     Part,
@@ -29,7 +29,7 @@ pub enum Taken {
 /// Why nothing was taken.
 #[derive(Clone, Copy, Debug, PartialEq, Eq)]
 pub enum LineError {
-    /// There was no memory for the line.
+    /// Out of memory.
     NoMemory,
     /// A call of the source failed.
     SourceFailed,
@@ -45,7 +45,7 @@ impl From<AllocError> for LineError {
     }
 }
 
-/// Reads a source line by line. It takes all its memory but that of the lines when it is made.
+/// Reads a source line by line. It allocates all its memory but that of the lines when it is made.
 #[derive(Drop)]
 pub struct LineReader {
     held: Vec<u8>,
@@ -84,17 +84,17 @@ impl LineReader {
         })
     }
 
-    /// Takes the next line. The source is asked only while no whole line is held. After an error the stream is as it was, and may be
-    /// asked again.
+    /// Takes the next line. The source is read only while no whole line is held. After an error the stream is unchanged, and may be
+    /// read again.
     pub fn next<S: Source>(&mut self, alloc: Global, source: &mut S) -> Result<Taken, LineError>
         ensures takes { IsTrue S.tells → IfOk result (λ taken. Takes taken self.old.passing (self.old.held ++ S.left source.old) self.new.passing (self.new.held ++ S.left source.new)) }
         ensures err { IsTrue S.tells → OnErr result (self.new.held ++ S.left source.new ≡ self.old.held ++ S.left source.old) }
         ensures passing { OnErr result (self.new.passing ≡ self.old.passing) }
         ensures line { IfOk result IsTaken }
 
-        // Where a whole line is held the source isn't asked.
+        // If a whole line is held the source isn't read.
         ensures held { HasLine self.old.held → source.new ≡ source.old }
-        // So none is held where a call of the source failed.
+        // So none is held if a call of the source failed.
         ensures waits { IsErrOf result LineError.SourceFailed → IsWithinLine self.new.held }
         // However long its lines are, no more bytes are held.
         ensures most { length self.new.held ≤ 1056768 }
@@ -128,7 +128,7 @@ impl LineReader {
         self.held.len() <= MOST_LINE && self.line_end().is_none()
     }
 
-    /// Holds one piece more, and answers whether there was one.
+    /// Holds one more piece, and returns whether there was one.
     fn refill<S: Source>(&mut self, source: &mut S) -> Result<bool, LineError>
         requires { length self.old.held ≤ 1048576 }
         ensures moved { IsTrue S.tells → self.new.held ++ S.left source.new ≡ self.old.held ++ S.left source.old }
@@ -146,7 +146,7 @@ impl LineReader {
         };
         match self.held.extend_from_slice(&self.piece[..count]) {
             Ok(()) => Ok(count > 0),
-            // The room was taken when the reader was made.
+            // The room was allocated when the reader was made.
             Err(_) => unreachable!(),
         }
     }
@@ -199,7 +199,7 @@ impl LineReader {
         Ok(taken)
     }
 
-    /// Lets go of what is held of a line that is too long.
+    /// Drops what is held of a line that is too long.
     fn pass_part(&mut self) -> Taken
         ensures part { result ≡ Taken.Part }
         ensures gone { self.new ≡ record { held = []; passing = true } }

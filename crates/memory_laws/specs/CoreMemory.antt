@@ -78,7 +78,7 @@ pub record ArePages (lsns : List ℕ) (store : PageStore) (pages log_bytes : ℕ
 abbrev pub PagesAgree : Memory → Core → Type 0
 PagesAgree m c = ArePages m.lsns m.store c.pages c.room (present_lsn c) c.stored_lsns
 
--- The spaces, the collection, the transactions and the locks in memory are those of a history that tells this account, where it finds the heap
+-- The spaces, the collection, the transactions and the locks in memory are those of a history that gives this account, where the heap is found
 -- so.
 pub record AreSessions (current : SpacesState) (runs : Option Collection) (table : TableState) (held : Holdings) (count : ℕ) (ground : Ground) (g0 : Graph) (first : ℕ) (a : Account) : Type 0 where
   pub state : State
@@ -94,7 +94,7 @@ pub record AreSessions (current : SpacesState) (runs : Option Collection) (table
 abbrev pub SessionsAgree : Memory → Account → Core → Type 0
 SessionsAgree m a c = AreSessions m.spaces m.collection m.table m.locks m.sealed (ground c) c.g0 c.first a
 
--- What is kept in memory is that of a core whose history tells this account.
+-- What is kept in memory is that of a core whose history gives this account.
 pub record IsMemory (m : Memory) (a : Account) (c : Core) : Type 0 where
   pub log : Keeps m.log c.batches c.pending
   pub place : log_place m.log ≡ log_offset

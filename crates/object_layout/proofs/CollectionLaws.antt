@@ -1,4 +1,4 @@
--- Laws of the walk of a collection's spaces: the from-space is filled in one way, the first fault is one, and a walk that passes has none.
+-- Laws of the walk of a collection's spaces: the from-space is filled in one way only, the fault is unique, and a walk that passes has none.
 use Rattle.std.proofs.Common.{◌≡◌, ℕ, ◌+◌, ◌≤◌, inl, inr, Bool, true, false, List, [], ◌∷◌, Option, None, Some, refl, sym, ap, ◌∙◌, subst, arith, get_or}
 use Rattle.std.specs.Ordering.{nat_cmp}
 use Rattle.std.specs.FinSet.{FinSet}
@@ -62,7 +62,7 @@ olds_break words starts from olds at filled off =
     let before = off.before in
     omega arith
 
--- where the copied words add up too the from-space has no fault
+-- if the copied words add up too, the from-space has no fault
 pub old_filled_fault : (words starts : List ℕ) (from : FromSpace) (olds : List ℕ) (at : ℕ) → IsOldFilled words starts from olds → IsOldFault words starts from at → ⊥
 old_filled_fault words starts from olds at filled (old_breaks off) = olds_break words starts from olds at filled.objects off
 old_filled_fault words starts from olds at filled (old_sum others objects differ) =
@@ -92,9 +92,9 @@ out_one words may starts a b one other = elim (cases_order a b) [
   | inr (inr above) ↦ absurd (other.out (one.first b other.has above))
 ]
 
--- The rules one after another, where the current space is filled by these objects, and the from-space by those.
+-- The rules one after another, if the current space is filled by these objects, and the from-space by those.
 
--- What fails behind the first two rules.
+-- What fails after the first two rules.
 data FailsBehind (words starts olds : List ℕ) (k : Collection) : ℕ → Type 0 where
   stray : {at : ℕ} → IsFirstStray k.gray starts at → FailsBehind words starts olds k at
   field : {at : ℕ} → AreAmong k.gray starts → IsFirstOut words (targets k starts olds) starts at → FailsBehind words starts olds k at
@@ -165,7 +165,7 @@ no_later words starts olds k at among inside old_inside (stray one) = no_stray k
 no_later words starts olds k at among inside old_inside (field among' one) = none_out words (targets k starts olds) starts at inside one
 no_later words starts olds k at among inside old_inside (old_field among' all one) = none_out words (λ a. olds) olds at old_inside one
 
--- none, where it passes
+-- none, if it passes
 pub collection_walked_fault : (words : List ℕ) (base used : ℕ) (from : FromSpace) (at : ℕ) → IsCollectionWalked words base used from → IsCollectionFault words base used from at → ⊥
 collection_walked_fault words base used from at walked fault = none_fails (fails_at words base used from at fault)
   where
@@ -190,7 +190,7 @@ pub beside_fault_one : (words : List ℕ) (base used : ℕ) (from : Option FromS
 beside_fault_one words base used None a b one other = fault_one words base used a b one other
 beside_fault_one words base used (Some from) a b one other = collection_fault_one words base used from a b one other
 
--- and none where it passes
+-- and none if it passes
 pub beside_walked_fault : (words : List ℕ) (base used : ℕ) (from : Option FromSpace) (at : ℕ) → IsWalkedBeside words base used from → IsWalkFaultBeside words base used from at → ⊥
 beside_walked_fault words base used None at walked fault = walked_fault words base used at walked fault
 beside_walked_fault words base used (Some from) at walked fault = collection_walked_fault words base used from at walked fault

@@ -45,14 +45,14 @@ standing_parts : (at b : ℕ) (o : Option ℕ) → (if is_some o then Some at el
 standing_parts at b None is = cc
 standing_parts at b (Some n) is = (n, cc, refl)
 
--- where an address names an object, one stands
+-- if an address names an object, one stands there
 pub object_stand : (words : List ℕ) (at b : ℕ) → stand words at ≡ Some b → (n : ℕ) × (object_at words b ≡ Some n)
 object_stand words at b is =
     let a = led at (header (slice_index words at)) in
     let parts = standing_parts a b (object_at words a) is in
     (parts.0, ap (object_at words) (sym parts.1) ∙ parts.2)
 
--- no address behind the words names an object
+-- no address past the words names an object
 pub stand_past : (words : List ℕ) (at : ℕ) → length words ≤ at → stand words at ≡ None
 stand_past words at past =
     let nothing : header (slice_index words at) ≡ None = ap header (get_or_past words at 0 past) ∙ header_zero in

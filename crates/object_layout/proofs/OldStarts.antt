@@ -1,4 +1,4 @@
--- The from-space's objects, as a loop finds them and goes over them, and fields that may lead to the objects of two lists.
+-- The from-space's objects, as a loop finds and visits them, and fields that may lead to the objects of two lists.
 use Rattle.std.proofs.Common.{◌≡◌, ℕ, zero, suc, ◌+◌, ◌<◌, ◌≤◌, ◌||◌, ◌==◌, inl, inr, Bool, true, false, List, [], ◌∷◌, ◌++◌, length, take, Option, None, Some, Result, Ok, Err, is_ok, is_err, refl, sym, ap, ◌∙◌, subst, arith, get_or}
 use Rattle.std.specs.Prelude.{slice_get, slice_index, Contains, MatchBool, if◌then◌else◌}
 use Rattle.std.specs.List.{list_any}
@@ -20,7 +20,7 @@ use Rattle.object_layout.proofs.WalkLaws.{Contains-none, Contains-cases}
 
 -- Objects end to end.
 
--- one object more
+-- one more object
 pub chained_push : (object : ℕ → Option ℕ) (from : ℕ) (starts : List ℕ) (at n : ℕ) → AreChained object from starts at → object at ≡ Some n
     → AreChained object from (starts ++ at ∷ []) (at + 2 + n)
 chained_push object from [] at n objects is = (n, sym objects, is, refl)
@@ -63,7 +63,7 @@ size_of true (Some m) n is = cc
 size_of false None n is = refl
 size_of false (Some m) n is = refl
 
--- the words that one object more adds to those that were copied
+-- the words that one more object adds to those that were copied
 pub moved_words_push : (words starts : List ℕ) (from : FromSpace) (olds : List ℕ) (at n : ℕ) → old_object_at words starts from at ≡ Some n
     → words_moved words starts from (olds ++ at ∷ []) ≡ words_moved words starts from olds + (if is_moved from at then 2 + n else 0)
 moved_words_push words starts from olds at n is =
@@ -73,12 +73,12 @@ moved_words_push words starts from olds at n is =
 
 -- Searches that fail.
 
--- what a search says that found nothing
+-- what a search that found nothing says
 pub not_found : (P Q : Type 0) (r : Result ℕ ℕ) → is_err r ≡ true → MatchBool (is_ok r) P Q → Q
 not_found P Q (Ok i) is said = cc
 not_found P Q (Err i) is said = said
 
--- and one that found something
+-- and what one that found something says
 pub was_found : (P Q : Type 0) (r : Result ℕ ℕ) → is_err r ≡ false → MatchBool (is_ok r) P Q → P
 was_found P Q (Ok i) is said = said
 was_found P Q (Err i) is said = cc
@@ -115,7 +115,7 @@ no_field : (ws : List ℕ) (i w : ℕ) → ws ≡ [] → slice_get ws i ≡ Some
 no_field [] i w none is = cc
 no_field (x ∷ ws) i w none is = cc
 
--- an object that was copied has no fields where it stood
+-- an object that was copied has no fields at its old address
 pub copied_inside : (words starts may : List ℕ) (end at n : ℕ) (moved : Bool) → moved ≡ true → old_object words starts end at moved ≡ Some n → KeepsInside words may at
 copied_inside words starts may end at n false was is = cc
 copied_inside words starts may end at n true was is =
@@ -157,7 +157,7 @@ inside_neither xs ys (Some (word.Stable b)) not_left not_right inside = elim (Co
   | inr right ↦ not_right right
 ]
 
--- a field leads to the objects of two lists where it leads to those of one of them
+-- a field leads to the objects of two lists if it leads to those of one of them
 pub inside_either : (xs ys : List ℕ) (meant : Option Word) (a b : Bool) → MatchBool a (IsInside xs meant) (IsInside xs meant → ⊥)
     → MatchBool b (IsInside ys meant) (IsInside ys meant → ⊥) → MatchBool (a || b) (IsInside (xs ++ ys) meant) (IsInside (xs ++ ys) meant → ⊥)
 inside_either xs ys meant true b left right = inside_left xs ys meant left
@@ -166,11 +166,11 @@ inside_either xs ys meant false false left right = inside_neither xs ys meant le
 
 -- The first object with a field that leads elsewhere than it may.
 
--- each of these objects so far keeps to where it may lead
+-- the fields of each of these objects so far lead where they may
 abbrev pub KeepSoFar : List ℕ → (ℕ → List ℕ) → List ℕ → ℕ → Type 0
 KeepSoFar words may starts count = (k : ℕ) → k < count → KeepsInside words (may (get_or starts k 0)) (get_or starts k 0)
 
--- one of them more
+-- one more of them
 pub so_far_more : (words : List ℕ) (may : ℕ → List ℕ) (starts : List ℕ) (count : ℕ) → KeepSoFar words may starts count
     → KeepsInside words (may (get_or starts count 0)) (get_or starts count 0) → KeepSoFar words may starts (count + 1)
 so_far_more words may starts count all one k below = elim (cases_order k count) [

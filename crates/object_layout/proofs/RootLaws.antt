@@ -7,13 +7,13 @@ use Rattle.graph_model.specs.Graph.{root}
 use Rattle.object_layout.specs.Layout.{object_at, words_of, field_words}
 use Rattle.object_layout.proofs.LayoutLaws.{object_from_header}
 
--- the word of a value of the root that stands at an address and is all that there is: a reference can only lead to the root
+-- the word of a value of a root that is the only object: a reference can only lead to the root
 abbrev pub IsRootWord : ℕ → ℕ → Val → Type 0
 IsRootWord at w Null = w ≡ 0
 IsRootWord at w (Int n) = (n < 2 ^ 62) × (w ≡ 4 * n + 1)
 IsRootWord at w (Ref id) = (at < 2097152) × (id ≡ root) × (w ≡ 4 * at + 2)
 
--- the same of several, in order
+-- the same for several, in order
 abbrev pub AreRootWords : ℕ → List ℕ → List Val → Type 0
 AreRootWords at [] [] = Unit {0}
 AreRootWords at (w ∷ ws) (v ∷ vs) = IsRootWord at w v × AreRootWords at ws vs

@@ -2,7 +2,7 @@
 use Rattle.std.proofs.Common.{◌≡◌, ℕ, ◌+◌, ◌-◌, ◌<◌, ◌≤◌, List, [], ◌∷◌, ◌++◌, length, take, drop, sym, ap, ◌∙◌, arith, get_or}
 use Rattle.std.proofs.lemmas.List.{take_more, get_or-drop, length-drop}
 
--- the words from an address up to the next, with that one behind them
+-- the words from an address up to the next, and the word at the next
 pub run_more : (ws : List ℕ) (from at w : ℕ) → from ≤ at → at < length ws → w ≡ get_or ws at 0 → take (at - from) (drop from ws) ++ w ∷ [] ≡ take (at + 1 - from) (drop from ws)
 run_more ws from at w begins within is =
     let few : at - from < length (drop from ws) = omega (arith, length-drop from ws) in

@@ -1,4 +1,4 @@
--- Laws of what is seen in words: it has one canon, and where a walk passes something is seen.
+-- Laws of what is seen in words: it has one canon, and if a walk passes something is seen.
 use Rattle.std.proofs.Common.{◌≡◌, ℕ, zero, suc, Bool, true, false, List, [], ◌∷◌, map, Option, Some, None, refl, sym, ap, ◌∙◌, subst}
 use Rattle.std.specs.Prelude.{slice_get}
 use Rattle.std.specs.Option.{option_and_then}
@@ -106,6 +106,6 @@ seen_match name other words start g h one two = record {
 pub seen_canon : (name other : ℕ → Id) (words : List ℕ) (start : ℕ) (g h : Graph) → IsSeenAs name words start g → IsSeenAs other words start h → canon g ≡ canon h
 seen_canon name other words start g h one two = canon_match (NamesOne name other words start) g h (seen_match name other words start g h one two)
 
--- a graph that is seen holds all that is reached in it
+-- a graph that is seen has all that is reached in it
 pub seen_whole : (name : ℕ → Id) (words : List ℕ) (start : ℕ) (g : Graph) → IsSeenAs name words start g → IsWhole g
 seen_whole name words start g seen = (match_whole (NamesOne name name words start) g g (seen_match name name words start g g seen seen)).0

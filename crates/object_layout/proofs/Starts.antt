@@ -1,4 +1,4 @@
--- Objects that stand end to end, as a loop finds them and goes over them.
+-- Objects that stand end to end, as a loop finds and visits them.
 use Rattle.std.proofs.Common.{◌≡◌, ℕ, zero, suc, ◌+◌, ◌-◌, ◌<◌, ◌≤◌, inl, inr, List, [], ◌∷◌, ◌++◌, length, take, drop, Some, Result, Ok, Err, is_ok, refl, sym, ap, ◌∙◌, subst, arith, get_or}
 use Rattle.std.specs.Prelude.{slice_get, Contains, MatchBool}
 use Rattle.std.specs.Ordering.{nat_cmp}
@@ -14,7 +14,7 @@ use Rattle.object_layout.specs.Walk.{used_words, AreEndToEnd, IsInside, AreInsid
 use Rattle.object_layout.proofs.WalkLaws.{field_words_take}
 use Rattle.object_layout.proofs.WalkedLaws.{end_to_end_object}
 
--- one object more
+-- one more object
 pub end_to_end_push : (words : List ℕ) (from : ℕ) (starts : List ℕ) (at n : ℕ) → AreEndToEnd words from starts at → object_at words at ≡ Some n
     → AreEndToEnd words from (starts ++ at ∷ []) (at + 2 + n)
 end_to_end_push words from [] at n objects object = (n, sym objects, object, refl)
@@ -50,14 +50,14 @@ searched_start starts b (Err i) is ascend = λ (k, within, same).
       | inr high ↦ let more = around.2 k high within in omega arith
     ]
 
--- one field more
+-- one more field
 pub inside_push : (starts ws : List ℕ) (w : ℕ) → AreInside starts ws → IsInside starts (meaning w) → AreInside starts (ws ++ w ∷ [])
 inside_push starts [] w all inside zero v is = subst (λ (x : ℕ). IsInside starts (meaning x)) (same_Some w v is) inside
 inside_push starts [] w all inside (suc i) v is = cc
 inside_push starts (x ∷ ws) w all inside zero v is = all zero v is
 inside_push starts (x ∷ ws) w all inside (suc i) v is = inside_push starts ws w (λ k. all (suc k)) inside i v is
 
--- the word at an address stands in each run of words round it
+-- the word at an address stands in each run of words around it
 pub run_get : (ws : List ℕ) (from end at w : ℕ) → from ≤ at → at < end → end ≤ length ws → w ≡ get_or ws at 0 → slice_get (take (end - from) (drop from ws)) (at - from) ≡ Some w
 run_get ws from end at w begins ends within is =
     let run = take (end - from) (drop from ws) in
@@ -73,18 +73,18 @@ fields_run words starts end at n object inside i w is =
     let long : n ≡ at + 2 + n - (at + 2) = omega arith in
     inside i w (ap (λ k. slice_get (take k (drop (at + 2) words)) i) (sym long) ∙ ap (λ ws. slice_get ws i) (sym (field_words_take words end at n object)) ∙ is)
 
--- the other way round
+-- and conversely
 pub run_fields : (words starts : List ℕ) (end at n : ℕ) → object_at (take end words) at ≡ Some n → KeepsInside words starts at
     → AreInside starts (take (at + 2 + n - (at + 2)) (drop (at + 2) words))
 run_fields words starts end at n object keeps i w is =
     let long : at + 2 + n - (at + 2) ≡ n = omega arith in
     keeps i w (ap (λ ws. slice_get ws i) (field_words_take words end at n object) ∙ ap (λ k. slice_get (take k (drop (at + 2) words)) i) (sym long) ∙ is)
 
--- each of these objects so far keeps inside
+-- the fields of each of these objects so far lead inside
 abbrev pub KeepInside : List ℕ → List ℕ → ℕ → Type 0
 KeepInside words starts count = (k : ℕ) → k < count → KeepsInside words starts (get_or starts k 0)
 
--- one of them more
+-- one more of them
 pub keep_more : (words starts : List ℕ) (count : ℕ) → KeepInside words starts count → KeepsInside words starts (get_or starts count 0) → KeepInside words starts (count + 1)
 keep_more words starts count all one k below = elim (cases_order k count) [
   | inl same ↦ subst (λ (x : ℕ). KeepsInside words starts (get_or starts x 0)) (sym same) one

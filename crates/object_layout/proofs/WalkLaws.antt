@@ -1,4 +1,4 @@
--- Laws of the walk: objects of a space are objects of the words, the first fault is one, and a walk that passes has none.
+-- Laws of the walk: objects of a space are objects of the words, the fault is unique, and a walk that passes has none.
 use Rattle.std.proofs.Common.{◌≡◌, ℕ, zero, suc, ◌+◌, ◌<◌, ◌≤◌, ◌⊎◌, inl, inr, List, [], ◌∷◌, length, take, drop, Option, None, Some, refl, sym, ap, ◌∙◌, subst, arith}
 use Rattle.std.specs.Prelude.{Contains, if◌then◌else◌}
 use Rattle.std.proofs.lemmas.Bool.{le-leb, cases_order}
@@ -26,7 +26,7 @@ Contains-cases x xs y (suc k, within, is) = inr (k, omega arith, is)
 pub Contains-none : {X : Type 0} (y : X) → Contains [] y → ⊥
 Contains-none y (k, within, is) = omega arith
 
--- an object of a front of the words is one of the words
+-- an object of a prefix of the words is one of the words
 pub object_take : (words : List ℕ) (end at n : ℕ) → object_at (take end words) at ≡ Some n → object_at words at ≡ Some n
 object_take words end at n is =
     let parts = object_header (take end words) at n is in
@@ -36,11 +36,11 @@ object_take words end at n is =
     ∙ ap (whole_length words at) parts.0
     ∙ ap (λ b. if b then Some n else None) (le-leb (at + 2 + n) (length words) (omega arith))
 
--- and ends in that front
+-- and ends in that prefix
 pub object_take_end : (words : List ℕ) (end at n : ℕ) → object_at (take end words) at ≡ Some n → at + 2 + n ≤ end
 object_take_end words end at n is = let parts = object_header (take end words) at n is in omega (arith, length-take end words)
 
--- the object at an address of a front has the same field words there
+-- the object at an address of a prefix has the same field words there
 pub field_words_take : (words : List ℕ) (end at n : ℕ) → object_at (take end words) at ≡ Some n → field_words words at ≡ take n (drop (at + 2) words)
 field_words_take words end at n is = ap (words_of words at) (object_take words end at n is)
 
@@ -59,7 +59,7 @@ end_to_end_one words from (a ∷ xs) (b ∷ ys) end stop (n, same, object, more)
     let rest = end_to_end_one words (a + 2 + n) xs ys end stop more (subst Rest (omega arith) more') none none' in
     (cc, rest.1)
 
--- no object ends behind the end of a space's used words
+-- no object ends past the end of a space's used words
 used_end : (words : List ℕ) (base used : ℕ) → object_at (used_words words base used) (base + used) ≡ None
 used_end words base used = none_at (object_at (used_words words base used) (base + used)) (λ n is. let ends = object_take_end words (base + used) (base + used) n is in omega arith)
   where
@@ -67,7 +67,7 @@ used_end words base used = none_at (object_at (used_words words base used) (base
     none_at None no_object = refl
     none_at (Some n) no_object = absurd (no_object n refl)
 
--- a space is filled in one way
+-- a space is filled in one way only
 pub filled_one : (words : List ℕ) (base used : ℕ) (xs ys : List ℕ) → IsFilled words base used xs → IsFilled words base used ys → xs ≡ ys
 filled_one words base used xs ys one other =
     (end_to_end_one (used_words words base used) base xs ys (base + used) (base + used) one.objects other.objects (used_end words base used) (used_end words base used)).0

@@ -1,4 +1,4 @@
--- Where a walk passes the graph of its objects is closed: no reference dangles.
+-- If a walk passes, the graph of its objects is closed: no reference dangles.
 use Rattle.std.proofs.Common.{◌≡◌, ℕ, zero, suc, Bool, true, false, cond, List, [], ◌∷◌, map, Option, Some, None, Contains, unwrap_or, refl, sym, ap, ◌∙◌}
 use Rattle.std.specs.Prelude.{slice_get}
 use Rattle.std.specs.Option.{option_and_then}
@@ -86,13 +86,13 @@ gathered-IsClosed name words base used walked named apart = record {
   targets = λ id i target. gathered_targets name words base used walked id i target (get (gathered name words walked.starts) id) apart refl;
 }
 
--- Where a walk passes a closed graph is seen from its base, if the base has the root's name and the names keep the objects apart.
+-- If a walk passes, a closed graph is seen from its base, if the base has the root's name and the names keep the objects apart.
 pub walked_closed_as : (name : ℕ → Id) (words : List ℕ) (base used : ℕ) (walked : IsWalked words base used) → name base ≡ root → KeepApart name walked.starts
     → (g : Graph) × IsSeenAs name words base g × IsClosed g
 walked_closed_as name words base used walked named apart =
     (gathered name words walked.starts, gathered_seen_as name words base used walked named apart, gathered-IsClosed name words base used walked named apart)
 
--- Where a walk passes and births differ a closed graph is seen.
+-- If a walk passes and births differ, a closed graph is seen.
 pub walked_closed : (words : List ℕ) (base used : ℕ) (walked : IsWalked words base used) → HaveOwnBirths words walked.starts → (g : Graph) × IsSeen words base g × IsClosed g
 walked_closed words base used walked own =
     walked_closed_as (id_at words) words base used walked (base_named words base used walked) (births_apart words walked.starts own)

@@ -1,4 +1,4 @@
--- Where a walk passes a graph is seen, under any names that keep the objects apart.
+-- If a walk passes, a graph is seen, under any names that keep the objects apart.
 use Rattle.std.proofs.Common.{◌≡◌, ℕ, zero, suc, ◌+◌, inl, inr, Bool, true, false, cond, List, [], ◌∷◌, map, Option, Some, None, unwrap_or, refl, sym, ap, ◌∙◌, subst, arith}
 use Rattle.std.specs.Prelude.{slice_get, Contains}
 use Rattle.std.specs.Option.{option_and_then}
@@ -117,7 +117,7 @@ all_found name words (w ∷ ws) each =
     ap (λ v. v ∷ map (λ x. value name words (meaning x)) ws) (each zero w refl)
     ∙ ap (λ vs. Some (found (value name words (meaning w))) ∷ vs) (all_found name words ws (λ i. each (suc i)))
 
--- Where a walk passes the graph of its objects is seen from its base, if the base has the root's name and the names keep the objects apart.
+-- If a walk passes, the graph of its objects is seen from its base, if the base has the root's name and the names keep the objects apart.
 pub gathered_seen_as : (name : ℕ → Id) (words : List ℕ) (base used : ℕ) (walked : IsWalked words base used) → name base ≡ root → KeepApart name walked.starts
     → IsSeenAs name words base (gathered name words walked.starts)
 gathered_seen_as name words base used walked named apart = record {
@@ -154,7 +154,7 @@ base_named words base used walked =
     let birth : birth_at words base ≡ 0 = sym (get_or-take (base + used) words (base + 1) 0 (omega arith)) ∙ walked.filled.root.birth in
     ap id_of birth
 
--- Where a walk passes and births differ a graph is seen.
+-- If a walk passes and births differ, a graph is seen.
 pub walked_seen : (words : List ℕ) (base used : ℕ) (walked : IsWalked words base used) → HaveOwnBirths words walked.starts → (g : Graph) × IsSeen words base g
 walked_seen words base used walked own =
     walked_seen_as (id_at words) words base used walked (base_named words base used walked) (births_apart words walked.starts own)

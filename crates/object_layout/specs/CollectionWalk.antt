@@ -17,7 +17,7 @@ pub record FromSpace : Type 0 where
   pub base : ℕ
   pub collection : Collection
 
--- the same, as calls are given it
+-- the same, as calls take it
 abbrev pub given : declared.FromSpace → FromSpace
 given from = record { base = from.base; collection = from.collection.now }
 
@@ -35,7 +35,7 @@ abbrev pub ending : ℕ → ℕ → Option ℕ → Option ℕ
 ending end at (Some n) = if nat_le (at + 2 + n) end then Some n else None
 ending end at None = None
 
--- the number of fields of the object at an address of the from-space, by whether it was copied: if so its copy's counts, else it stands there
+-- the number of fields of the object at an address of the from-space: its copy's if it was copied, otherwise its own
 abbrev pub old_object : List ℕ → List ℕ → ℕ → ℕ → Bool → Option ℕ
 old_object words starts end at true = ending end at (copy_length words starts (header (slice_index words at)))
 old_object words starts end at false = object_at (take end words) at
@@ -46,7 +46,7 @@ is_moved from at = contains from.collection.moved at
 abbrev pub old_object_at : List ℕ → List ℕ → FromSpace → ℕ → Option ℕ
 old_object_at words starts from at = old_object words starts (from_end from) at (is_moved from at)
 
--- objects stand end to end from one address to another, where `object` tells how many fields the object at an address has
+-- objects stand end to end from one address to another, where `object` gives the number of fields of the object at an address
 abbrev pub AreChained : (ℕ → Option ℕ) → ℕ → List ℕ → ℕ → Type 0
 AreChained object from [] end = from ≡ end
 AreChained object from (at ∷ rest) end = (n : ℕ) × (at ≡ from) × (object at ≡ Some n) × AreChained object (at + 2 + n) rest end
@@ -55,12 +55,12 @@ AreChained object from (at ∷ rest) end = (n : ℕ) × (at ≡ from) × (object
 abbrev pub AreOldObjects : List ℕ → List ℕ → FromSpace → List ℕ → ℕ → Type 0
 AreOldObjects words starts from olds end = AreChained (old_object_at words starts from) from.base olds end
 
--- how many words an object takes of the from-space that was copied, and 0 where it was not
+-- how many words an object takes of the from-space if it was copied, and 0 if it was not
 abbrev pub moved_size : Bool → Option ℕ → ℕ
 moved_size true (Some n) = 2 + n
 moved_size moved object = 0
 
--- the same of all these
+-- the same for all these
 abbrev pub words_moved : List ℕ → List ℕ → FromSpace → List ℕ → ℕ
 words_moved words starts from olds = sum_by (λ at. moved_size (is_moved from at) (old_object_at words starts from at)) olds
 
@@ -73,7 +73,7 @@ pub record IsOldFilled (words starts : List ℕ) (from : FromSpace) (olds : List
 abbrev pub AreAmong : FinSet nat_cmp → List ℕ → Type 0
 AreAmong gray starts = (at : ℕ) → contains gray at ≡ true → Contains starts at
 
--- those of the from-space's objects to which a field may lead: all where its own object is gray, else none
+-- those of the from-space's objects to which a field may lead: all if its own object is gray, otherwise none
 abbrev pub open_to : Bool → List ℕ → List ℕ
 open_to true olds = olds
 open_to false olds = []
@@ -82,7 +82,7 @@ open_to false olds = []
 abbrev pub targets : Collection → List ℕ → List ℕ → ℕ → List ℕ
 targets k starts olds at = starts ++ open_to (contains k.gray at) olds
 
--- the fields of each of these objects lead to none but those to which they may
+-- the fields of each of these objects lead only where they may
 abbrev pub AllKeepInside : List ℕ → (ℕ → List ℕ) → List ℕ → Type 0
 AllKeepInside words may starts = (at : ℕ) → Contains starts at → KeepsInside words (may at) at
 
@@ -104,7 +104,7 @@ pub record OldBreaksAt (words starts : List ℕ) (from : FromSpace) (at : ℕ) :
   pub before : at < from_end from
   pub none : old_object_at words starts from at ≡ None
 
--- Where the from-space fails first: where its objects break off; else at its base, if the copied ones are not as many words as are counted.
+-- Where the from-space fails first: where its objects break off; otherwise at its base, if the copied ones are not as many words as are counted.
 pub data IsOldFault (words starts : List ℕ) (from : FromSpace) : ℕ → Type 0 where
   old_breaks : {at : ℕ} → OldBreaksAt words starts from at → IsOldFault words starts from at
   old_sum : (olds : List ℕ) → AreOldObjects words starts from olds (from_end from) → words_moved words starts from olds ≢ from.collection.copied
@@ -122,7 +122,7 @@ pub record IsFirstOut (words : List ℕ) (may : ℕ → List ℕ) (starts : List
   pub out : KeepsInside words (may at) at → ⊥
   pub first : (before : ℕ) → Contains starts before → before < at → KeepsInside words (may before) before
 
--- Where the walk of the spaces of a collection fails first. Each rule is tried where all before it hold everywhere: the current space is
+-- Where the walk of the spaces of a collection fails first. Each rule is checked after all before it hold everywhere: the current space is
 -- filled; so is the from-space; gray objects stand; their fields and all others of the current space lead where they may; so do those that
 -- are not yet copied.
 pub data IsCollectionFault (words : List ℕ) (base used : ℕ) (from : FromSpace) : ℕ → Type 0 where
@@ -136,7 +136,7 @@ pub data IsCollectionFault (words : List ℕ) (base used : ℕ) (from : FromSpac
       → AreAmong from.collection.gray starts → AllKeepInside words (targets from.collection starts olds) starts
       → IsFirstOut words (λ a. olds) olds at → IsCollectionFault words base used from at
 
--- the walk of the heap's spaces passes: of the current one alone, or of both where a collection runs
+-- the walk of the heap's spaces passes: of the current one alone, or of both if a collection runs
 abbrev pub IsWalkedBeside : List ℕ → ℕ → ℕ → Option FromSpace → Type 0
 IsWalkedBeside words base used None = IsWalked words base used
 IsWalkedBeside words base used (Some from) = IsCollectionWalked words base used from

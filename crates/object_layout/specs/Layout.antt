@@ -54,11 +54,11 @@ led at h = at
 abbrev pub standing : List ℕ → ℕ → Option ℕ
 standing words at = if is_some (object_at words at) then Some at else None
 
--- where the object stands that an address names: there, or where it was moved
+-- where the object that an address names stands: there, or where it was moved
 abbrev pub stand : List ℕ → ℕ → Option ℕ
 stand words at = standing words (led at (header (slice_index words at)))
 
--- where the object stands that a field refers to
+-- where the object that a field refers to stands
 abbrev pub referred : List ℕ → Option Word → Option ℕ
 referred words (Some (word.Stable b)) = stand words b
 referred words meant = None
@@ -67,7 +67,7 @@ referred words meant = None
 abbrev pub as_ref : (ℕ → Id) → ℕ → Option Val
 as_ref name at = Some (Ref (name at))
 
--- The value of a field, by the names of the objects; none where it names no object, and none of a volatile word or one that is no field's.
+-- The value of a field, by the names of the objects; none if it names no object, and none for a volatile word or one that is no field's.
 abbrev pub value : (ℕ → Id) → List ℕ → Option Word → Option Val
 value name words (Some word.Null) = Some Null
 value name words (Some (word.Int n)) = Some (Int n)

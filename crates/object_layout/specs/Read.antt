@@ -4,7 +4,7 @@ use Rattle.counts.specs.Count.{Rose}
 use Rattle.disk_model.specs.declared.disk.DiskError.{DiskError}
 use Rattle.disk_model.specs.declared.disk.DiskError.TheVariants.{Failed, Stopped}
 
--- Words were only read: none changed, all that their kind keeps was kept, neither count fell, an error was told only where its count rose,
+-- Words were only read: none changed, all that their kind keeps was kept, neither count fell, an error was returned only if its count rose,
 -- and the first stop was none of them.
 pub record IsRead {S : Type 0} (tells : Bool) (extent : S → ℕ) (content : S → List ℕ) (keeps : S → S → Type 0) (faults stops : S → ℕ) (old new : S) (failure : Option DiskError) : Type 0 where
   pub same_words : IsTrue tells → content new ≡ content old

@@ -1,4 +1,4 @@
--- The walk of a space: its used words are objects end to end, and their fields lead to no other place.
+-- The walk of a space: its used words are objects end to end, and their fields lead only to these objects.
 use Rattle.std.specs.Prelude.{◌≡◌, ℕ, ◌+◌, ◌^◌, ◌≤◌, ◌<◌, ◌⊎◌, List, [], ◌∷◌, length, take, slice_get, slice_index, Option, None, Some, Contains}
 use Rattle.heap_words.specs.declared.Word.{Word}
 use Rattle.heap_words.specs.declared.Word.TheVariants.{Null, Int, Stable}
@@ -43,13 +43,13 @@ pub record IsWalked (words : List ℕ) (base used : ℕ) : Type 0 where
   pub inside : (at : ℕ) → Contains starts at → KeepsInside words starts at
 
 -- What stands end to end from the base on breaks off at an address: no object stands there that ends within the used words, or at the
--- base another than the root.
+-- base one other than the root.
 pub data BreaksAt (words : List ℕ) (base used : ℕ) : ℕ → Type 0 where
   at_root : (IsRootAt (used_words words base used) base → ⊥) → BreaksAt words base used base
   behind : {at : ℕ} (starts : List ℕ) → IsRootAt (used_words words base used) base
       → AreEndToEnd (used_words words base used) base starts at → at < base + used → object_at (used_words words base used) at ≡ None → BreaksAt words base used at
 
--- Where the walk fails first: where the objects break off; else at the first object with a field that leads elsewhere.
+-- Where the walk fails first: where the objects break off; otherwise at the first object with a field that leads elsewhere.
 pub data IsWalkFault (words : List ℕ) (base used : ℕ) : ℕ → Type 0 where
   breaks : {at : ℕ} → BreaksAt words base used at → IsWalkFault words base used at
   leads_out : {at : ℕ} (starts : List ℕ) → IsFilled words base used starts → Contains starts at → (KeepsInside words starts at → ⊥)
@@ -59,7 +59,7 @@ pub data IsWalkFault (words : List ℕ) (base used : ℕ) : ℕ → Type 0 where
 abbrev pub HaveOwnBirths : List ℕ → List ℕ → Type 0
 HaveOwnBirths words starts = (a b : ℕ) → Contains starts a → Contains starts b → birth_at words a ≡ birth_at words b → a ≡ b
 
--- a birth that a transaction below the next one gave
+-- a birth that was given by a transaction below the next one
 abbrev pub IsBornBefore : ℕ → ℕ → Type 0
 IsBornBefore next birth = (t : ℕ) × (k : ℕ) × (birth ≡ birth_bits t k) × (1 ≤ k) × (k < 2 ^ 32) × (t < next)
 
@@ -67,7 +67,7 @@ IsBornBefore next birth = (t : ℕ) × (k : ℕ) × (birth ≡ birth_bits t k) �
 abbrev pub AreBornBefore : ℕ → List ℕ → ℕ → List ℕ → Type 0
 AreBornBefore next words base starts = (at : ℕ) → Contains starts at → (at ≡ base) ⊎ IsBornBefore next (birth_at words at)
 
--- these words are fields that lead to no other place
+-- these words are fields that lead only to these objects
 abbrev pub AreInside : List ℕ → List ℕ → Type 0
 AreInside starts ws = (i w : ℕ) → slice_get ws i ≡ Some w → IsInside starts (meaning w)
 

@@ -1,4 +1,4 @@
--- The disk's error in what a walk answered.
+-- The disk's error in the result of a walk.
 use Rattle.std.specs.Prelude.{Option, Some, None, Result, Err}
 use Rattle.disk_model.specs.declared.disk.DiskError.{DiskError}
 use Rattle.object_layout.specs.declared.walk_error.WalkError.{WalkError}

@@ -17,7 +17,7 @@ use heap_spaces::Collection;
 use heap_words::FIELDS_AT;
 use std::alloc::Global;
 
-/// Walks the space whose used words begin at `base` as [`walk`] does, and the from-space too where a collection runs. Then these are tried,
+/// Walks the space whose used words begin at `base` as [`walk`] does, and the from-space too if a collection runs. Then these are checked,
 /// each on all words before the next:
 ///
 /// 1. The current space's used words are objects end to end, the root first.
@@ -27,7 +27,7 @@ use std::alloc::Global;
 /// 4. A field in the current space is null, a number or a reference to an object of it; in a gray object also to one of the from-space.
 /// 5. A field of an object that is not yet copied is null, a number or a reference to an object of the from-space.
 ///
-/// Where one fails it tells the first address at which it does: for a field its object's, and for copied words that don't add up the
+/// If one fails, the first address at which it does is reported: for a field its object's, and for copied words that don't add up the
 /// from-space's base.
 pub fn walk_beside<W: Words>(
     alloc: Global,
@@ -89,7 +89,7 @@ fn first_stray(starts: &[u32], collection: &Collection) -> Option<u32>
     None
 }
 
-// Tells the first object of the current space with a field that leads elsewhere than it may.
+// Reports the first object of the current space with a field that leads elsewhere than it may.
 fn check_fields<W: Words>(
     words: &mut W,
     starts: &[u32],
@@ -114,14 +114,14 @@ fn check_fields<W: Words>(
     Ok(())
 }
 
-// Those of the from-space's objects to which a field may lead: all where its own object is gray, else none.
+// Those of the from-space's objects to which a field may lead: all if its own object is gray, otherwise none.
 fn opened<'a>(olds: &'a [u32], gray: bool) -> &'a [u32]
     ensures { result.now ≡ open_to gray olds.now }
 {
     if gray { olds } else { &olds[..0] }
 }
 
-// Tells the first object of the from-space that was not copied with a field that leads elsewhere.
+// Reports the first object of the from-space that was not copied with a field that leads elsewhere.
 fn check_old_fields<W: Words>(
     words: &mut W,
     olds: &[u32],
@@ -146,7 +146,7 @@ fn check_old_fields<W: Words>(
     Ok(())
 }
 
-// Whether the words from an address up to an end are fields that lead to none but the objects of two lists.
+// Whether the words from an address up to an end are fields that lead only to the objects of two lists.
 fn are_inside_either<W: Words>(
     words: &mut W,
     starts: &[u32],

@@ -78,7 +78,7 @@ pub(crate) fn old_end<W: Words>(words: &W, from: FromSpace<'_>) -> u32
     from.base + used
 }
 
-// The number of fields of the object at an address of the from-space, if one ends before the end of the used words: by its copy, where
+// The number of fields of the object at an address of the from-space, if one ends before the end of the used words: by its copy, if
 // it was copied.
 fn old_object_at<W: Words>(
     words: &mut W,
@@ -100,7 +100,7 @@ fn old_object_at<W: Words>(
     }
 }
 
-// The same where it was copied.
+// The same for one that was copied.
 fn copied_object<W: Words>(
     words: &mut W,
     starts: &[u32],

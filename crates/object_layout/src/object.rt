@@ -11,7 +11,7 @@ use disk_model::DiskError;
 use heap_words::{FIELDS_AT, Header, header_of};
 use std::alloc::Global;
 
-/// The number of fields of the object that stands at an address, if one does: a header with all its words behind it.
+/// The number of fields of the object that stands at an address, if one does: a header that all its words follow.
 pub fn object_at<W: Words>(words: &mut W, at: u32) -> Result<Option<u32>, DiskError>
     ensures object { IsTrue W.tells → IfOk result (λ object. object ≡ object_of (W.content words.old) at) }
     ensures within { IfOk result (λ object. IfSome object (λ n. at + 2 + n ≤ W.extent words.old)) }
@@ -53,7 +53,7 @@ fn whole_length(end: u32, at: u32, header: Option<Header>) -> Option<u32>
 }
 
 #[tactic(auto, using(crate::proofs::LayoutLaws::stand_past))]
-/// Where the object stands that an address names: there, or where it was moved; none where no object stands.
+/// Where the object that an address names stands: there, or where it was moved; none if no object stands there.
 pub fn stand<W: Words>(words: &mut W, at: u32) -> Result<Option<u32>, DiskError>
     ensures stand { IsTrue W.tells → IfOk result (λ place. place ≡ standing_at (W.content words.old) at) }
     ensures read { IsRead W.tells W.extent W.content W.keeps W.faults W.stops words.old words.new (disk_failure result) }

@@ -9,7 +9,7 @@ use std::alloc::{AllocError, AllocFailed};
 pub enum ReadError {
     /// The disk failed, or had stopped.
     Disk(DiskError),
-    /// Memory was refused.
+    /// Out of memory.
     NoMemory,
 }
 

@@ -1,4 +1,4 @@
-//! The walk of a space, which says whether its words are objects that refer to one another alone.
+//! The walk of a space, which checks that its words are objects that refer only to one another.
 ghost use Rattle.std.specs.Prelude.{◌≡◌, ℕ, ◌≤◌, ◌+◌, ◌-◌, ◌<◌, ◌↔◌, IsTrue, IfOk, OnOk, Err, List, length, take, drop, MatchBool};
 ghost use Rattle.heap_words.specs.Word.{meaning};
 ghost use Rattle.object_layout.specs.Walk.{AreEndToEnd, IsRootAt, IsInside, AreInside, AreAscending, IsFilled, IsWalked, BreaksAt, IsWalkFault};
@@ -17,8 +17,8 @@ use std::alloc::Global;
 const ROOT_BIRTH: u64 = 0;
 
 /// Walks the space whose used words begin at `base`: they are objects end to end, the root first, and each field is null, a number or
-/// a reference to one of these objects. Where that isn't so it tells the first address at which it fails: of what is no object, or else
-/// of the first object with such a field.
+/// a reference to one of these objects. If that isn't so, the first address at which it fails is reported: that of what is no object, or
+/// else of the first object with such a field.
 pub fn walk<W: Words>(alloc: Global, words: &mut W, base: u32, used: u32) -> Result<(), WalkError>
     requires { base + used ≤ W.extent words.old }
     ensures passes { IsTrue W.tells → OnOk result (IsWalked (W.content words.old) base used) }
@@ -89,7 +89,7 @@ fn is_root_at<W: Words>(words: &mut W, end: u32, at: u32) -> Result<bool, DiskEr
     }
 }
 
-// Tells the first of these objects with a field that leads elsewhere.
+// Reports the first of these objects with a field that leads elsewhere.
 fn check_fields<W: Words>(words: &mut W, starts: &[u32], end: u32) -> Result<(), WalkError>
     requires { end ≤ W.extent words.old }
     ensures passes { IsTrue W.tells → OnOk result ((base used : ℕ) → end ≡ base + used → IsFilled (W.content words.old) base used starts.now → IsWalked (W.content words.old) base used) }
@@ -106,7 +106,7 @@ fn check_fields<W: Words>(words: &mut W, starts: &[u32], end: u32) -> Result<(),
     Ok(())
 }
 
-// Whether the words from an address up to an end are fields that lead to none but these objects.
+// Whether the words from an address up to an end are fields that lead only to these objects.
 pub(crate) fn are_inside<W: Words>(
     words: &mut W,
     starts: &[u32],

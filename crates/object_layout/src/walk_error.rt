@@ -9,7 +9,7 @@ pub enum WalkError {
     Damaged { address: u32 },
     /// The disk failed, or had stopped.
     Disk(DiskError),
-    /// Memory was refused.
+    /// Out of memory.
     NoMemory,
 }
 

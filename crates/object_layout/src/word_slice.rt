@@ -4,7 +4,7 @@ ghost use Rattle.std.specs.Prelude.{◌≡◌, ◌<◌, ◌^◌, length};
 use crate::words::Words;
 use disk_model::DiskError;
 
-/// Words in memory, less than 2^32 of them. They tell all, no read fails, and reads change nothing.
+/// Words in memory, less than 2^32 of them. They are modelled, no read fails, and reads change nothing.
 #[derive(Drop)]
 pub struct WordSlice<'a> {
     words: &'a [u64],

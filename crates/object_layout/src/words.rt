@@ -1,12 +1,12 @@
-//! The heap's words as those who only read them see them.
+//! The heap's words as code that only reads them sees them.
 ghost use Rattle.std.specs.Prelude.{◌≡◌, ℕ, ◌<◌, Bool, List, length, slice_index, IsTrue, IfOk};
 ghost use Rattle.object_layout.specs.Read.{IsRead, disk_failure};
 
 use disk_model::DiskError;
 
-/// Words by address, which are read one at a time from what may fail as a disk does.
+/// Words by address, which are read one at a time from a source that may fail as a disk does.
 pub trait Words {
-    /// Whether it tells its words, and reads give just these.
+    /// Whether the words are modelled, and reads give exactly these.
     ghost tells: { Bool };
 
     /// How many words there are.
@@ -21,7 +21,7 @@ pub trait Words {
     /// How often a call found the disk stopped.
     ghost stops: { Self → ℕ };
 
-    /// What reads keep besides, as words of this kind say it: by it code that knows nothing but this trait says that all else is kept.
+    /// What else reads keep, as words of this kind say it: by it code that is generic over words can say that all else is kept.
     ghost keeps: { Self → Self → Type 0 };
 
     /// The number of words, which never changes.
@@ -37,9 +37,9 @@ pub trait Words {
     /// There are as many words as it has.
     ghost same_size: { IsTrue tells → (words : Self) → length (content words) ≡ extent words };
 
-    /// What is not read keeps all.
+    /// Without a read everything is kept.
     ghost keeps_itself: { (words : Self) → keeps words words };
 
-    /// Read after read keeps it.
+    /// One read after another keeps it.
     ghost keeps_on: { (old mid new : Self) → keeps old mid → keeps mid new → keeps old new };
 }

@@ -1,4 +1,4 @@
--- The addresses of the holdings of a tree, and which they are once each has its repeats left out.
+-- The addresses of the holdings of a tree, and what is left of them without repeats.
 use Rattle.std.proofs.Common.{◌≡◌, ℕ, zero, suc, ◌+◌, ◌<◌, ◌≤◌, eqb, true, false, List, [], ◌∷◌, length, map, get_or, refl, sym, ap, ◌∙◌, subst, arith, eq-eqb}
 use Rattle.std.specs.Prelude.{Contains}
 use Rattle.std.specs.List.{dedup, list_any}

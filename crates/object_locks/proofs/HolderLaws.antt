@@ -1,4 +1,4 @@
--- The transaction that a lock is refused for is the one of the relations: the least in conflict with it.
+-- The transaction that a refused lock is answered with is that of the relations: the least in conflict with it.
 use Rattle.std.proofs.Common.{◌≡◌, inl, inr, ℕ, ◌≤◌, Bool, true, false, List, [], ◌∷◌, Option, None, Some, Less, Equal, Greater, refl, sym, ap, ◌∙◌, subst, arith}
 use Rattle.std.specs.Prelude.{◌||◌, cond, MatchOption}
 use Rattle.std.specs.FinSet as set
@@ -41,7 +41,7 @@ later : (h : Holding) (hs : List Holding) (x : Holding) → has hs x ≡ true �
 later h hs x there = or_right (eq_by_cmp holding_cmp x h) (has hs x) there
 
 module _ (asked : Holding) where
-  -- This transaction is the least in conflict of those of these holdings.
+  -- This transaction is the least of those of these holdings that are in conflict.
   record IsLeast (hs : List Holding) (t : ℕ) : Type 0 where
     holding : Holding
     there : has hs holding ≡ true
@@ -89,7 +89,7 @@ module _ (asked : Holding) where
         | inr not_less ↦ record { holding = least.holding; there = later h hs least.holding least.there; conflict = least.conflict; is = omega (arith, least.is); below = below }
       ]
 
-  -- What is found of these holdings.
+  -- What is found among these holdings.
   abbrev Found : List Holding → Option ℕ → Type 0
   Found hs o = MatchOption o (AreFree hs) (IsLeast hs)
 
@@ -103,7 +103,7 @@ module _ (asked : Holding) where
   found [] = λ h there. cc
   found (h ∷ hs) = found_with h hs (least_in_conflict asked hs) (conflicts h asked) refl (found hs)
 
--- Of all that is held.
+-- The same among all that is held.
 
 stands : (held : Holdings) (h : Holding) → set.contains held h ≡ has (set.items held) h
 stands held h = set.contains-items held h
@@ -117,11 +117,11 @@ known held asked (Some t) least = record {
       omega (arith, low, holds.3);
 }
 
--- nothing is in the way, or the least transaction that is
+-- no transaction holds a conflicting lock, or this is the least that does
 pub holder_is : (held : Holdings) (asked : Holding) → MatchOption (holder_of held asked) (MayHold held asked) (IsLeastInConflict held asked)
 holder_is held asked = known held asked (holder_of held asked) (found asked (set.items held))
 
--- there is one answer alone
+-- there is only one answer
 only_answer : (held : Holdings) (asked : Holding) (o p : Option ℕ) → MatchOption o (MayHold held asked) (IsLeastInConflict held asked) → MatchOption p (MayHold held asked) (IsLeastInConflict held asked) → o ≡ p
 only_answer held asked None None free also = refl
 only_answer held asked None (Some u) free least = let c = least.conflicts in absurd (true≢false (sym c.2 ∙ free c.0 c.1))
@@ -142,6 +142,6 @@ find_free held asked free = sym (holder_found held asked None free)
 pub find_least : (held : Holdings) (asked : Holding) (t : ℕ) → IsLeastInConflict held asked t → holder_of held asked ≡ Some t
 find_least held asked t least = sym (holder_found held asked (Some t) least)
 
--- and back
+-- and conversely
 pub free_found : (held : Holdings) (asked : Holding) → holder_of held asked ≡ None → MayHold held asked
 free_found held asked is = subst (λ (o : Option ℕ). MatchOption o (MayHold held asked) (IsLeastInConflict held asked)) is (holder_is held asked)

@@ -1,4 +1,4 @@
--- The order of holdings is total, and tells all of them apart.
+-- The order of holdings is total, and distinguishes all of them.
 use Rattle.std.proofs.Common.{◌≡◌, Less, Equal, Greater, refl}
 use Rattle.std.specs.Ordering.{nat_cmp, ordering_then}
 use Rattle.std.specs.declared.cmp.Ordering.{Ordering}

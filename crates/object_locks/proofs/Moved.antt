@@ -15,7 +15,7 @@ use Rattle.object_locks.specs.Table.{key_cmp, AddsMove}
 use Rattle.object_locks.proofs.Orders.{holding_total, holding_exact}
 use Rattle.object_locks.proofs.Sets.{same_bool, any_witness, any_of}
 
--- a test of what became of the keys
+-- a test of what the keys became
 any_map : (f : Holding → Holding) (p : Holding → Bool) (hs : List Holding) → list_any p (map f hs) ≡ list_any (λ h. p (f h)) hs
 any_map f p [] = refl
 any_map f p (h ∷ hs) = ap (λ b. p (f h) || b) (any_map f p hs)
@@ -39,7 +39,7 @@ moved_all moves hs held is =
     (same_moved (moved_with moves) (items held) hs (λ x. sym (same x)) (eq_by_cmp holding_cmp q))
     ∙ sym (contains-from_list holding_total (map (moved_with moves) (items held)) q))
 
--- one holding more
+-- one more holding
 pub moved_more : (moves : List (Key × Key)) (hs : List Holding) (h g : Holding) (table : Holdings) → table ≡ from_list (map (moved_with moves) hs) → g ≡ moved_with moves h
     → insert table g ≡ from_list (map (moved_with moves) (hs ++ h ∷ []))
 moved_more moves hs h g table is same =
@@ -53,7 +53,7 @@ choose true None to rest = refl
 choose true (Some y) to rest = refl
 choose false x to rest = refl
 
--- one move more is known, and one less is left
+-- one more move is known, and one fewer is left
 pub move_known : (m n : BTreeMap Key Key) (moves : List (Key × Key)) (i : ℕ) (d : Key × Key) (key : Key) → i < length moves → AddsMove m n (get_or moves i d).0 (get_or moves i d).1
     → unwrap_or (get key_cmp m key) (moved (drop i moves) key) ≡ moved moves key → unwrap_or (get key_cmp n key) (moved (drop (i + 1) moves) key) ≡ moved moves key
 move_known m n moves i d key lt adds known =

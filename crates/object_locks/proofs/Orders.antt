@@ -1,4 +1,4 @@
--- The orders of holdings: the derived ones are those of the definitions, and the one by transactions is total and tells all apart too.
+-- The orders of holdings: the derived ones are those of the definitions, and the one by transactions is total and distinguishes all holdings too.
 use Rattle.std.proofs.Common.{◌≡◌, ℕ, ◌<◌, ◌≤◌, ◌^◌, Bool, false, Less, Equal, Greater, refl, sym, ap, ◌∙◌, subst, arith}
 use Rattle.std.specs.BTreeSet.{BTreeSet, Updates}
 use Rattle.std.specs.Ordering.{nat_cmp, ordering_then, is_gt}
@@ -31,7 +31,7 @@ by_object_is i a b = ordering_then (nat_cmp a.key.address b.key.address) (orderi
 pub by_transaction_is : owned_ord.cmp-value.it ≡ owned_cmp
 by_transaction_is i a b = ordering_then (nat_cmp a.transaction b.transaction) (ordering_then (nat_cmp a.key.address b.key.address) (same_mode a.mode b.mode i))
 
--- a change as the derived order tells it
+-- a change as the derived order sees it
 pub object_updates : (s n : BTreeSet Holding) (h : Holding) (b : Bool) → Updates holding_ord.cmp-value.it s n h b → Updates holding_cmp s n h b
 object_updates s n h b = subst (λ (cmp : Holding → Holding → Ordering). Updates cmp s n h b) by_object_is
 
@@ -40,13 +40,13 @@ transaction_updates s n h k b is updates =
     let ours : Updates owned_cmp s n k b = subst (λ (cmp : Owned → Owned → Ordering). Updates cmp s n k b) by_transaction_is updates in
     subst (λ (o : Owned). Updates owned_cmp s n o b) is ours
 
--- what is not greater by a number first is not greater in it
+-- what is not greater when compared by a number first is not greater in it
 pub upto_number : (a b : ℕ) (o : Ordering) → is_gt (ordering_then (nat_cmp a b) o) ≡ false → a ≤ b
 upto_number a b o e =
     by_ranked (a < b) (a ≡ b) (b < a) (nat_cmp a b) (ranked a b _ refl) (λ is lt. omega arith) (λ is same. omega arith)
     (λ is gt. absurd (true≢false (sym (ap (λ r. is_gt (ordering_then r o)) is) ∙ e)))
 
--- a tie leaves it to what follows
+-- after a tie the rest decides
 pub tied_then : (a b : ℕ) (o : Ordering) → a ≡ b → ordering_then (nat_cmp a b) o ≡ o
 tied_then a b o is = ap (λ r. ordering_then r o) (ap (λ n. nat_cmp n b) is ∙ tied_itself nat_cmp_total b)
 
@@ -73,7 +73,7 @@ last_on_object key h same small =
     ap is_gt (tied_then h.key.address key.address _ (sym same))
     ∙ not_greater (nat_cmp h.transaction 4294967295) _ (number_upto h.transaction 4294967295 (omega arith)) (number_upto (mode_number h.mode) 1 (most_mode h.mode))
 
--- the least of a transaction
+-- the least holding of a transaction
 pub first_of_transaction : (t : ℕ) (h : Holding) → h.transaction ≡ t → is_gt (owned_cmp (record { transaction = t; key = record { address = 0 }; mode = Shared }) (owned h)) ≡ false
 first_of_transaction t h same =
     ap is_gt (tied_then t h.transaction _ (sym same)) ∙ not_greater (nat_cmp 0 h.key.address) _ (number_upto 0 h.key.address (omega arith)) (number_upto 0 (mode_number h.mode) (omega arith))

@@ -1,4 +1,4 @@
--- What is left when a transaction lets go of what it holds, one holding after another.
+-- What is left when a transaction releases its holdings one after another.
 use Rattle.std.proofs.Common.{◌≡◌, ◌≢◌, ℕ, ◌-◌, ◌<◌, ◌==◌, Bool, true, false, cond, refl, sym, ap, ◌∙◌, arith}
 use Rattle.std.specs.Prelude.{◌&&◌, not}
 use Rattle.std.specs.Ordering.{eq_by_cmp}
@@ -14,7 +14,7 @@ not_empty : (held : Holdings) (h : Holding) → contains held h ≡ true → len
 not_empty held h there none =
     true≢false (sym there ∙ ap (λ s. contains s h) (empty_of_len held none) ∙ contains-empty holding_cmp h)
 
--- one holding less
+-- one holding fewer
 pub fewer : (held : Holdings) (h : Holding) → contains held h ≡ true → len (remove held h) < len held
 fewer held h there =
     let some = not_empty held h there in
@@ -39,7 +39,7 @@ and_false : (x : Bool) → false ≡ (x && false)
 and_false true = refl
 and_false false = refl
 
--- in the end the transaction holds nothing, and the others what they held
+-- in the end the transaction holds nothing, and the others hold what they held
 pub all_gone : (old held : Holdings) (t : ℕ) → HasNone held t → ((h : Holding) → h.transaction ≢ t → contains held h ≡ contains old h) → held ≡ without old t
 all_gone old held t none others = same_set holding_total holding_exact held (without old t) (λ q.
     elim (q.transaction == t) as (λ b. (q.transaction == t) ≡ b → contains held q ≡ (contains old q && not b)) [

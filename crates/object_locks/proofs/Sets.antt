@@ -11,7 +11,7 @@ use Rattle.std.specs.FinSet.{IsAntisymmetric, insert, remove, from_list, contain
 use Rattle.std.proofs.lemmas.Cmp.{eq_by_cmp_equiv, tied_itself}
 use Rattle.std.proofs.lemmas.Bool.{true≢false}
 
--- two tests agree that lead to each other
+-- two tests agree if each implies the other
 pub same_bool : (a b : Bool) → (a ≡ true → b ≡ true) → (b ≡ true → a ≡ true) → a ≡ b
 same_bool true true f g = refl
 same_bool true false f g = sym (f refl)
@@ -53,7 +53,7 @@ module _ {K : Type 0} {R : K → K → Ordering} (o : IsTotalOrder R) (exact : I
   turned : (x y : K) → eq_by_cmp R x y ≡ eq_by_cmp R y x
   turned x y = (eq_by_cmp_equiv o).symm x y
 
-  -- a key more
+  -- one more key
   pub from_list-insert : (s n : BTreeSet K) (k : K) → Updates R s n k true → from_list {R = R} n.keys ≡ insert (from_list s.keys) k
   from_list-insert s n k updates = same_set o exact _ _ (λ q.
       contains-from_list o n.keys q
@@ -63,7 +63,7 @@ module _ {K : Type 0} {R : K → K → Ordering} (o : IsTotalOrder R) (exact : I
       ∙ ap (λ b. eq_by_cmp R q k || b) (sym (contains-from_list o s.keys q))
       ∙ sym (contains-insert o (from_list s.keys) k q))
 
-  -- a key less
+  -- one key fewer
   pub from_list-remove : (s n : BTreeSet K) (k : K) → Updates R s n k false → from_list {R = R} n.keys ≡ remove (from_list s.keys) k
   from_list-remove s n k updates = same_set o exact _ _ (λ q.
       contains-from_list o n.keys q
@@ -73,7 +73,7 @@ module _ {K : Type 0} {R : K → K → Ordering} (o : IsTotalOrder R) (exact : I
       ∙ ap (λ b. not (eq_by_cmp R q k) && b) (sym (contains-from_list o s.keys q))
       ∙ sym (contains-remove o (from_list s.keys) k q))
 
-  -- a key that comes and goes
+  -- a key that is added and removed again
   pub came_and_went : (s n m : BTreeSet K) (k : K) → Updates R s n k true → Updates R n m k false → contains_key R s k ≡ false → (q : K) → contains_key R m q ≡ contains_key R s q
   came_and_went s n m k added taken new q =
       taken.0 q
@@ -89,7 +89,7 @@ module _ {K : Type 0} {R : K → K → Ordering} (o : IsTotalOrder R) (exact : I
   equal_not_gt : (x y : K) → eq_by_cmp R x y ≡ true → is_gt (R x y) ≡ false
   equal_not_gt x y tie = ap is_gt (equal_if (R x y) tie)
 
-  -- what a search finds none of in a part of the keys
+  -- what a search of a part of the keys that finds nothing says of a key there
   pub find-none : (p q : K → Bool) (ks : List K) → find p (filter q ks) ≡ None → (h : K) → list_any (eq_by_cmp R h) ks ≡ true → q h ≡ true → p h ≡ false
   find-none p q [] e h there in_part = cc
   find-none p q (k ∷ ks) e h there in_part =
@@ -146,7 +146,7 @@ module _ {K : Type 0} {R : K → K → Ordering} (o : IsTotalOrder R) (exact : I
         | false ↦ λ qk is. finds_later p q k ks x (λ in_part passes. true≢false (sym in_part ∙ qk)) (find-some p q ks x sorted.1 is)
       ] refl e
 
-  -- a key of the list that passes
+  -- a key of the list that passes the test
   pub any_witness : (p : K → Bool) (ks : List K) → list_any p ks ≡ true → (k : K) × (list_any (eq_by_cmp R k) ks ≡ true) × (p k ≡ true)
   any_witness p [] e = cc
   any_witness p (k ∷ ks) e =
@@ -154,7 +154,7 @@ module _ {K : Type 0} {R : K → K → Ordering} (o : IsTotalOrder R) (exact : I
       (λ here. (k, or_left (eq_by_cmp R k k) _ (itself k), here))
       (λ there. let w = any_witness p ks there in (w.0, or_right (eq_by_cmp R w.0 k) _ w.1, w.2))
 
-  -- one that is there and passes
+  -- one that is there and passes the test
   pub any_of : (p : K → Bool) (ks : List K) (k : K) → list_any (eq_by_cmp R k) ks ≡ true → p k ≡ true → list_any p ks ≡ true
   any_of p [] k there e = cc
   any_of p (x ∷ ks) k there e =

@@ -41,7 +41,7 @@ small_left : (b x : Bool) (P : Type 0) → (x ≡ true → P) → cond b false x
 small_left true x P rest e = cc
 small_left false x P rest e = rest e
 
--- a holding more
+-- one more holding
 pub table_insert : (s n : BTreeSet Holding) (t u : BTreeSet Owned) (h : Holding) → IsTable s t → Updates holding_cmp s n h true → Updates owned_cmp t u (owned h) true → h.transaction < 2 ^ 32 → IsTable n u
 table_insert s n t u h table by_object by_transaction small = record {
   same = λ q.
@@ -63,7 +63,7 @@ table_remove s n t u h table by_object by_transaction = record {
   small = λ q there. small_left (eq_by_cmp holding_cmp h q) (contains holding_cmp s q) (q.transaction < 2 ^ 32) (table.small q) (sym (by_object.0 q) ∙ there);
 }
 
--- a holding that can't be put with its transaction is new
+-- a holding whose insertion by its transaction fails is new
 pub new_owned : (s : BTreeSet Holding) (t : BTreeSet Owned) (h : Holding) (k : Owned) → k ≡ owned h → IsTable s t → contains owned_ord.cmp-value.it t k ≡ false → contains holding_cmp s h ≡ false
 new_owned s t h k is table absent =
     sym (table.same h)
@@ -71,7 +71,7 @@ new_owned s t h k is table absent =
     ∙ ap (λ (cmp : Owned → Owned → Ordering). contains cmp t k) (sym by_transaction_is)
     ∙ absent
 
--- a holding that comes and goes
+-- a holding that is added and removed again
 pub table_back : (s n m : BTreeSet Holding) (t u : BTreeSet Owned) (h : Holding) → IsTable s t → Updates holding_cmp s n h true → Updates holding_cmp n m h false → contains holding_cmp s h ≡ false → u.keys ≡ t.keys → IsTable m u
 table_back s n m t u h table added taken new same_owned =
     let same_holdings : (q : Holding) → contains holding_cmp m q ≡ contains holding_cmp s q = λ q. came_and_went holding_total holding_exact s n m h added taken new q in
@@ -102,7 +102,7 @@ both_pass true false e f = refl
 both_pass true true e f = cc
 both_pass false b e f = cc
 
--- what conflicts stands among the holdings of the object
+-- a holding in conflict stands among the holdings of the object
 conflict_in_range : (h asked : Holding) → conflicts h asked ≡ true → h.transaction < 2 ^ 32 → of_object asked.key h ≡ true
 conflict_in_range h asked e small =
     let same = conflict_key h asked e in
@@ -150,7 +150,7 @@ from_derived t n part = subst (λ (cmp : Owned → Owned → Ordering). IsKeyRan
 stands_owned : (s : BTreeSet Holding) (t : BTreeSet Owned) (held : Holdings) (h : Holding) → set.from_list s.keys ≡ held → IsTable s t → set.contains held h ≡ true → contains owned_cmp t (owned h) ≡ true
 stands_owned s t held h is table there = table.same h ∙ sym (seen_holding s held h is) ∙ there
 
--- nothing is found from a transaction on
+-- nothing is found from this transaction on
 pub none_of : (s : BTreeSet Holding) (t : BTreeSet Owned) (held : Holdings) (n : ℕ) (part : List Owned) → set.from_list s.keys ≡ held → IsTable s t → IsFrom t n part → part ≡ [] → HasNone held n
 none_of s t held n part is table range empty h of_n =
     true≢false (sym (stands_owned s t held h is table of_n.1) ∙ range.5 empty (owned h) (first_of_transaction n h of_n.0, tt))
@@ -160,7 +160,7 @@ first_in_range_of : (t : BTreeSet Owned) (n : ℕ) (o : Option Owned) → IfSome
 first_in_range_of t n None h = h
 first_in_range_of t n (Some k) h = h.0.0
 
--- what is found is of a later one
+-- what is found is of a later transaction
 pub none_before : (s : BTreeSet Holding) (t : BTreeSet Owned) (held : Holdings) (n : ℕ) (part rest : List Owned) (o : Owned) → set.from_list s.keys ≡ held → IsTable s t → IsFrom t n part → part ≡ o ∷ rest → (o.transaction ≡ n → ⊥)
     → HasNone held n
 none_before s t held n part rest o is table range starts apart h of_n =

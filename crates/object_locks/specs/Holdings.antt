@@ -14,7 +14,7 @@ abbrev pub mode_number : Mode → ℕ
 mode_number Shared = 0
 mode_number Exclusive = 1
 
--- holdings go by object, then by transaction, then by mode
+-- holdings are ordered by object, then by transaction, then by mode
 abbrev pub holding_cmp : Holding → Holding → Ordering
 holding_cmp a b =
     ordering_then (nat_cmp a.key.address b.key.address)
@@ -58,7 +58,7 @@ pub record AreLocked (held : Holdings) (addresses : List ℕ) : Type 0 where
 abbrev pub without : Holdings → ℕ → Holdings
 without held t = set.retain held (λ h. not (h.transaction == t))
 
--- where an object is after the moves, each from one place to another; it stays where no move names it
+-- where an object is after the moves, each from one address to another; it stays if no move names it
 abbrev pub moved : List (Key × Key) → Key → Key
 moved [] key = key
 moved (move ∷ moves) key = if move.0.address == key.address then move.1 else moved moves key
@@ -67,6 +67,6 @@ moved (move ∷ moves) key = if move.0.address == key.address then move.1 else m
 abbrev pub moved_with : List (Key × Key) → Holding → Holding
 moved_with moves h = record h { key = moved moves h.key }
 
--- what is held when the objects have moved
+-- what is held after the objects have moved
 abbrev pub rekeyed : List (Key × Key) → Holdings → Holdings
 rekeyed moves held = set.from_list (map (moved_with moves) (set.items held))

@@ -40,7 +40,7 @@ holdings_code =
     (λ p. record { key = record { address = p.0 }; transaction = p.1.0; mode = p.1.1 })
     (λ _. refl))
 
--- holdings by their transactions, and then as else
+-- holdings by their transactions, and then in their usual order
 abbrev pub owned_cmp : Owned → Owned → Ordering
 owned_cmp a b =
     ordering_then (nat_cmp a.transaction b.transaction)
@@ -75,6 +75,6 @@ IsOf held t h = (h.transaction ≡ t) × (set.contains held h ≡ true)
 abbrev pub HasNone : Holdings → ℕ → Type 0
 HasNone held t = (h : Holding) → IsOf held t h → ⊥
 
--- from one place on a move is known, the old one if there was one
+-- a move from one address is known; if there was one already, the old one stays
 abbrev pub AddsMove : BTreeMap Key Key → BTreeMap Key Key → Key → Key → Type 0
 AddsMove old new from to = (q : Key) → map.get key_cmp new q ≡ (if from.address == q.address then Some (unwrap_or (map.get key_cmp old q) to) else map.get key_cmp old q)

@@ -1,7 +1,7 @@
 //! What is held: an object, by a transaction, in a mode.
 ghost use Rattle.std.specs.Prelude.{◌≡◌};
 
-/// An object as locks name it: the word address at which it stands. It changes when the object moves.
+/// An object as locks name it: its word address. It changes when the object moves.
 #[derive(Clone, Copy, Debug, PartialEq, Eq, PartialOrd, Ord)]
 pub struct Key {
     pub address: u32,
@@ -10,7 +10,7 @@ pub struct Key {
 /// How a transaction uses an object.
 #[derive(Clone, Copy, Debug, PartialEq, Eq, PartialOrd, Ord)]
 pub enum Mode {
-    /// It reads the object, beside others that read it.
+    /// It reads the object; others may read it too.
     Shared,
     /// It writes the object, and no other transaction uses it.
     Exclusive,

@@ -1,5 +1,5 @@
 //! Locks on objects, for strict two-phase locking: a transaction locks each object before it reads or writes it, and keeps all
-//! its locks until it ends. No call waits: where others stand in the way, it is refused, with the number of one of them.
+//! its locks until it ends. No call waits: if others hold conflicting locks, it is refused, with the number of one of them.
 #![tactic(auto)]
 
 mod holding;

@@ -1,12 +1,12 @@
 //! Why a lock was not taken.
 use std::alloc::AllocError;
 
-/// Why a lock was not taken. The table is as it was.
+/// Why a lock was not taken. The table is unchanged.
 #[derive(Clone, Copy, Debug, PartialEq, Eq)]
 pub enum LockError {
-    /// Another transaction uses the object in a way that conflicts; if several do, this is the least of their numbers.
+    /// Another transaction holds a conflicting lock on the object; if several do, this is the least of their numbers.
     Busy { holder: u32 },
-    /// Memory was refused.
+    /// Out of memory.
     NoMemory,
 }
 

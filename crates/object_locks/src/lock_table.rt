@@ -1,7 +1,7 @@
 //! The table of the locks that are held.
 //!
-//! A lock, or a test for one, takes the logarithm of what is held, times what is held of that object. `release` takes that logarithm
-//! times what the transaction holds, and `rekey` the time to make the table anew.
+//! A lock, or a test for one, takes time logarithmic in what is held, times what is held of that object. `release` takes that logarithm
+//! times what the transaction holds, and `rekey` the time to rebuild the table.
 ghost use Rattle.std.specs.Prelude.{◌≡◌, OnOk, OnErr, IfOk, IfErr, MatchOption, unwrap_or, find};
 ghost use Rattle.std.specs.BTreeMap as tree;
 ghost use Rattle.std.specs.BTreeSet.{IsOrdered};
@@ -30,7 +30,7 @@ struct Owned {
 pub struct LockTable {
     alloc: Global,
     by_object: BTreeSet<Holding>,
-    /// The same holdings, so that those of one transaction stand together.
+    /// The same holdings, ordered so that those of one transaction stand together.
     by_transaction: BTreeSet<Owned>,
 }
 
@@ -49,7 +49,7 @@ impl Model for LockTable {
 }
 
 impl LockTable {
-    /// No locks. It takes no memory.
+    /// No locks. Does not allocate.
     pub fn new(alloc: Global) -> LockTable
         ensures { result ≡ set.empty }
     {
@@ -60,7 +60,7 @@ impl LockTable {
         }
     }
 
-    /// The transaction that stands in the way of `asked`, if one does: of those that hold what conflicts, the one with the least number.
+    /// The transaction that holds a lock in conflict with `asked`, if one does; if several do, the one with the least number.
     pub fn conflict(&self, asked: Holding) -> Option<u32>
         ensures { MatchOption result (MayHold self.now asked) (IsLeastInConflict self.now asked) }
     {
@@ -68,7 +68,7 @@ impl LockTable {
         Some(held.transaction)
     }
 
-    /// Transaction `t` locks an object to read it. An error changes nothing.
+    /// Transaction `t` locks an object to read it. After an error nothing has changed.
     pub fn read_lock(&mut self, key: Key, t: u32) -> Result<(), LockError>
         ensures granted { OnOk result (self.new ≡ set.insert self.old (reading t key)) }
         ensures free { OnOk result (MayHold self.old (reading t key)) }
@@ -82,7 +82,7 @@ impl LockTable {
         })
     }
 
-    /// Transaction `t` locks an object to write it. Its own lock to read it is not in the way, those of others are. An error changes nothing.
+    /// Transaction `t` locks an object to write it. Its own lock to read it is no conflict, those of others are. An error changes nothing.
     pub fn write_lock(&mut self, key: Key, t: u32) -> Result<(), LockError>
         ensures granted { OnOk result (self.new ≡ set.insert self.old (writing t key)) }
         ensures free { OnOk result (MayHold self.old (writing t key)) }
@@ -96,7 +96,7 @@ impl LockTable {
         })
     }
 
-    /// Takes a lock in whose way no other transaction stands, as `conflict` says. An error changes nothing.
+    /// Takes a lock with which no other transaction's conflicts, as `conflict` says. An error changes nothing.
     pub fn take(&mut self, lock: Holding) -> Result<(), AllocError>
         requires { MayHold self.old lock }
         ensures taken { OnOk result (self.new ≡ set.insert self.old lock) }
@@ -105,7 +105,7 @@ impl LockTable {
         self.add(lock)
     }
 
-    // Takes the lock that is asked for, if it is free.
+    // Takes the lock that is asked for, if no other transaction's conflicts with it.
     fn lock(&mut self, asked: Holding) -> Result<(), LockError>
         ensures granted { OnOk result (self.new ≡ set.insert self.old asked) }
         ensures free { OnOk result (MayHold self.old asked) }
@@ -132,7 +132,7 @@ impl LockTable {
         Ok(())
     }
 
-    /// Frees all that transaction `t` holds, which it does when it ends. It takes no memory.
+    /// Frees all that transaction `t` holds, which it does when it ends. Does not allocate.
     pub fn release(&mut self, t: u32)
         ensures { self.new ≡ without self.old t }
     {
@@ -161,7 +161,7 @@ impl LockTable {
         })
     }
 
-    // Takes a holding away.
+    // Removes a holding.
     fn remove(&mut self, held: Holding)
         ensures { self.new ≡ set.remove self.old held }
     {
@@ -169,7 +169,7 @@ impl LockTable {
         self.by_transaction.remove(&by_transaction(held));
     }
 
-    /// The word addresses of the objects that are locked, ascending, each once. It takes the time to walk the table.
+    /// The word addresses of the objects that are locked, ascending, each once. It takes linear time.
     pub fn addresses(&self) -> Result<Vec<u32>, AllocError>
         ensures { IfOk result (λ addresses. AreLocked self.now addresses.items) }
     {
@@ -182,9 +182,9 @@ impl LockTable {
         Ok(addresses)
     }
 
-    /// The objects have moved, each from the first key of a pair to the second, and what is held of them goes with them. An object that
-    /// no pair names has stayed; of several pairs from one key the first counts. It fails only where memory is lacking, and then nothing
-    /// changes: so where more than the locks goes by the move, the locks go first, and what can't fail follows.
+    /// The objects have moved, each from the first key of a pair to the second, and the locks on them move along. An object that
+    /// no pair names has stayed; of several pairs from one key the first counts. It fails only if memory runs out, and then nothing has
+    /// changed: a caller who moves more than the locks should call it first, and then do what can't fail.
     pub fn rekey(&mut self, moves: &[(Key, Key)]) -> Result<(), AllocError>
         ensures ok { OnOk result (self.new ≡ rekeyed moves.now self.old) }
         ensures err { OnErr result (self.new ≡ self.old) }

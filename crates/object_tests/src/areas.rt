@@ -7,7 +7,7 @@ use std::alloc::Global;
 use std::process::Abort;
 use volatile_area::{Area, AreaError};
 
-/// The area of a transaction, with objects of so many fields, each at the index beside.
+/// The area of a transaction, with objects of these numbers of fields, each at the index given with it.
 pub fn area_of(rt: &impl Abort, alloc: Global, t: u32, objects: &[(u32, u32)]) -> Area {
     let mut area = Area::new(alloc, t);
     for (fields, at) in objects {
@@ -37,7 +37,7 @@ pub fn set(rt: &impl Abort, area: &mut Area, object: u32, field: u32, word: u64)
     area.set(object, field, word);
 }
 
-/// Has a field refer to an object of the area.
+/// Lets a field refer to an object of the area.
 pub fn refer(rt: &impl Abort, area: &mut Area, object: u32, field: u32, to: u32) {
     assert!(rt; to < 4096);
     set(rt, area, object, field, encode(Word::Volatile(to)));

@@ -1,5 +1,5 @@
-//! Transactions of a heap of one page: what is sealed is there afterwards, what is aborted is not, sessions that are side by side are in
-//! each other's way where both use an object and one writes it, and the log keeps room for their ends.
+//! Transactions of a heap of one page: what is sealed is there afterwards, what is aborted is not, sessions that run side by side
+//! conflict if both use an object and one writes it, and the log keeps room for their ends.
 ghost use Rattle.std.specs.Prelude.{IsTrue};
 ghost use Rattle.heap_engine.specs.EngineState.{LiesWithin, HasNotFailed};
 
@@ -34,20 +34,20 @@ const SMALL: Plan = Plan {
 struct Opened {
     engine: Engine,
     disk: MemoryDisk,
-    // Whether the disk has done all that it was asked.
+    // Whether every call of the disk has succeeded.
     works: bool,
     ghost inside: { LiesWithin engine (⟦<MemoryDisk as Disk>⟧.extent disk) },
     ghost unfailed: { IsTrue works → HasNotFailed engine },
 }
 
-/// A disk of so many zeros.
+/// A disk of that many zeros.
 fn new_disk(alloc: Global, size: u64) -> Result<MemoryDisk, AllocError> {
     let bytes = vec![in alloc; 0u8; size as usize]?;
     let none = Vec::new(alloc);
     MemoryDisk::of(alloc, bytes, Pick::Newest, 1000, none, Vec::new(alloc))
 }
 
-/// A heap of that plan, when it is new.
+/// A new heap of that plan.
 fn new_heap(rt: &impl Abort, alloc: Global, plan: Plan) -> Result<Opened, Fail> {
     assert!(rt; plan.pages == 1 && plan.log_bytes > 0);
     let mut disk = new_disk(alloc, plan.size())?;
@@ -163,7 +163,7 @@ const THREE: [Step; 6] = [
     (Event::Root { s: 3, h: 0 }, Reply::Done),
 ];
 
-/// Those that read are together, and in the way of one that writes.
+/// Those that read may run together, and conflict with one that writes.
 const READERS_FIRST: [Step; 7] = [
     (
         Event::Get {
@@ -218,7 +218,7 @@ const READERS_FIRST: [Step; 7] = [
     ),
 ];
 
-/// What is written nobody else sees before the seal.
+/// Nobody else sees what is written before the seal.
 const UNSEEN: [Step; 5] = [
     (Event::Begin { s: 3 }, Reply::Begun { n: 4 }),
     (Event::Root { s: 3, h: 0 }, Reply::Done),
@@ -285,7 +285,7 @@ const FORCED: [Step; 5] = [
     ),
 ];
 
-/// Ten words of 64 are taken: an object of 53 fields has no room in the rest.
+/// Ten words of 64 are taken: there is no room for an object of 53 fields in the rest.
 const TOO_LARGE: [Step; 5] = [
     (Event::Begin { s: 4 }, Reply::Begun { n: 3 }),
     (Event::Root { s: 4, h: 0 }, Reply::Done),
@@ -372,7 +372,7 @@ fn ask(rt: &impl Abort, heap: &mut Opened, event: Event) -> Result<Reply, AllocE
     }
 }
 
-/// Asks each event, and compares what it is answered.
+/// Asks each event, and compares its answer.
 fn play(rt: &impl Abort, heap: &mut Opened, steps: &[Step]) -> Result<(), AllocError> {
     for (event, reply) in steps {
         let found = ask(rt, heap, *event)?;
@@ -390,7 +390,7 @@ fn committed(alloc: Global, heap: &Opened, at: u32) -> Result<Option<u64>, Alloc
     Ok(words.word(at).ok())
 }
 
-/// What is done with a heap, and what is then found.
+/// What is done with a heap, and what is found then.
 enum Part {
     Play(&'static [Step]),
     /// A word address, and the committed word there.

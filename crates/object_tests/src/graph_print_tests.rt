@@ -15,7 +15,7 @@ const AT_SECOND: PrintError = PrintError::Damaged { address: 6 };
 const CASES: [Case; 8] = [
     // The root alone.
     (&[17, 0, 29, 0, 0, 2], Ok(b"graph 1\n0: 7 - - @0\n")),
-    // A list of two, met out of the order of their addresses, and an object that nothing refers to.
+    // A list of two, not in the order of their addresses, and an object that nothing refers to.
     (
         &[
             17,
@@ -35,7 +35,7 @@ const CASES: [Case; 8] = [
         ],
         Ok(b"graph 3\n0: @1 - @2 -\n1: @2\n2: @1\n"),
     ),
-    // Breadth first: the objects that the root refers to before those that these refer to.
+    // Breadth first: the objects that the root refers to before those that they refer to.
     (
         &[17, 0, 26, 38, 0, 0, 5, 1, 50, 5, 2, 1, 1, 3],
         Ok(b"graph 4\n0: @1 @2 - -\n1: @3\n2: 0\n3:\n"),

@@ -13,7 +13,7 @@ fn words_are_taken_while_a_copy_has_room(rt: HostRuntime) {
     same(&rt, new.take(need), Err(Exhausted { need, free, owed }));
 }
 
-/// Of the second space six words are taken, and 52 wait to be copied.
+/// Of the second space six words are taken, and 52 are still to be copied.
 #[test]
 fn words_that_wait_are_not_taken(rt: HostRuntime) {
     let mut copying = Spaces::new(1, 64, 6, 52);

@@ -22,10 +22,10 @@ const CASES: [Case; 12] = [
     (&[17, 1, 0, 0, 0, 0], 0, 6, AT_ROOT),
     (&[13, 0, 0, 0, 0], 0, 5, AT_ROOT),
     (&[18, 0, 0, 0, 0, 0], 0, 6, AT_ROOT),
-    // The second object ends behind the used words, or has no header; both before a field that leads elsewhere.
+    // The second object ends past the used words, or has no header; both before a field that leads elsewhere.
     (&[17, 0, 3, 0, 0, 0, 9, 1, 0, 0], 0, 9, AT_SECOND),
     (&[17, 0, 3, 0, 0, 0, 0, 1, 0], 0, 9, AT_SECOND),
-    // A field that is no field word, a volatile one, a reference into an object, one behind the used words.
+    // A field that is no field word, a volatile one, a reference into an object, one past the used words.
     (&[17, 0, 0, 0, 0, 4], 0, 6, AT_ROOT),
     (&[17, 0, 0, 0, 0, 0, 5, 1, 3], 0, 9, AT_SECOND),
     (&[17, 0, 0, 0, 0, 0, 5, 1, 6], 0, 9, AT_SECOND),
@@ -54,7 +54,7 @@ const MOVED: [u64; 12] = [34, 0, 0, 0, 0, 0, 0, 0, 9, 4, 1, 2];
 /// Addresses, and how many fields the object there has, if there is one.
 const OBJECTS: [(u32, Option<u32>); 3] = [(8, Some(2)), (0, None), (12, None)];
 
-/// Addresses, and where the object stands that they lead to.
+/// Addresses, and where the object to which they lead stands.
 const STAND: [(u32, Option<u32>); 3] = [(0, Some(8)), (8, Some(8)), (9, None)];
 
 #[test]

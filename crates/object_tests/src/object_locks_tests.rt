@@ -16,7 +16,7 @@ fn at(address: u32) -> Key {
     Key { address }
 }
 
-/// A lock that is asked for: the transaction, what it does, and which transaction is in the way, if one is.
+/// A lock that is asked for: the transaction, what it does, and which transaction holds a conflicting lock, if one does.
 type Row = (u32, Act, Option<u32>);
 
 const FIRST: [Row; 13] = [
@@ -35,7 +35,7 @@ const FIRST: [Row; 13] = [
     (0, Write(4294967295), None),
 ];
 
-/// What is asked for once transactions 3 and 5 have let go.
+/// What is asked for after transactions 3 and 5 have released theirs.
 const RELEASED: [Row; 5] = [
     (9, Write(10), None),
     (9, Write(10), None),
@@ -44,7 +44,7 @@ const RELEASED: [Row; 5] = [
     (5, Read(11), Some(1)),
 ];
 
-/// What is asked for once the locks have moved.
+/// What is asked for after the locks have moved.
 const MOVED: [Row; 6] = [
     (1, Read(10), Some(5)),
     (1, Read(12), Some(9)),

@@ -14,7 +14,7 @@ use std::process::Abort;
 use std::test::Fail;
 use volatile_area::Area;
 
-/// The word address behind the root object.
+/// The word address after the root object.
 const ADDRESS: u32 = 6;
 
 /// Transaction 2 wrote three fields of the root object, one of them twice.

@@ -1,4 +1,4 @@
-//! What a few objects that refer to one another have promoted.
+//! Which of a few objects that refer to one another are promoted.
 use crate::areas::{area_of, refer};
 use crate::compare::same;
 use stability_tracker::promotion;

@@ -113,7 +113,7 @@ HoldsPrefix-take o records n p lsn page is le = record {
   same = is.same ∙ ap (λ (l : List Record). page_words (words_from o l) p) (sym (take-take (count_to o lsn) n records (omega (arith, le))));
 }
 
--- and so many as the LSN of the page says
+-- and as many as the LSN of the page says
 pub HoldsPrefix-own : (o : Origin) (records : List Record) (at : Pages) (p : ℕ) → IsPresent o records at → p < pages_in o.state.pages → HoldsPrefix o records p (lsn_of at p) (page_words (words_from o records) p)
 HoldsPrefix-own o records at p is lt = record {
   reached = (is.prefixes.each p lt).reached;

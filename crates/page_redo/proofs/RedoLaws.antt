@@ -120,7 +120,7 @@ EachLacks-redo_all lsn at rs lacking p = elim (cases_lt p (length at.lsns)) [
 pub EachLacks-redone : (o : Origin) (records : List Record) (stored : Pages) → EachLacks (next_lsn o records) stored → EachLacks (next_lsn o records) (redone o stored records)
 EachLacks-redone o records stored lacking = EachLacks-redo_all o.lsn stored records lacking
 
--- then the words go on with more records as any words do
+-- then the words continue with more records as any words do
 pub redone_words-append : (o : Origin) (stored : Pages) (records more : List Record) → EachLacks (next_lsn o records) stored → (redone o stored (records ++ more)).words ≡ fold put_record (redone o stored records).words more
 redone_words-append o stored records more lacking =
     ap (λ (at : Pages). at.words) (redo_all-append o.lsn stored records more)

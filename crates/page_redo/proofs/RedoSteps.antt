@@ -1,4 +1,4 @@
--- Redo goes on: what the pages are when the first so many records of a log have been redone.
+-- Redo continues: what the pages are when the first n records of a log have been redone.
 use Rattle.std.proofs.Common.{◌≡◌, ℕ, ◌+◌, ◌-◌, ◌<◌, ◌≤◌, false, List, [], ◌∷◌, ◌++◌, length, get_or, take, refl, sym, ap, subst, ◌∙◌, arith, inl, inr, ⊎_elim, append_assoc, length-append, ◌⊎◌}
 use Rattle.std.specs.Prelude.{map, max, ◌==◌}
 use Rattle.std.specs.List.{filter, list_any}
@@ -36,7 +36,7 @@ lsn_after lsn at r p lt = elim (cases_Bool (touches r p)) [
 ]
 
 module _ (o : Origin) (whole : HasAllWords o) (records : List Record) where
-  -- the words after the first so many records
+  -- the words after the first n records
   abbrev words_after : ℕ → List ℕ
   words_after n = words_from o (take n records)
 
@@ -87,7 +87,7 @@ module _ (o : Origin) (whole : HasAllWords o) (records : List Record) where
         ])
         (step_lsn p lt)
 
-    -- one record more
+    -- one more record
     pub step : IsRedoneTo o records (n + 1) new
     step = record {
       size = length-put_all (filter (λ (w : ℕ × ℕ). lacks at lsn (page_of w.0)) (effect at.words r)) at.words ∙ is.size;
@@ -97,7 +97,7 @@ module _ (o : Origin) (whole : HasAllWords o) (records : List Record) where
       own = step_own;
     }
 
--- the words after one record more
+-- the words after one more record
 words_next : (o : Origin) (done : List Record) (r : Record) (rest : List Record) → words_from o (take (length done + 1) (done ++ r ∷ rest)) ≡ put_record (words_from o (take (length done) (done ++ r ∷ rest))) r
 words_next o done r rest =
     ap (λ (l : List Record). words_from o (take (length done + 1) l)) (sym (append_assoc done (r ∷ []) rest))

@@ -16,7 +16,7 @@ use Rattle.page_store.specs.Gates.{one_if, open_gates}
 abbrev pub is_gate_open : ℕ → ℕ → List ℕ → Frame → Bool
 is_gate_open log_bytes p image frame = is_frame_open (frame_of log_bytes p image frame)
 
--- where only bytes of the log differ, all gates of frames are as they were
+-- if only bytes of the log differ, all gates of frames are as they were
 pub gates_behind_log : (log_bytes : ℕ) (old new : List ℕ) → SameOutside log_offset (log_offset + log_bytes) old new → (p : ℕ) → open_gates log_bytes new p ≡ open_gates log_bytes old p
 gates_behind_log log_bytes old new behind p =
     let same = frames_behind_log log_bytes old new behind p in
@@ -30,7 +30,7 @@ gate_byte log_bytes p frame image =
     let here : at + 0 ≡ at = omega arith in
     part_index image at 528 0 (omega arith) ∙ ap (λ (k : ℕ). slice_index image k) here
 
--- the first frame is opened where it is the spare one
+-- the first frame is opened if it is the spare one
 first_opened : (o o' : Bool) (lsn lsn' : ℕ) → spare (newest o o' lsn lsn') ≡ First → 1 + one_if o' ≡ min 2 (one_if o + one_if o' + 1)
 first_opened false false lsn lsn' is = refl
 first_opened true false lsn lsn' is = absurd (cc is)
@@ -48,7 +48,7 @@ second_opened true true lsn lsn' is = refl
 abbrev calls_if : Bool → ℕ
 calls_if opened = if opened then 6 else 4
 
--- the spare frame is open exactly where both are
+-- the spare frame is open exactly if both are
 spare_calls : (o o' : Bool) (lsn lsn' : ℕ) (at : Frame → Bool) → at First ≡ o → at Second ≡ o'
     → calls_if (at (spare (newest o o' lsn lsn'))) ≡ (if nat_lt (one_if o + one_if o') 2 then 4 else 6)
 spare_calls false false lsn lsn' at first second = ap calls_if first
@@ -68,14 +68,14 @@ module _ (log_bytes p : ℕ) where
       ap (λ (byte : ℕ). calls_if (byte == 1)) (sym (gate_byte log_bytes p (spare (page_frame log_bytes p image)) image))
       ∙ spare_calls (is_gate_open log_bytes p image First) (is_gate_open log_bytes p image Second) (lsn First) (lsn Second) (is_gate_open log_bytes p image) refl refl
 
-  -- where only bytes of page p differ, the gates of each other page are as they were
+  -- if only bytes of page p differ, the gates of every other page are as they were
   pub other_gates : (old new : List ℕ) → SameButPage log_bytes p old new → (q : ℕ) → q ≢ p → open_gates log_bytes new q ≡ open_gates log_bytes old q
   other_gates old new but q apart =
       let same = other_frames log_bytes p old new but q apart in
       ap (λ (l : List ℕ). one_if (is_frame_open l) + one_if (is_gate_open log_bytes q new Second)) (same First)
       ∙ ap (λ (l : List ℕ). one_if (is_gate_open log_bytes q old First) + one_if (is_frame_open l)) (same Second)
 
-  -- where the spare frame is opened and the other one stands, one gate more is open than before, of two at most
+  -- when the spare frame is opened and the other one stays, one more gate is open than before, and two at most
   pub gates_stored : (frame : Frame) (old new : List ℕ) → frame ≡ spare (page_frame log_bytes p old) → frame_of log_bytes p new (other frame) ≡ frame_of log_bytes p old (other frame)
       → is_frame_open (frame_of log_bytes p new frame) ≡ true → open_gates log_bytes new p ≡ min 2 (open_gates log_bytes old p + 1)
   gates_stored First old new spare_is stands opened =

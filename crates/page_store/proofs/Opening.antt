@@ -30,7 +30,7 @@ part_part image at n k m fits =
     ∙ ap (λ (l : List ℕ). take m l) (drop-drop k at image)
 
 module _ (log_bytes : ℕ) (image : List ℕ) where
-  -- one page more was read
+  -- one more page was read
   pub read_more : (p : ℕ) (table : List Stored) (words : List ℕ) (stored : Stored) (page : List ℕ) → IsReadTo log_bytes p table words image
       → stored.lsn ≡ page_lsn log_bytes p image → stored.counts ≡ page_frame log_bytes p image → page ≡ stored_words log_bytes p image → IsReadTo log_bytes (p + 1) (table ++ stored ∷ []) (words ++ page) image
   unfolding image_words

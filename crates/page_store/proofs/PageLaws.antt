@@ -1,4 +1,4 @@
--- What becomes of an image's pages when bytes of it are written.
+-- What happens to an image's pages when bytes of it are written.
 use Rattle.std.specs.Prelude.{◌≡◌, ◌≢◌, ◌⊎◌, ℕ, ◌+◌, ◌^◌, ◌<◌, ◌≤◌, false, List, length, take, Some}
 use Rattle.std.proofs.Common.{refl, sym, ap, ◌∙◌, inl, inr, get_or, subst, arith}
 use Rattle.std.proofs.lemmas.Bool.{cases_lt, eq-eqb}
@@ -36,19 +36,19 @@ module _ (log_bytes : ℕ) where
   frames_apart p q i Second apart above below = elim (cases_lt q p) [ inl less ↦ inl (omega arith) | inr more ↦ inr (omega arith) ]
 
   module _ (p : ℕ) (old new : List ℕ) (but : SameButPage log_bytes p old new) where
-    -- where only bytes of page p differ, each other frame is the same
+    -- if only bytes of page p differ, every other frame is the same
     pub other_frames : (q : ℕ) → q ≢ p → (frame : Frame) → frame_of log_bytes q new frame ≡ frame_of log_bytes q old frame
     other_frames q apart frame =
         same_part (frame_place log_bytes q frame) 528 old new but.size (λ i above below. elim (frames_apart p q i frame apart above below) [ inl before ↦ but.before i before | inr behind ↦ but.behind i behind ])
 
-    -- and so each other page
+    -- and so is every other page
     pub other_pages : (q : ℕ) → q ≢ p → SamePage log_bytes q old new
     other_pages q apart = same_page q old new (other_frames q apart)
 
     pub other_counts : (q : ℕ) → q ≢ p → page_frame log_bytes q new ≡ page_frame log_bytes q old
     other_counts q apart = same_frame q old new (other_frames q apart)
 
-    -- and so all bytes before the page, those of the superblock and the log among them
+    -- and so are all bytes before the page, those of the superblock and the log among them
     pub part_before : (at n : ℕ) → at + n ≤ frame_offset log_bytes p 0 → part new at n ≡ part old at n
     part_before at n before = same_part at n old new but.size (λ i above below. but.before i (omega arith))
 
@@ -61,11 +61,11 @@ module _ (log_bytes : ℕ) where
     same_log = part_before log_offset log_bytes (omega arith)
 
   module _ (old new : List ℕ) (behind : SameOutside log_offset (log_offset + log_bytes) old new) where
-    -- where only bytes of the log differ, each frame is the same
+    -- if only bytes of the log differ, every frame is the same
     pub frames_behind_log : (p : ℕ) (frame : Frame) → frame_of log_bytes p new frame ≡ frame_of log_bytes p old frame
     frames_behind_log p frame = same_part (frame_place log_bytes p frame) 528 old new behind.size (λ i above below. behind.behind i (omega arith))
 
-    -- and so each page
+    -- and so is every page
     pub pages_behind_log : (p : ℕ) → SamePage log_bytes p old new
     pages_behind_log p = same_page p old new (frames_behind_log p)
 
@@ -73,7 +73,7 @@ module _ (log_bytes : ℕ) where
   pub never_stored : (p : ℕ) (image : List ℕ) → is_frame_open (frame_of log_bytes p image First) ≡ false → is_frame_open (frame_of log_bytes p image Second) ≡ false → HasPage log_bytes p 0 (first_words p) image
   never_stored p image shut shut' = record { lsn_is = rw (shut, shut') refl; words_are = rw (shut, shut') refl }
 
-  -- The frame that doesn't count is written, and the other one stands.
+  -- The frame that doesn't count is written, and the other one stays.
   module _ (p : ℕ) (frame : Frame) (old new : List ℕ) (spare_is : frame ≡ spare (page_frame log_bytes p old)) (stands : frame_of log_bytes p new (other frame) ≡ frame_of log_bytes p old (other frame)) where
     other_stands : bytes_of (frame_of log_bytes p new First) (frame_of log_bytes p new Second) (other frame) ≡ bytes_of (frame_of log_bytes p old First) (frame_of log_bytes p old Second) (other frame)
     other_stands = named log_bytes p new (other frame) ∙ stands ∙ sym (named log_bytes p old (other frame))

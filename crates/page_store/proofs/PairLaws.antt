@@ -1,4 +1,4 @@
--- What becomes of a page when one of its two frames is written: the one that doesn't count.
+-- What happens to a page when one of its two frames is written: the one that doesn't count.
 use Rattle.std.specs.Prelude.{◌≡◌, ◌⊎◌, ℕ, ◌<◌, nat_lt, Bool, true, false, List, Some, None, if◌then◌else◌}
 use Rattle.std.proofs.Common.{refl, sym, ap, ◌∙◌, inl, inr, arith}
 use Rattle.std.proofs.lemmas.Bool.Decides.{nat_tests}
@@ -11,7 +11,7 @@ abbrev pub other : Frame → Frame
 other First = Second
 other Second = First
 
--- the first frame is written where the second counts, or none does
+-- the first frame is written if the second counts, or if none does
 first_spare : (o o' : Bool) (lsn lsn' : ℕ) → spare (newest o o' lsn lsn') ≡ First → ((newest o o' lsn lsn' ≡ Some Second) × (o' ≡ true)) ⊎ ((newest o o' lsn lsn' ≡ None) × (o' ≡ false))
 first_spare false false lsn lsn' is = inr (refl, refl)
 first_spare true false lsn lsn' is = absurd (cc is)
@@ -23,7 +23,7 @@ first_spare true true lsn lsn' is = by_test (nat_lt lsn lsn') is
     by_test true is = inl (refl, refl)
     by_test false is = absurd (cc is)
 
--- and the second where the first counts
+-- and the second if the first counts
 second_spare : (o o' : Bool) (lsn lsn' : ℕ) → spare (newest o o' lsn lsn') ≡ Second → (newest o o' lsn lsn' ≡ Some First) × (o ≡ true)
 second_spare false false lsn lsn' is = absurd (cc is)
 second_spare true false lsn lsn' is = (refl, refl)
@@ -41,7 +41,7 @@ newer_second lsn lsn' less = let is : nat_lt lsn lsn' ≡ true = grind (arith, n
 newer_first : (lsn lsn' : ℕ) → lsn' < lsn → newest true true lsn lsn' ≡ Some First
 newer_first lsn lsn' less = let is : nat_lt lsn lsn' ≡ false = grind (arith, nat_tests) in ap (λ (b : Bool). if b then Some Second else Some First) is
 
--- what a page with these frames holds, where that frame counts
+-- what a page with these frames holds, if that frame counts
 lsn_counting : (first second : List ℕ) (frame : Frame) → counting first second ≡ Some frame → lsn_in first second ≡ frame_lsn (bytes_of first second frame)
 lsn_counting first second frame is = rw is refl
 
@@ -70,7 +70,7 @@ module _ (stood first second : List ℕ) where
   same_none : (first' : List ℕ) → counting first second ≡ None → counting first' second ≡ None → SamePair stood first second first' second
   same_none first' was is = record { counts = is ∙ sym was; lsns = rw (was, is) refl; words_are = rw (was, is) refl }
 
-  -- closed, whatever else it holds, the spare frame changes nothing
+  -- while the spare frame is closed, whatever else it holds, it changes nothing
   pub closed_spare : (first' second' : List ℕ) (frame : Frame) → frame ≡ spare (counting first second) → bytes_of first' second' (other frame) ≡ bytes_of first second (other frame)
       → is_frame_open (bytes_of first' second' frame) ≡ false → SamePair stood first second first' second'
   closed_spare first' second' First spare_is same shut =
@@ -82,7 +82,7 @@ module _ (stood first second : List ℕ) where
       let was = second_spare (is_frame_open first) (is_frame_open second) (frame_lsn first) (frame_lsn second) (sym spare_is) in
       rw same (same_first second' was.0 (rw (shut, was.1) refl))
 
-  -- open, with a greater LSN than the page's, it counts
+  -- once it is open, with a greater LSN than the page's, it counts
   pub opened_spare : (first' second' : List ℕ) (frame : Frame) → frame ≡ spare (counting first second) → bytes_of first' second' (other frame) ≡ bytes_of first second (other frame)
       → is_frame_open (bytes_of first' second' frame) ≡ true → lsn_in first second < frame_lsn (bytes_of first' second' frame) → CountsNow stood first' second' frame
   opened_spare first' second' First spare_is same is_open greater =

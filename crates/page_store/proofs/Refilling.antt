@@ -33,7 +33,7 @@ module _ {D : Type 0} (g : Ghosts D) (gate : ℕ) (body : List ℕ) where
       inr (inr (subst (λ (d : List ℕ). IsFilling gate (gate + 1) body d d c) is (subst (λ (d : List ℕ). IsFilling gate (gate + 1) body (g.bytes mid) d c) (only from.0 from.1) from.2)))) in
       weaker g.moment g.left_since old new _ _ (joined g.moment g.left_since old mid new _ _ so_far behind) (λ c left. elim left [ inl first ↦ first | inr second ↦ second ])
 
--- four calls more than it takes to close the gate
+-- four more calls than it takes to close the gate
 six_or_four : (is_open : Bool) → (if is_open then 2 else 0) + 4 ≡ (if is_open then 6 else 4)
 six_or_four true = refl
 six_or_four false = refl

@@ -14,7 +14,7 @@ use Rattle.page_store.proofs.PageLaws.{pages_behind_log, frames_behind_log, same
 use Rattle.page_store.proofs.WordLaws.{length-words_in}
 use Rattle.page_store.specs.StoreState.{store_log, Knows}
 
--- a store knows an image still where only bytes of the log were written
+-- a store still knows an image if only bytes of the log were written
 pub knows_behind_log : (store : PageStore) (old new : List ℕ) → Knows store old → SameOutside log_offset (log_offset + store_log store) old new → Knows store new
 knows_behind_log store old new knows behind = record {
   lsns = λ p below. knows.lsns p below ∙ sym (pages_behind_log (store_log store) old new behind p).lsn_is;
@@ -41,7 +41,7 @@ module _ (log_bytes : ℕ) (image : List ℕ) where
       let so_far = length-image_words n in
       omega (arith, so_far, length-append (image_words log_bytes n image) (stored_words log_bytes n image), length-page_words n)
 
-  -- page p stands in its place among the words of all
+  -- page p stands in its place among all words
   pub image_words-page : (n p : ℕ) → p < n → part (image_words log_bytes n image) (64 * p) 64 ≡ stored_words log_bytes p image
   unfolding image_words
   image_words-page zero p none = absurd (omega arith)

@@ -29,12 +29,12 @@ pub record SameButFrame (log_bytes p : ℕ) (frame : Frame) (old new : List ℕ)
   pub size : length new ≡ length old
   pub others : (i : ℕ) → IsOutside (frame_place log_bytes p frame) 528 i → get_or new i 0 ≡ get_or old i 0
 
--- the other frame of the page lies beside
+-- the other frame of the page lies outside
 beside : (log_bytes p i : ℕ) (frame : Frame) → frame_place log_bytes p (other frame) ≤ i → i < frame_place log_bytes p (other frame) + 528 → IsOutside (frame_place log_bytes p frame) 528 i
 beside log_bytes p i First above below = inr (omega arith)
 beside log_bytes p i Second above below = inl (omega arith)
 
--- and all that is not of the page does
+-- and so does all that is not of the page
 around : (log_bytes p i : ℕ) (frame : Frame) → (i < frame_offset log_bytes p 0) ⊎ (frame_offset log_bytes (p + 1) 0 ≤ i) → IsOutside (frame_place log_bytes p frame) 528 i
 around log_bytes p i First (inl before) = inl (omega arith)
 around log_bytes p i First (inr behind) = inr (omega arith)
@@ -101,7 +101,7 @@ module _ (log_bytes p : ℕ) (frame : Frame) where
     pub page_stays : frame ≡ spare (page_frame log_bytes p old) → get_or new gate 0 ≢ 1 → SamePage log_bytes p old new
     page_stays spare_is shut = spare_closed log_bytes p frame old new spare_is other_stands (ne_eqb _ _ (λ one. shut (sym (gate_byte log_bytes p frame new) ∙ one)))
 
-  -- the gate is closed where it is open
+  -- the gate is closed if it is open
   pub closed_but : (image : List ℕ) → gate + 528 ≤ length image → SameButFrame log_bytes p frame image (closed gate image)
   closed_but image fits = elim (cases_eq (get_or image gate 0) 1) [
     | inl is_open ↦ subst (λ (l : List ℕ). SameButFrame log_bytes p frame image l) (sym (cond-true _ (overwrite image gate (0 ∷ [])) image (eq-eqb _ _ is_open))) zeroed
@@ -160,7 +160,7 @@ module _ (log_bytes p : ℕ) (frame : Frame) where
       pub written_frame : page_frame log_bytes p stored_image ≡ Some frame
       written_frame = spare_counts log_bytes p frame old stored_image spare_is (other_stands old stored_image written_but) lsn words small greater size fit written_has
 
-      -- a crash leaves an image of that kind
+      -- a crash leaves such an image
       abbrev Left : List ℕ → Type 0
       Left c = IsStoring log_bytes p lsn words old c
 
@@ -196,7 +196,7 @@ module _ (log_bytes p : ℕ) (frame : Frame) where
       left_by at bytes c at_is bytes_are refilling =
           left_by_gate c (subst (λ (l : List ℕ). IsRefilling gate l old c) bytes_are (subst (λ (k : ℕ). IsRefilling k bytes old c) at_is refilling))
 
--- the entry of page q where page p was stored
+-- the entry of page q after page p was stored
 abbrev now_at : PageStore → ℕ → ℕ → Frame → ℕ → Stored
 now_at store p lsn frame q = get_or (set store.table.items p (record { lsn = lsn; counts = Some frame })) q nothing_stored
 

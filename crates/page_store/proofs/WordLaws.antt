@@ -8,7 +8,7 @@ use Rattle.byteorder.specs.Endian.{little_number}
 use Rattle.byteorder.specs.Numbers.{little_number-reads_back, length-bytes_low_first}
 use Rattle.page_store.specs.Frame.{frame_body, frame_bytes, frame_lsn, frame_words, spelled_words}
 
--- words that are each what the bytes at their place spell are all that these bytes spell
+-- words that are each spelled by the bytes at their place are all that these bytes spell
 pub words_in-each : (n : ℕ) (bytes words : List ℕ) → length words ≡ n → ((k : ℕ) → k < n → get_or words k 0 ≡ little_number 8 (drop (8 * k) bytes)) → words ≡ spelled_words n bytes
 unfolding spelled_words
 words_in-each zero bytes [] size each = refl

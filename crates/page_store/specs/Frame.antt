@@ -1,4 +1,4 @@
--- The 528 bytes of a frame: a gate, seven bytes that are not looked at, an LSN and 64 words.
+-- The 528 bytes of a frame: a gate, seven bytes that are never read, an LSN and 64 words.
 use Rattle.std.specs.Prelude.{ℕ, zero, suc, ◌==◌, nat_lt, Bool, true, false, List, [], ◌∷◌, ◌++◌, drop, replicate, slice_index, Option, Some, None, if◌then◌else◌}
 use Rattle.std.specs.Option.{option_map_or}
 use Rattle.std.specs.List.{flat_map}
@@ -16,7 +16,7 @@ frame_body lsn words = replicate 7 0 ++ to_le_bytes w64 lsn ++ flat_map (to_le_b
 abbrev pub frame_bytes : ℕ → List ℕ → List ℕ
 frame_bytes lsn words = 1 ∷ frame_body lsn words
 
--- a frame's gate is open exactly where its byte is 1
+-- a frame's gate is open exactly if its byte is 1
 abbrev pub is_frame_open : List ℕ → Bool
 is_frame_open frame = slice_index frame 0 == 1
 
@@ -53,11 +53,11 @@ bytes_of first second Second = second
 abbrev pub lsn_in : List ℕ → List ℕ → ℕ
 lsn_in first second = option_map_or (λ frame. frame_lsn (bytes_of first second frame)) (counting first second) 0
 
--- its words: those of the frame that counts, or what stood there first
+-- its words: those of the frame that counts, or the first contents
 abbrev pub words_or : List ℕ → List ℕ → List ℕ → List ℕ
 words_or stood first second = option_map_or (λ frame. frame_words (bytes_of first second frame)) (counting first second) stood
 
--- the frame that a store writes: the one that doesn't count, or the first where none does
+-- the frame that a store writes: the one that doesn't count, or the first if none does
 abbrev pub spare : Option Frame → Frame
 spare None = First
 spare (Some First) = Second

@@ -1,4 +1,4 @@
--- How many gates of a page's two frames are open, and what a store makes of them.
+-- How many gates of a page's two frames are open, and how many after a store.
 use Rattle.std.specs.Prelude.{ℕ, ◌+◌, Bool, true, false, List}
 use Rattle.page_store.specs.declared.frame.Frame.TheVariants.{First, Second}
 use Rattle.page_store.specs.Frame.{is_frame_open}

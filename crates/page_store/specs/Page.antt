@@ -62,6 +62,6 @@ pub record IsStoring (log_bytes p lsn : ℕ) (words old new : List ℕ) : Type 0
   pub others : (q : ℕ) → q ≢ p → SamePage log_bytes q old new
   pub outside : SameButPage log_bytes p old new
 
--- the writes and syncs of a store into a frame: four, and two more where its gate has to be closed first
+-- the writes and syncs of a store into a frame: four, and two more if its gate has to be closed first
 abbrev pub store_calls : ℕ → ℕ → Frame → List ℕ → ℕ
 store_calls log_bytes p frame image = if slice_index image (frame_place log_bytes p frame) == 1 then 6 else 4

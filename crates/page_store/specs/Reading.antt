@@ -1,9 +1,9 @@
--- How far an opening has come.
+-- How far an opening has read.
 use Rattle.std.specs.Prelude.{◌≡◌, ℕ, ◌<◌, List, length, None, slice_index_or}
 use Rattle.page_store.specs.declared.frame.Stored.{Stored}
 use Rattle.page_store.specs.Page.{page_lsn, page_frame, image_words}
 
--- what is kept in memory of a page that has no frame that counts
+-- what is kept in memory of a page without a frame that counts
 abbrev pub nothing_stored : Stored
 nothing_stored = record { lsn = 0; counts = None }
 

@@ -12,7 +12,7 @@ use Rattle.page_store.specs.Reading.{nothing_stored}
 abbrev pub store_plan : PageStore → Plan
 store_plan store = store.plan
 
--- the bytes of the log, which its frames lie behind
+-- the bytes of the log, which is followed by the frames
 abbrev pub store_log : PageStore → ℕ
 store_log store = store.plan.log_bytes
 

@@ -16,7 +16,7 @@ pub(crate) const FRAME_BYTES: usize = image_plan::FRAME_BYTES as usize;
 /// The bytes of a frame behind its gate.
 pub(crate) const BODY_BYTES: usize = FRAME_BYTES - 1;
 
-/// Where a frame's LSN stands, and where its words begin.
+/// The offset of a frame's LSN, and that of its words.
 const LSN_AT: usize = 8;
 
 const WORDS_AT: usize = 16;
@@ -56,7 +56,7 @@ impl Frame {
 /// What a page holds on the disk.
 #[derive(Clone, Copy, Debug, PartialEq, Eq)]
 pub struct StoredPage {
-    /// The LSN in the frame that counts, which may be 0 there too, or 0 where none counts.
+    /// The LSN in the frame that counts, which may be 0 too, or 0 if none counts.
     pub lsn: u64,
     /// Its words.
     pub words: [u64; PAGE_WORDS],
@@ -81,7 +81,7 @@ pub(crate) fn body_of(lsn: u64, words: &[u64; PAGE_WORDS]) -> [u8; BODY_BYTES]
     body
 }
 
-/// What a page holds that was never stored.
+/// The contents of a page that was never stored.
 pub(crate) fn first_contents(p: u32) -> [u64; PAGE_WORDS]
     ensures { result ≡ first_words p }
 {

@@ -1,4 +1,4 @@
-//! Pages on a disk: an array of pages, each stored in one of two frames in turn, so that a crash leaves it old or new.
+//! Pages on a disk: an array of pages, each stored in one of two frames in turn, so that a crash leaves the old page or the new one.
 #![tactic(auto)]
 
 mod frame;

@@ -1,4 +1,4 @@
-//! Bytes behind a gate, in place of those that stood there.
+//! Replaces the bytes behind a gate.
 ghost use Rattle.std.specs.Prelude.{◌≡◌, ◌+◌, ◌^◌, ◌<◌, ◌≤◌, ◌==◌, length, slice_index, IsTrue, OnOk, if◌then◌else◌};
 ghost use Rattle.disk_model.specs.Disk.{Only};
 ghost use Rattle.disk_model.specs.Keeps.{KeepsDisk};
@@ -10,8 +10,8 @@ ghost use Rattle.page_store.specs.Refill.{IsRefilling};
 use disk_model::{Disk, DiskError};
 use gate_slot::{close_gate, fill_and_open};
 
-/// Closes the gate at byte `gate` of the disk where it is open, puts the body behind it, and opens it: in four device calls,
-/// and two more to close it. After an error the gate is closed, or open with what stood behind it or with all of the body.
+/// Closes the gate at byte `gate` of the disk if it is open, writes the body behind it, and opens it: in four device calls,
+/// and two more to close it. After an error the gate is closed, or open with the old bytes behind it or with all of the body.
 pub(crate) fn refill<D: Disk>(disk: &mut D, gate: u64, body: &[u8]) -> Result<(), DiskError>
     requires inside { gate + 1 + length body.now ≤ D.extent disk.old }
     requires small { gate + 1 < 2 ^ 64 }

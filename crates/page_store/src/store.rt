@@ -1,4 +1,4 @@
-//! The pages on a disk, with what is kept of them in memory: which frame of each page counts, and its LSN.
+//! The pages on a disk, and what is kept of them in memory: which frame of each page counts, and its LSN.
 ghost use Rattle.std.specs.Prelude.{◌≡◌, ◌≢◌, ℕ, ◌+◌, ◌*◌, ◌^◌, ◌<◌, ◌≤◌, List, length, vec_len, min, is_err, IsTrue, IsFalse, OnOk, OnErr, IfOk};
 ghost use Rattle.disk_model.specs.Disk.{part, Only};
 ghost use Rattle.disk_model.specs.Keeps.{KeepsDisk, OnlyReads};
@@ -30,7 +30,7 @@ const PIECE_PAGES: u32 = 31;
 /// Why the pages could not be opened.
 #[derive(Clone, Copy, Debug, PartialEq, Eq)]
 pub enum ReadPagesError {
-    /// Memory was refused.
+    /// Out of memory.
     NoMemory,
     /// The disk failed or stopped.
     Disk(DiskError),
@@ -52,7 +52,7 @@ impl<T: Drop> From<AllocFailed<T>> for ReadPagesError {
     }
 }
 
-/// The pages that lie behind the log in an image, those of both spaces, numbered from 0 on.
+/// The pages that follow the log in an image, those of both spaces, numbered from 0.
 #[derive(Debug, Drop)]
 pub struct PageStore {
     // Where the frames lie.
@@ -69,7 +69,7 @@ pub struct PageStore {
 impl PageStore {
     ghost use Rattle.page_store.specs.StoreState.{store_plan, store_log, store_pages, store_size, stored_entry, stored_lsn, stored_frame, has_failed, Knows};
 
-    /// Reads all frames, in pieces of many of them, and gives the words of all pages, one page after another.
+    /// Reads all frames, many of them at a time, and returns the words of all pages, one page after another.
     pub fn open<D: Disk>(
         alloc: Global,
         disk: &mut D,
@@ -117,7 +117,7 @@ impl PageStore {
         self.entry(p).lsn
     }
 
-    /// Whether a store has failed. Then no page is loaded or stored before the disk is restarted and the pages are opened again.
+    /// Whether a store has failed. Then no page is loaded or stored until the disk is restarted and the pages are opened again.
     pub fn failed(&self) -> bool
         ensures { result ≡ has_failed self.now }
     {
@@ -148,7 +148,7 @@ impl PageStore {
     }
 
     /// Writes page `p` into the frame that doesn't count, which counts from then on, since its LSN is the greater one: in four
-    /// device calls, and two more where that frame's gate is open and has to be closed first. After an error the page is the old
+    /// device calls, and two more if that frame's gate is open and has to be closed first. After an error the page is the old
     /// one or the new one once the disk is restarted. Until then a gate whose closing failed may read as closed, and no
     /// page may be written behind it: so no other store follows before the disk is restarted and the pages are opened again.
     pub fn store<D: Disk>(
@@ -189,7 +189,7 @@ impl PageStore {
         ensures passes { IsTrue D.tells → Passes (store_calls (store_log self.old) p (spare (stored_frame self.old p)) (D.bytes disk.old)) (D.passed disk.old) (D.passed disk.new) result }
     {
         let (frame, gate) = self.spare(p);
-        // It counts as failed until it is done.
+        // The store counts as failed until it is done.
         self.failed = true;
         refill(disk, gate, &body_of(lsn, words))?;
         self.failed = false;

@@ -3,7 +3,7 @@ use Rattle.std.specs.Prelude.{◌≡◌, ℕ, true, Option, None, Some}
 use Rattle.std.specs.FinSet.{contains}
 use Rattle.heap_spaces.specs.Collection.{Collection, page_of}
 
--- the page that is looked at before a field of the object at an address is read or written
+-- the page that is checked before a field of the object at an address is read or written
 abbrev pub barrier_page_of : ℕ → ℕ → ℕ
 barrier_page_of object field = page_of object
 

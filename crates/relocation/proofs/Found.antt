@@ -45,7 +45,7 @@ comparisons_rise pairs is from = IsNonDecreasingBy-from_default (λ pair. orderi
     let up : from_at pairs i ≤ from_at pairs j = grind (arith, rises pairs is i j, λ (same : i ≡ j). ap (from_at pairs) same) in
     grind (arith, nat_tests))
 
--- what a binary search for an address ends at tells where the object went
+-- what a binary search for an address ends at says where the object went
 pub searched : (pairs : List (ℕ × ℕ)) → IsRelocation pairs → (from : ℕ) (r : Result ℕ ℕ) → IsSearchInRange r (length pairs) → IsBinarySearchResult (λ pair. nat_cmp pair.0 from) pairs r
     → MatchResult r (λ i. destination pairs from ≡ Some (get_or pairs i (0, 0)).1) (λ i. destination pairs from ≡ None)
 searched pairs is from (Ok at) within equal =

@@ -6,7 +6,7 @@ use Rattle.heap_words.specs.declared.Word.TheVariants.{Null, Int, Stable, Volati
 use Rattle.heap_words.specs.Word.{bits, meaning}
 use Rattle.heap_words.specs.declared.TheConstants.{STABLE_WORDS}
 
--- Pairs tell where objects went: each has the address at which an object stood, and the one to which it went.
+-- Pairs say where objects went: each has the address at which an object stood, and the one to which it went.
 pub record IsRelocation (pairs : List (ℕ × ℕ)) : Type 0 where
   pub ascending : IsStrictlyIncreasing (map (λ pair. pair.0) pairs)  -- no object is named twice, and where they stood ascends
   pub inside : All (λ pair. pair.1 < STABLE_WORDS) pairs  -- a reference can lead to where they went

@@ -6,7 +6,7 @@ ghost use Rattle.relocation.specs.Relocation.{IsRelocation, destination, moved_t
 
 use heap_words::{Word, decode, encode};
 
-/// The word address to which the object at `from` went, if it moved. It takes no memory, and the logarithm of the pairs in time.
+/// The word address to which the object at `from` went, if it moved. Does not allocate, and takes time logarithmic in the number of pairs.
 pub fn destination(pairs: &[(u32, u32)], from: u32) -> Option<u32>
     requires { IsRelocation pairs.now }
     ensures { result ≡ destination pairs.now from }
@@ -17,7 +17,7 @@ pub fn destination(pairs: &[(u32, u32)], from: u32) -> Option<u32>
     }
 }
 
-/// The word address at which the object stands that stood at `from`: its own where it did not move.
+/// The word address at which the object that stood at `from` stands: its own where it did not move.
 pub fn moved_to(pairs: &[(u32, u32)], from: u32) -> u32
     requires { IsRelocation pairs.now }
     ensures { result ≡ moved_to pairs.now from }

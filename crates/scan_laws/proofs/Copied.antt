@@ -58,7 +58,7 @@ pub record View : Type 0 where
   pub us : List UndoEntry
   pub before : Placing
 
--- A write that leads a field to the copy of an object of the from-space.
+-- A write that redirects a field to the copy of an object of the from-space.
 pub record IsLedWrite (s : State) (places : Places) (words : List ℕ) (write : ℕ × ℕ) : Type 0 where
   pub object : ℕ
   pub field : ℕ
@@ -114,9 +114,9 @@ pub record IsDone (s : State) (k : Collection) (places : Places) (starts words :
   pub grays : (at : ℕ) → contains now.gray at ≡ true → is_gray k q at ≡ true
   pub writes : AllByRecursion (IsLedWrite next currents moved) q.writes
 
--- What one copy more keeps.
+-- What one more copy keeps.
 
--- where leads one of these objects leads one of more
+-- what leads to one of these objects leads to one of more
 pub leads_more : (xs ys : List ℕ) (meant : Option Word) → ((x : ℕ) → Contains xs x → Contains ys x) → LeadsHere xs meant → LeadsHere ys meant
 leads_more xs ys None more leads = leads
 leads_more xs ys (Some word.Null) more leads = tt
@@ -136,7 +136,7 @@ copy_backed {s} {places = places} {words = words} {id = id} {from = from} copyin
     AllByRecursion-map (λ (u : UndoEntry). IsHereWrite places words u.object u.field u.was) (λ u. IsHereWrite (with_place s places id) (copied_words s words from) u.object u.field u.was) us
     (λ u one. record { is = copy_field copying u.object u.field one.is; leads = leads_more (addresses places) (addresses (with_place s places id)) (meaning u.was) (place_before s places id) one.leads }) backed
 
--- where an object remains stands no forwarding word
+-- no forwarding word stands where an object remains
 pub no_forward : (words : List ℕ) (at n to : ℕ) → object_at words at ≡ Some n → header (slice_index words at) ≡ Some (Forward to) → ⊥
 no_forward words at n to is forward = absurd (cc (sym (object_header words at n is).0 ∙ forward))
 
@@ -170,7 +170,7 @@ copy_led {s} {k} {places} {words = words} {id = id} {from = from} copying write 
 going_more : (copies : List Record) (from to : ℕ) (words : List ℕ) (b : ℕ) → copied_to (copies ++ Copy from to words ∷ []) b ≡ (if from == b then Some to else copied_to copies b)
 going_more copies from to words b = fold-append (going b) None copies (Copy from to words ∷ [])
 
--- where copies come from with one copy more
+-- where copies come from with one more copy
 pub coming_more : (copies : List Record) (from to : ℕ) (words : List ℕ) (at : ℕ) → copied_from (copies ++ Copy from to words ∷ []) at ≡ (if to == at then Some from else copied_from copies at)
 coming_more copies from to words at = fold-append (coming at) None copies (Copy from to words ∷ [])
 
@@ -183,12 +183,12 @@ after_first : (xs : List Record) (r : Record) → ((n : State) → collecting_af
 after_first xs r later None = refl
 after_first xs r later (Some n) = later n
 
--- one record more behind these
+-- one more record after these
 pub after_more : (s : State) (rs : List Record) (r : Record) → collecting_after_all s (rs ++ r ∷ []) ≡ option_and_then (λ n. collecting_after n r) (collecting_after_all s rs)
 after_more s [] r = after_none (collecting_after s r)
 after_more s (x ∷ xs) r = after_first xs r (λ n. after_more n xs r) (collecting_after s x)
 
--- what was found with one copy more
+-- what was found with one more copy
 found_cases : (t : Bool) (a : ℕ) (o : Option ℕ) (y : ℕ) → (if t then Some a else o) ≡ Some y → ((t ≡ true) × (a ≡ y)) ⊎ (o ≡ Some y)
 found_cases true a o y is = inl (refl, cc)
 found_cases false a o y is = inr is
@@ -197,7 +197,7 @@ none_cases : (t : Bool) (a : ℕ) (o : Option ℕ) → (if t then Some a else o)
 none_cases true a o is = absurd (cc is)
 none_cases false a o is = (refl, is)
 
--- what was gray in a plan is gray with one copy more
+-- what was gray in a plan is gray with one more copy
 gray_more : (k : Collection) (at a : ℕ) (t : Bool) (o : Option ℕ) → (contains k.gray at || is_some o) ≡ true → (contains k.gray at || is_some (if t then Some a else o)) ≡ true
 gray_more k at a false o gray = gray
 gray_more k at a true o gray = or_true (contains k.gray at)
@@ -206,7 +206,7 @@ gray_more k at a true o gray = or_true (contains k.gray at)
     or_true true = refl
     or_true false = refl
 
--- With one copy more.
+-- With one more copy.
 pub done_copy : {s : State} {k : Collection} {places : Places} {starts words : List ℕ} {v : View} {q : Planned} (d : IsDone s k places starts words v q) (b n : ℕ)
     → Contains starts b → contains k.moved b ≡ false → copied_to q.copies b ≡ None → object_at words b ≡ Some n
     → (e : IsDone s k places starts words v (with_copy (spaces_of s) words q b n))

@@ -1,4 +1,4 @@
--- The fields of gray objects are led on, one after another.
+-- The fields of gray objects are brought up to date, one after another.
 use Rattle.std.proofs.Common.{◌≡◌, ◌≢◌, ◌⊎◌, ℕ, ◌+◌, ◌<◌, ◌≤◌, inl, inr, Bool, true, false, not, List, [], ◌∷◌, ◌++◌, map, Option, None, Some, refl, sym, ap, ◌∙◌, subst, arith}
 use Rattle.std.specs.Prelude.{Contains, slice_index, ◌||◌, is_some, option_and_then, if◌then◌else◌}
 use Rattle.std.specs.FinSet.{contains}
@@ -30,7 +30,7 @@ use Rattle.scan_laws.proofs.Made.{made_same, made_then}
 abbrev pub named : Planned → List ℕ
 named q = map (λ w. w.0) q.writes
 
--- The plan goes on from one to another, and what stands and what is written stays so.
+-- The plan continues from one to another, and what stands and what is written stays so.
 pub record Goes (s : State) (k : Collection) (places : Places) (starts words : List ℕ) (v : View) (q r : Planned) (d : IsDone s k places starts words v q) : Type 0 where
   pub last : IsDone s k places starts words v r
   pub here : (at m : ℕ) → Contains (addresses d.currents) at → object_at d.moved at ≡ Some m → Contains (addresses last.currents) at × IsMade (λ w. w) d.moved last.moved at at m
@@ -55,7 +55,7 @@ goes_on s k places starts words v q r p d one two = record {
   size = let less = one.size in let more = two.size in omega (arith, less, more);
 }
 
--- A field is led on: it is written, or leads to a current object.
+-- A field is up to date: it is written, or leads to a current object.
 abbrev pub IsLedOn : List (ℕ × ℕ) → List ℕ → ℕ → ℕ → Type 0
 IsLedOn writes starts at w = Contains (map (λ x. x.0) writes) at ⊎ LeadsHere starts (meaning w)
 
@@ -87,7 +87,7 @@ pub two_steps : (f : Planned → Option Planned) (o : Option Planned) (y : Plann
 two_steps f None y is = absurd (cc is)
 two_steps f (Some x) y is = (x, refl, is)
 
--- a field is led to a copy that stands
+-- a field is redirected to a copy that stands
 pub done_write : (s : State) (k : Collection) (places : Places) (starts words : List ℕ) (v : View) (q r : Planned) (d : IsDone s k places starts words v q) (object field from to w : ℕ)
     → IsFieldOf d.currents d.moved object field w → meaning w ≡ Some (word.Stable from) → Contains starts from → Contains (addresses d.currents) to → header (slice_index d.moved from) ≡ Some (Forward to)
     → written (spaces_of s) q (field_at object field) to ≡ Some r → (g : Goes s k places starts words v q r d) × Contains (named r) (field_at object field)
@@ -155,7 +155,7 @@ not_true false is = refl
 unmoved_of : (s : State) (k : Collection) (q : Planned) (b size : ℕ) → can_copy (spaces_of s) k q b size ≡ true → contains k.moved b ≡ false
 unmoved_of s k q b size can = not_true (contains k.moved b) (and_parts _ _ (and_parts _ _ can).0).1
 
--- The outcome of a field that is led on.
+-- The outcome of a field that is brought up to date.
 abbrev pub Led : (s : State) (k : Collection) (places : Places) (starts words : List ℕ) (v : View) (q r : Planned) (d : IsDone s k places starts words v q) → ℕ → Type 0
 Led s k places starts words v q r d x = (g : Goes s k places starts words v q r d) × Contains (named r) x
 

@@ -20,7 +20,7 @@ use Rattle.page_scanner.specs.Scan.{Planned, copied_from, follow, follow_all, is
 use Rattle.scan_laws.proofs.Copied.{IsDone, View, leads_more}
 use Rattle.scan_laws.proofs.Followed.{Goes, IsFieldOf, IsLedOn, follow_field, goes_on, stays, two_steps}
 
--- a field that is led on stays so
+-- a field that is up to date stays so
 led_stays : (s : State) (k : Collection) (places : Places) (starts words : List ℕ) (v : View) (q r : Planned) (d : IsDone s k places starts words v q) (g : Goes s k places starts words v q r d) (x w : ℕ)
     → IsLedOn q.writes (addresses d.currents) x w → IsLedOn r.writes (addresses g.last.currents) x w
 led_stays s k places starts words v q r d g x w (inl written) = inl (g.more x written)
@@ -35,7 +35,7 @@ pub record AreFields (places current : Places) (starts moved : List ℕ) (object
   pub each : (j : ℕ) → j < length ws → slice_index moved (field_at object (i + j)) ≡ get_or ws j 0
   pub back : (j : ℕ) → j < length ws → MayLeadBack (addresses places) starts (meaning (get_or ws j 0))
 
--- each of them is led on
+-- each of them is brought up to date
 follow_fields : (s : State) (k : Collection) (places remaining : Places) (words : List ℕ) (v : View) (q r : Planned) (is : IsCollecting s k places remaining words) (d : IsDone s k places is.from.starts words v q)
     (object n i x : ℕ) (ws : List ℕ) → x ≡ field_at object i → object < next_free (spaces_of s) q → AreFields places d.currents is.from.starts d.moved object n i ws → follow_all (spaces_of s) k words q x ws ≡ Some r
     → (g : Goes s k places is.from.starts words v q r d) × ((j : ℕ) → j < length ws → IsLedOn r.writes (addresses g.last.currents) (field_at object (i + j)) (get_or ws j 0))
@@ -98,7 +98,7 @@ gray_source s k places remaining words v q is d at None known gray =
     or_none true = refl
     or_none false = refl
 
--- all fields of the object at an address are led on
+-- all fields of the object at an address are up to date
 abbrev pub IsCovered : (s : State) (k : Collection) (places : Places) (starts words : List ℕ) (v : View) (q : Planned) → IsDone s k places starts words v q → ℕ → Type 0
 IsCovered s k places starts words v q d at =
     Contains (addresses d.currents) at × ((n i : ℕ) → object_at d.moved at ≡ Some n → i < n → IsLedOn q.writes (addresses d.currents) (field_at at i) (slice_index d.moved (field_at at i)))
@@ -157,7 +157,7 @@ visit_gray s k places remaining words v q r is d at gray out =
       taken,
     )
 
--- an address is visited: if the object there is gray, its fields are led on, and no other object up to there gets gray
+-- an address is visited: if the object there is gray, its fields are brought up to date, and no other object up to there becomes gray
 visit_one : (s : State) (k : Collection) (places remaining : Places) (words : List ℕ) (v : View) (q r : Planned) (is : IsCollecting s k places remaining words) (d : IsDone s k places is.from.starts words v q)
     (at : ℕ) (t : Bool) → is_gray k q at ≡ t → (if t then follow_all (spaces_of s) k words q (at + 2) (field_words words (source q at)) else Some q) ≡ Some r
     → (g : Goes s k places is.from.starts words v q r d) × (is_gray k q at ≡ true → IsCovered s k places is.from.starts words v r g.last at) × ((x : ℕ) → x ≤ at → is_gray k r x ≡ true → is_gray k q x ≡ true)

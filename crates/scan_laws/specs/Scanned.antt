@@ -15,7 +15,7 @@ use Rattle.collection_words.specs.Writes.{AreBacked}
 use Rattle.page_scanner.specs.Passing.{collecting_after_all}
 use Rattle.walk_laws.specs.Heap.{TellsBirths}
 
--- the words behind these records
+-- the words after these records
 abbrev pub put_records : List ℕ → List Record → List ℕ
 put_records words records = fold put_record words records
 
@@ -30,7 +30,7 @@ pub record HaveBeenCopied (places remaining currents rest : Places) : Type 0 whe
   pub kept : (id : Id) (at : ℕ) → address_of places id ≡ Some at → address_of currents id ≡ Some at
   pub fewer : (id : Id) → address_of (places ++ remaining) id ≡ None → address_of (currents ++ rest) id ≡ None
 
--- The records can follow. Behind them objects stand where the records move them, births are told as before, the words are laid out, no object
+-- The records can follow. After them objects stand where the records move them, births are known as before, the words are laid out, no object
 -- that starts in the page is gray, and the graph stands in the completed words, with the same writes taken back.
 pub record KeepHeap (s : State) (places remaining : Places) (words : List ℕ) (page : ℕ) (records : List Record) (t made : ℕ) (g : Graph) (us : List UndoEntry) : Type 0 where
   pub next : State

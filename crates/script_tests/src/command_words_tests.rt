@@ -3,7 +3,7 @@ use command_words::{Command, CommandError, Numbers, Stop, read_command};
 use std::alloc::{AllocError, Global};
 use std::test::Fail;
 
-/// What a line of words asks for, where blanks part the words behind the program's name.
+/// What a line of words asks for, where blanks separate the words after the program's name.
 fn read(alloc: Global, line: &str) -> Result<Result<Command, CommandError>, AllocError> {
     let mut words = Vec::new(alloc);
     words.push(String::from_str(alloc, "heap")?)?;

@@ -1,4 +1,4 @@
-//! The commits that a history tells of, in the order of their seals.
+//! The commits of a history, in the order of their seals.
 use graph_model::{Event, Refusal, Reply};
 use heap_history::History;
 use std::process::Abort;

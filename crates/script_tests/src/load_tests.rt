@@ -34,7 +34,7 @@ const ROUNDS: [&str; 17] = [
     "1 begin\n1 root 0\n1 get 0 2 2\n1 new 1 2\n1 put 1 0 17\n1 link 0 2 1\n1 abort\nscan",
 ];
 
-/// Compares the lines of the next round with what was asked, or with no round.
+/// Compares the lines of the next round with the expected ones, or with no round.
 fn check_round(rt: &impl Abort, alloc: Global, load: &mut Load, want: &str) -> Result<(), Fail> {
     let want = read_script(alloc, want.as_bytes())?;
     let found = load.next_round(alloc)?;

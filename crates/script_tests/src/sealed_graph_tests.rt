@@ -41,7 +41,7 @@ fn seal(s: u32, n: u64) -> (Event, Reply) {
     (Event::Seal { s }, Reply::Sealed { n })
 }
 
-// The graph has just these objects, in this order.
+// The graph has exactly these objects, in this order.
 fn compare(rt: &impl Abort, graph: &PlainGraph, want: &[(Id, &[Val])]) -> Result<(), Fail> {
     assert_eq!(rt; graph.len(), want.len());
     for (id, (name, fields)) in graph.ids()?.iter().zip(want) {
@@ -120,7 +120,7 @@ fn what_is_sealed_is_run_in_the_order_of_the_seals(rt: HostRuntime) -> Result<()
     compare(&rt, &first, &[(ROOT, &[Val::Null; 4])])
 }
 
-/// A history that began with more than a root: its transaction changes an object of before, makes two of its own, and lets a handle go.
+/// A history that began with more than a root: its transaction changes an object made before, makes two of its own, and drops a handle.
 #[test]
 fn a_view_begins_with_the_first_graph(rt: HostRuntime) -> Result<(), Fail> {
     let before = Id { t: 3, k: 2 };
@@ -157,7 +157,7 @@ fn a_view_begins_with_the_first_graph(rt: HostRuntime) -> Result<(), Fail> {
     )
 }
 
-/// A transaction with a number that no heap gives is run where it makes no object, and else there is no view.
+/// A transaction with a number that no heap gives is run if it makes no object, and otherwise there is no view.
 #[test]
 fn an_object_without_a_name_has_no_view(rt: HostRuntime) -> Result<(), Fail> {
     let first = PlainGraph::new_heap(rt.alloc())?;

@@ -1,4 +1,4 @@
-//! The slow heap, asked by lines of scripts: what it answers, and which graphs it leaves.
+//! The slow heap plays lines of scripts: its answers, and the graphs that it leaves.
 use graph_model::{Entry, Event, Refusal, Reply};
 use script_text::{Line, read_script, reply_line};
 use slow_heap::SlowHeap;
@@ -7,13 +7,13 @@ use std::fmt::Debug;
 use std::process::Abort;
 use std::test::Fail;
 
-/// Two transactions, what a force counts before, between and behind them, and a flush, which stores the page that it names.
+/// Two transactions, what a force counts before, between and after them, and a flush, which stores the page that it names.
 const TWO_SEALED: &str = "\
     force -> durable 0\n1 begin -> begun 1\n1 root 0 -> done\n1 put 0 0 7 -> done\n1 seal -> sealed 1\nforce -> durable 1\n\
     1 begin -> begun 2\n1 root 63 -> done\n1 put 63 0 8 -> done\n1 put 63 0 9 -> done\n1 put 63 3 4611686018427387903 -> done\n\
     force -> durable 1\nflush 1 -> flushed 1\n1 seal -> sealed 2\n";
 
-/// What is asked of no transaction, of handles that hold nothing or are none, of no field, and too large a number.
+/// Calls of no transaction, of handles that hold nothing or do not exist, of no field, and with too large a number.
 const REFUSED: &str = "\
     1 root 0 -> notactive\n1 put 0 0 7 -> notactive\n1 seal -> notactive\n1 begin -> begun 1\n1 begin -> alreadyactive\n\
     1 root 64 -> badhandle\n1 put 0 0 7 -> badhandle\n1 put 64 0 7 -> badhandle\n1 root 1 -> done\n1 put 1 4 7 -> badfield\n\
@@ -42,7 +42,7 @@ const ABORTED: &str = "\
     1 put 0 0 8 -> done\n1 get 0 0 1 -> int 8\n1 abort -> aborted\n1 abort -> notactive\nforce -> durable 1\n1 begin -> begun 3\n\
     1 len 0 -> badhandle\n1 root 0 -> done\n1 get 0 0 1 -> int 7\n1 seal -> sealed 2\n";
 
-/// Objects that refer to one another, seen by later transactions, and let go.
+/// Objects that refer to one another, seen by later transactions, and dropped.
 const LINKED: &str = "\
     1 begin -> begun 1\n1 root 0 -> done\n1 new 1 1 -> done\n1 new 2 1 -> done\n1 new 3 0 -> done\n1 link 0 0 1 -> done\n\
     1 link 0 1 2 -> done\n1 link 1 0 2 -> done\n1 link 2 0 1 -> done\n1 same 1 1 -> yes\n1 same 1 2 -> no\n1 len 3 -> len 0\n\
@@ -62,7 +62,7 @@ const NEW: &str = "\
     1 new 0 1 -> done\n1 len 0 -> len 1\n1 seal -> sealed 1\n";
 
 /// The sessions 32, 2 and 1 begin transactions 1, 2 and 3, so that no number is that of its session. Two of them read the root; a third one
-/// and each of them are kept from writing it, until one is aborted. What is asked comes before what others hold; a new object is no one
+/// and each of them are kept from writing it, until one is aborted. A call's own faults are reported before conflicts; a new object is no one
 /// else's; a seal lets others read and write. Then one object is written while another one is read, and what is sealed is seen by a
 /// transaction that began before.
 const SIDE_BY_SIDE: &str = "\
@@ -136,7 +136,7 @@ fn check_line(rt: &impl Abort, alloc: Global, heap: &mut SlowHeap, line: &str) -
     Ok(())
 }
 
-/// The texts of the graphs, one behind the other.
+/// The texts of the graphs, one after another.
 fn graphs(rt: &impl Abort, alloc: Global, heap: &SlowHeap) -> Result<Vec<u8>, AllocError> {
     let mut texts = Vec::new(alloc);
     for k in 0..=heap.sealed() {

@@ -5,7 +5,7 @@ use Rattle.script_text.specs.Number.{number}
 use Rattle.script_text.specs.Line.{session, numbers, call_of, line_of}
 use Rattle.script_text.proofs.LineLaws.{line_of-session}
 
--- a number in front of others, if there are others
+-- a number followed by others, if there are others
 abbrev onto : Option (List ℕ) → Option ℕ → Option (List ℕ)
 onto more n = option_and_then (λ (m : ℕ). option_map (λ (ns : List ℕ). m ∷ ns) more) n
 

@@ -15,7 +15,7 @@ none_of : (b : Bool) (x : Option ℕ) → cond (b && false) x None ≡ None
 none_of true x = refl
 none_of false x = refl
 
--- the value is too large once it is too large behind a digit
+-- the value is too large once it is so after one of the digits
 pub too_large : (digits : List ℕ) (i n : ℕ) → i < length digits → value_from n (drop i digits) ≡ value digits → 2 ^ 64 ≤ n * 10 + (get_or digits i 0 - 48) → number digits ≡ None
 too_large digits i n inside whole large =
     let step : value_from (n * 10 + (get_or digits i 0 - 48)) (drop (suc i) digits) ≡ value digits = ap (value_from n) (sym (drop-cons digits i 0 inside)) ∙ whole in

@@ -23,7 +23,7 @@ onto : (b : ℕ) (bs : List ℕ) → (0 < length bs → lines bs ≡ before_firs
 onto b [] cut = refl
 onto b (c ∷ cs) cut = ap (onto_first b) (cut (omega arith))
 
--- the first line, and those behind it
+-- the first line, and those that follow
 lines_cut : (bytes : List ℕ) → 0 < length bytes → lines bytes ≡ before_first is_newline bytes ∷ lines (after_first is_newline bytes)
 lines_cut [] some = absurd (omega arith)
 lines_cut (b ∷ bs) some =

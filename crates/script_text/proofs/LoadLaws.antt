@@ -1,4 +1,4 @@
--- Laws of loads: one round more, the sessions of their events, and how many events there are.
+-- Laws of loads: one more round, the sessions of their events, and how many events there are.
 use Rattle.std.proofs.Common.{◌≡◌, ℕ, suc, zero, ◌+◌, ◌*◌, ◌≤◌, Bool, true, false, List, [], ◌∷◌, ◌++◌, length, sym, ap, ◌∙◌, subst, arith, add-one, length-append}
 use Rattle.std.proofs.lemmas.Grind.{flat_map-append}
 use Rattle.std.specs.Prelude.{◌==◌, ◌&&◌, ◌%◌, ◌/◌, nat_le, if◌then◌else◌}

@@ -84,7 +84,7 @@ split_at (b ∷ bs) rest plain =
 word_parts : (word : List ℕ) → is_word word ≡ true → (has_byte word ≡ true) × (list_all is_plain word ≡ true)
 word_parts word is = and_parts (has_byte word) (list_all is_plain word) is
 
--- words with a blank between each two are cut into just these
+-- words with a blank between each two are cut into exactly these
 pieces-join : (from : List (List ℕ)) → list_all is_word from ≡ true → pieces (join_with_byte 32 from) ≡ from
 pieces-join [] each = refl
 pieces-join (word ∷ []) each =
@@ -131,7 +131,7 @@ join_trimmed word (next ∷ more) each =
     let both = and_parts (is_word word) (list_all is_word (next ∷ more)) each in
     cut_trimmed word (join_with_byte 32 (next ∷ more)) (word_trimmed word both.0) (join_trimmed next more both.1)
 
--- words with a blank between each two are just these words
+-- words with a blank between each two are exactly these words
 pub words-join : (word : List ℕ) (more : List (List ℕ)) → list_all is_word (word ∷ more) ≡ true → words (join_with_byte 32 (word ∷ more)) ≡ Some (word ∷ more)
 words-join word more each =
     let trimmed = join_trimmed word more each in

@@ -47,7 +47,7 @@ change_lines r = if r.act == 0 then One (Clear 1 0 r.field) ∷ [] else object_l
 abbrev pub ending_line : Round → Line
 ending_line r = if r.act == 1 then One (Abort 1) else Commit 1
 
--- behind each round a page is scanned; behind each eighth one a page is flushed, and behind each sixteenth a collection begins
+-- after each round a page is scanned; after each eighth one a page is flushed, and after each sixteenth a collection begins
 abbrev pub upkeep_lines : ℕ → List Line
 upkeep_lines i =
     One Scan ∷ []

@@ -4,7 +4,7 @@ use Rattle.script_text.specs.declared.line.Line.{Line}
 use Rattle.script_text.specs.declared.load.Load.{Load}
 use Rattle.script_text.specs.Load.{rounds_lines}
 
--- how many rounds are to come
+-- how many rounds are still to be made
 abbrev pub rounds_left : Load → ℕ
 rounds_left load = load.left
 

@@ -5,7 +5,7 @@ use Rattle.graph_model.specs.declared.event.Event.{Event}
 use Rattle.graph_model.specs.declared.event.Event.TheVariants.{Root, New, Put, Clear, Link, Drop, Get, Same, Len, Flush}
 use Rattle.script_text.specs.Line.{numbers}
 
--- the numbers behind an event's verb
+-- the numbers that follow an event's verb
 abbrev pub spelled_numbers : Event → List ℕ
 spelled_numbers (Root s h) = h ∷ []
 spelled_numbers (New s h len) = h ∷ len ∷ []

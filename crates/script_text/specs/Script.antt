@@ -20,7 +20,7 @@ pub record Reading : Type 0 where
 abbrev pub start : Reading
 start = record { number = 1; found = [] }
 
--- one line more, or the number of a bad one
+-- one more line, or the number of a bad one
 abbrev pub with_line : Reading → Option Line → Result Reading ScriptError
 with_line r None = Err (Fault r.number)
 with_line r (Some line) = Ok (record { number = r.number + 1; found = r.found ++ line ∷ [] })
@@ -30,7 +30,7 @@ abbrev pub read_line : Reading → List ℕ → Result Reading ScriptError
 read_line r [] = Ok (record r { number = r.number + 1 })
 read_line r (b ∷ text) = with_line r (read_text (b ∷ text))
 
--- nothing is read behind the first bad line
+-- nothing is read after the first bad line
 abbrev pub take_line : Result Reading ScriptError → List ℕ → Result Reading ScriptError
 take_line (Err e) text = Err e
 take_line (Ok r) text = read_line r text
@@ -44,12 +44,12 @@ finish (Ok r) = Ok r.found
 abbrev pub script : List ℕ → Result (List Line) ScriptError
 script bytes = if nat_lt MOST_BYTES (length bytes) then Err (Fault 0) else finish (fold take_line (Ok start) (lines bytes))
 
--- memory was refused, or reading fails so
+-- out of memory, or reading fails so
 abbrev pub Fails : {Y : Type 0} → ScriptError → Result Y ScriptError → Type 0
 Fails NoMemory read = Unit {0}
 Fails (Fault line) read = read ≡ Err (Fault line)
 
--- what a function returned, seen by view, is what reading gives, unless memory was refused
+-- what a function returned, seen by view, is what reading gives, unless it ran out of memory
 abbrev pub Gives : {X Y : Type 0} → (X → Y) → Result X ScriptError → Result Y ScriptError → Type 0
 Gives view (Ok x) read = read ≡ Ok (view x)
 Gives view (Err e) read = Fails e read

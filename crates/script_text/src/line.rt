@@ -11,7 +11,7 @@ use std::alloc::{AllocError, Global};
 pub enum Line {
     /// One event.
     One(Event),
-    /// A seal of the session and then a force.
+    /// A seal of the session, followed by a force.
     Commit { s: u32 },
 }
 

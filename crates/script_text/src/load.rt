@@ -1,4 +1,4 @@
-//! A load: the lines of a play that are made from a number, round by round.
+//! A load: lines that are made from a number, round by round.
 ghost use Rattle.std.specs.Prelude.{◌≡◌, ◌+◌, ◌++◌, ◌<◌, ◌^◌, IfOk, OnOk, OnErr};
 ghost use Rattle.script_text.specs.Load.{change_lines, ending_line, object_lines, opening_lines, round_lines, upkeep_lines};
 
@@ -17,7 +17,7 @@ const MADE: u64 = 1;
 
 const READ: u64 = 2;
 
-/// More lines than a round has, so that they take their memory at once.
+/// More lines than a round has, so that they are allocated at once.
 const MOST_LINES: usize = 12;
 
 /// A round of a load: a transaction, and what follows it.
@@ -29,7 +29,7 @@ pub struct Round {
     pub length: u64,
     /// The field of the root that it reads and writes, below 4.
     pub field: u64,
-    /// What it does, below 8: with 0 it clears the field, with 1 it aborts.
+    /// What it does, below 8: 0 clears the field, 1 aborts.
     pub act: u64,
 }
 
@@ -224,7 +224,7 @@ impl Load {
         }
     }
 
-    /// The lines of the next round, if one is to come. Where memory is refused it is still to come.
+    /// The lines of the next round, if one is left. If memory runs out, the round is still left.
     pub fn next_round(&mut self, alloc: Global) -> Result<Option<Vec<Line>>, AllocError>
         ensures end { IfOk result (λ found. found ≡ None → lines_left self.old ≡ []) }
         ensures none { IfOk result (λ found. found ≡ None → self.new ≡ self.old) }

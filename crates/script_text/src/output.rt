@@ -5,7 +5,7 @@ ghost use Rattle.graph_model.specs.Text.{line};
 use graph_model::Entry;
 use std::alloc::{AllocError, Global};
 
-/// More bytes than most lines have, so that a line takes its memory at once.
+/// More bytes than most lines have, so that a line is allocated at once.
 const MOST_LINES: usize = 64;
 
 /// The line of an event and its reply, with its newline.

@@ -12,9 +12,9 @@ pub const MOST_BYTES: usize = 1_048_576;
 /// Why a script could not be read.
 #[derive(Clone, Copy, Debug, PartialEq, Eq)]
 pub enum ScriptError {
-    /// Memory was refused.
+    /// Out of memory.
     NoMemory,
-    /// The first bad line, from 1; 0 stands for a script that is too long.
+    /// The number of the first bad line, from 1; 0 stands for a script that is too long.
     Fault { line: u64 },
 }
 
@@ -48,7 +48,7 @@ struct Reader {
 impl Reader {
     ghost use Rattle.script_text.specs.Reader.{reading_of};
 
-    /// Reads one line more.
+    /// Reads one more line.
     fn read_line(&mut self, alloc: Global, text: &[u8]) -> Result<(), ScriptError>
         requires { self.old.number + 1 < 2 ^ 64 }
         ensures { Gives (λ _. reading_of self.new) result (read_line (reading_of self.old) text.now) }
@@ -98,7 +98,7 @@ fn read_lines(alloc: Global, bytes: &[u8]) -> Result<Vec<Line>, ScriptError>
     Ok(reader.found)
 }
 
-/// The lines of a script, or an error: memory was refused, or a line is bad.
+/// The lines of a script, or an error: out of memory, or a bad line.
 pub fn read_script(alloc: Global, bytes: &[u8]) -> Result<Vec<Line>, ScriptError>
     ensures { Gives (λ v. v.items) result (script bytes.now) }
 {

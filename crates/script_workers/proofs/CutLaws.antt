@@ -1,4 +1,4 @@
--- Whose the events are that a worker has of a script, and lists of workers.
+-- Whose events a worker gets from a script, and lists of workers.
 use Rattle.std.proofs.Common.{◌≡◌, ◌==◌, ℕ, zero, suc, true, false, List, [], ◌∷◌, ◌++◌, length, Some, slice_get, refl, sym, subst, eqb-true}
 use Rattle.std.proofs.lemmas.Option.{none-some}
 use Rattle.std.specs.Prelude.{filter, cond}

@@ -17,7 +17,7 @@ worker_of_event Force = 34
 worker_of_event (Flush p) = 34
 worker_of_event event = session_of event
 
--- the worker that makes the events of a line; those of a commit are its session's, the force too
+-- the worker that makes the events of a line; those of a commit are its session's, also the force
 abbrev pub worker_of : Line → ℕ
 worker_of (One event) = worker_of_event event
 worker_of (Commit s) = s
@@ -26,7 +26,7 @@ worker_of (Commit s) = s
 abbrev pub worker_events : ℕ → List Line → List Event
 worker_events number lines = events (filter (λ line. worker_of line == number) lines)
 
--- An event is for this worker: it is one of those that it makes where they stand alone, or a force, as each commit has one.
+-- An event is for this worker: it is one of those that it makes where they stand alone, or a force, since each commit has one.
 abbrev pub IsFor : ℕ → Event → Type 0
 IsFor number Force = Unit {0}
 IsFor number event = worker_of_event event ≡ number

@@ -1,4 +1,4 @@
-//! The lines of a script are cut into one list of events for each worker.
+//! Cuts the lines of a script into one list of events for each worker.
 ghost use Rattle.std.specs.Prelude.{◌≡◌, ◌+◌, ◌<◌, ◌≤◌, ℕ, IfOk, Some, slice_get, vec_len};
 ghost use Rattle.std.specs.List.{AllByRecursion};
 ghost use Rattle.graph_model.specs.History.{IsOfSession};

@@ -1,4 +1,4 @@
--- The words behind the records of promoted objects: these stand one behind the other from an address on, and no other word changes.
+-- The words after the records of promoted objects: these stand one after the other from an address on, and no other word changes.
 use Rattle.std.proofs.Common.{inl, inr, ◌≡◌, ℕ, ◌<◌, ◌≤◌, ◌+◌, List, [], ◌∷◌, ◌++◌, map, length, get_or, take, drop, Some, refl, sym, ap, ◌∙◌, arith}
 use Rattle.std.specs.Prelude.{Contains, fold, slice_index}
 use Rattle.std.proofs.lemmas.List.{get_or-map, length-map, length-take-le}
@@ -47,12 +47,12 @@ bases-behind area moves (at ∷ rest) address now x behind =
 pub based-before : (area : AreaState) (starts : List ℕ) (address : ℕ) (now : List ℕ) (x : ℕ) → x < address → slice_index (based area starts address now) x ≡ slice_index now x
 based-before area starts address now x before = bases-before area (moves_to area starts address) starts address now x before
 
--- and one behind these objects
+-- and one past these objects
 pub based-behind : (area : AreaState) (starts : List ℕ) (address : ℕ) (now : List ℕ) (x : ℕ) → address + words_needed area starts ≤ x
     → slice_index (based area starts address now) x ≡ slice_index now x
 based-behind area starts address now x behind = bases-behind area (moves_to area starts address) starts address now x behind
 
--- Objects of an area that can be put elsewhere: none is among them twice, and the header of each tells its length.
+-- Objects of an area that can be put elsewhere: none is among them twice, and the header of each gives its length.
 pub record AreWhole (area : AreaState) (starts : List ℕ) : Type 0 where
   pub distinct : AreDistinct starts
   pub few : (at : ℕ) → Contains starts at → length (field_words area.words at) < 511
@@ -105,7 +105,7 @@ ends_below words from (a ∷ rest) end at (n, same, object, more) has = elim (Co
   | inr behind ↦ ends_below words (a + 2 + n) rest end at more behind
 ]
 
--- the objects behind those that end at the address
+-- the objects that follow those that end at the address
 pub based_ends : {area : AreaState} {starts : List ℕ} → AreWhole area starts → (address : ℕ) (now : List ℕ) (from : ℕ) (xs : List ℕ) → address + words_needed area starts ≤ length now
     → AreEndToEnd now from xs address
     → AreEndToEnd (based area starts address now) from (xs ++ map (λ (m : Move). m.1) (moves_to area starts address)) (address + words_needed area starts)

@@ -73,7 +73,7 @@ module _ (c : Seal) (can : CanSealWithin c) where
       let below = within.below in
       let same = write.2 in omega arith
 
-  -- fields that lead to objects of others are among those that were written behind the seal, if they are behind that of the completed words
+  -- fields that lead to objects of others are among those that were written after the seal, if they are after that of the completed words
   pub written_kept : (us : List UndoEntry) (g : Graph) → AreBacked c.places c.words us → AreWritten (all c ++ placed_then c) g us → AreWrittenWithin (later_places c) c.remaining g us
   written_kept us g backed written id target at i there got none = elim (none_or_some (address_of c.places id)) [
     | inr old ↦
@@ -105,14 +105,14 @@ module _ (c : Seal) (can : CanSealWithin c) where
         field = one.field;
       }
 
-  -- writes are of fields of current objects behind the seal, if they are of fields behind that of the completed words
+  -- writes are of fields of current objects after the seal, if they are of fields after that of the completed words
   pub fields_kept : (us : List UndoEntry) (g : Graph) → AreBacked c.places c.words us → AreOfFields (all c ++ placed_then c) g us → AreOfFields (later_places c) g us
   fields_kept [] g backed all = tt
   fields_kept (u ∷ us) g backed all = (field_kept g u all.0 backed.0, fields_kept us g backed.1 all.1)
 
   -- Objects.
 
-  -- what has a place behind a seal had it before, or the sealed transaction made it: among the current objects
+  -- what has a place after a seal had it before, or the sealed transaction made it: among the current objects
   pub current_or_made : (id : Id) (at : ℕ) → address_of (later_places c) id ≡ Some at → (address_of c.places id ≡ Some at) ⊎ IsOwn c.t c.made id
   current_or_made id at there = elim (none_or_some (address_of c.places id)) [
     | inl none ↦
@@ -140,7 +140,7 @@ module _ (c : Seal) (can : CanSealWithin c) where
       let left = not_some (address_of (currents p ++ p.remaining) id) (address_of (all_there p) id) (sym (same_left p id)) none in
       none_front (later_places c) c.remaining id (ap (λ (ps : Places). address_of ((c.places ++ ps) ++ c.remaining) id) (sym (placed_is c can)) ∙ left)
 
-  -- what a transaction made that goes on leads to current objects behind the seal, or to its own
+  -- what a transaction that continues made leads to current objects after the seal, or to its own
   pub made_kept : (u made : ℕ) (g h : Graph) → HasMade c.places g u made → HasMade (all c ++ placed_then c) h u made
       → ((k : ℕ) → 1 ≤ k → k ≤ made → get h (made_by u k) ≡ get g (made_by u k)) → HasMade (later_places c) h u made
   made_kept u made g h has then same = record {
@@ -156,7 +156,7 @@ module _ (c : Seal) (can : CanSealWithin c) where
     few = then.few;
   }
 
-  -- So what another transaction saw it sees behind the seal, if it does so in the completed words.
+  -- So what another transaction saw it sees after the seal, if it does so in the completed words.
   pub view_kept : (u made : ℕ) (g h : Graph) (undo before after : List UndoEntry) → IsSeenWithin (seen_by c u made g undo before) → AreBacked c.places c.words after
       → ((k : ℕ) → 1 ≤ k → k ≤ made → get h (made_by u k) ≡ get g (made_by u k)) → IsSeenThen c u made h undo after → IsSeenWithin (seen_behind c u made h undo after)
   view_kept u made g h undo before after sees backed same then = record {

@@ -1,4 +1,4 @@
--- Births behind a promotion: what stands keeps its own, and what is promoted has those that it had in the area.
+-- Births after a promotion: what stands keeps its own, and what is promoted has those that it had in the area.
 use Rattle.std.proofs.Common.{◌≡◌, ℕ, ◌+◌, List, ◌++◌, Some, sym, ap, ◌∙◌, subst, arith}
 use Rattle.std.specs.Prelude.{Contains}
 use Rattle.std.specs.FinSet.{contains}
@@ -83,7 +83,7 @@ promoted_originals p is (olds, ends, told) =
       },
     )
 
--- A promotion keeps what births tell.
+-- A promotion keeps what births say.
 pub promoted_births : (p : Promoting) → IsPromoting p → TellsBirths p.s p.places p.remaining p.words → TellsBirths (next p) (currents p) p.remaining (behind p)
 promoted_births p is tells = record {
   names = promoted_names p is tells.names;

@@ -98,7 +98,7 @@ pub record IsFixed (p : Promoting) (seen : List ℕ) (f : Field) : Type 0 where
 abbrev pub AreFixed : Promoting → List ℕ → List Field → Type 0
 AreFixed p seen fs = (f : Field) → Contains fs f → IsFixed p seen f
 
--- its object is current behind the promotion too
+-- its object is current after the promotion too
 still_field : (p : Promoting) → IsPromoting p → (object field : ℕ) → IsCurrentField p.places p.words object field → IsCurrentField (currents p) (behind p) object field
 still_field p is object field one = record {
   start = still_current p object one.start;
@@ -193,7 +193,7 @@ backed_whole p is us backed =
     AllByRecursion-map (λ u. IsHereWrite p.places p.words u.object u.field u.was) (λ u. IsField (whole_there p) (addresses (all_there p)) u.object u.field) us
     (λ u one. (named_field p is u.object u.field one.is).whole) backed
 
--- and may be taken back behind the promotion
+-- and may be taken back after the promotion
 pub backed_still : (p : Promoting) → IsPromoting p → (us : List UndoEntry) → AreBacked p.places p.words us → AreBacked (currents p) (behind p) us
 backed_still p is us backed =
     AllByRecursion-map (λ u. IsHereWrite p.places p.words u.object u.field u.was) (λ u. IsHereWrite (currents p) (behind p) u.object u.field u.was) us (λ u one. record {

@@ -59,7 +59,7 @@ promotion c = record {
   starts = promoted_by (area c) (seen_then c) c.undo;
 }
 
--- the area, as all places tell it
+-- the area, as all places give it
 abbrev pub area_then : Seal → AreaState
 area_then c = area_of (place_of (all c) c.g) c.g c.t c.made
 
@@ -75,7 +75,7 @@ record AreKnown (c : Seal) (area : AreaState) : Type 0 where
 module _ (c : Seal) (can : CanSealWithin c) where
   -- The seal of the completed words.
 
-  -- what is promoted has room behind what is used and owed
+  -- what is promoted has room past what is used and owed
   ends : c.state.base + (used_then c + asked c) ≤ words_in c.state.pages
   ends =
       let room = can.room in

@@ -1,4 +1,4 @@
--- The words behind a promotion are laid out, with the promoted objects among the current ones.
+-- The words after a promotion are laid out, with the promoted objects among the current ones.
 use Rattle.std.proofs.Common.{◌≡◌, ◌⊎◌, ℕ, ◌<◌, ◌≤◌, ◌+◌, inl, inr, Bool, true, false, List, [], ◌++◌, map, length, get_or, Option, None, Some, refl, sym, ap, ◌∙◌, subst, arith}
 use Rattle.std.specs.Prelude.{Contains, MatchOption, slice_index}
 use Rattle.std.specs.FinSet.{contains}
@@ -210,7 +210,7 @@ laid_from p is =
           subst (λ (x : ℕ). IsInside from.starts (meaning x)) (sym (made.fields i (omega arith))) (from.inside at has n i (made.was ∙ ap Some same) within);
     }
 
--- The words behind the promotion are laid out.
+-- The words after the promotion are laid out.
 pub promoted_laid : (p : Promoting) → IsPromoting p → IsCollecting (next p) p.k (currents p) p.remaining (behind p)
 promoted_laid p is =
     let room = is.room in

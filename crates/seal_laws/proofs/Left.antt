@@ -95,7 +95,7 @@ module _ (c : Seal) (can : CanSealWithin c) where
       subst (AllByRecursion IsRecord) (sym records_are)
       (subst (λ a. AllByRecursion IsRecord (seal_records a (seen_then c) c.undo (next_free c))) (area_same c can.sees) (seal_spelled can_here can.number))
 
-  -- Behind them.
+  -- After them.
 
   pub last_is : next (promotion c) ≡ last c
   last_is = ap (sealed_state c.state c.t) (need_is c can)
@@ -115,7 +115,7 @@ module _ (c : Seal) (can : CanSealWithin c) where
       ∙ fold-append put_record c.words (promotion_records (area c) (seen_then c) c.undo (next_free c)) (Commit c.t ∷ [])
       ∙ final_put (promotion c) (is_promoting c can) (seen_then c) (written_fields c.undo) (are_fixed c can))
 
-  -- what holds of the state, the places and the words behind the promotion holds of those behind the seal
+  -- what holds of the state, the places and the words after the promotion holds of those after the seal
   behind_seal : (P : State → Places → List ℕ → Type 0) → P (next (promotion c)) (placed_here (promotion c)) final_words → P (last c) (placed c) (later_words c)
   behind_seal P holds =
       subst (λ s. P s (placed c) (later_words c)) last_is (subst (λ ps. P (next (promotion c)) ps (later_words c)) placed_is (subst (P (next (promotion c)) (placed_here (promotion c))) words_are holds))
@@ -132,7 +132,7 @@ module _ (c : Seal) (can : CanSealWithin c) where
       behind_seal (λ s ps ws. AreBacked (c.places ++ ps) ws us)
       (final_backed (promotion c) (is_promoting c can) (seen_then c) (written_fields c.undo) (are_fixed c can) us backed)
 
-  -- Births are told, if they were before.
+  -- Births are known, if they were before.
   pub seal_tells : TellsBirths c.state c.places c.remaining c.words → TellsBirths (last c) (later_places c) c.remaining (later_words c)
   seal_tells tells =
       behind_seal (λ s ps ws. TellsBirths s (c.places ++ ps) c.remaining ws)
@@ -143,7 +143,7 @@ module _ (c : Seal) (can : CanSealWithin c) where
   put_then : fold put_record (whole c) (records_then c) ≡ final_then
   put_then = final_put_there (promotion c) (is_promoting c can) (seen_then c) (written_fields c.undo) (are_fixed c can)
 
-  -- one that stands behind the seal of the completed words stands in the completed words behind the seal
+  -- one that stands after the seal of the completed words stands in the completed words after the seal
   pub seal_beside : (us : List UndoEntry) (t made : ℕ) (g : Graph) → AreBacked c.places c.words us
       → Stands t made (all c ++ placed_then c) g (taken_back us (fold put_record (whole c) (records_then c))) c.state.base (used_then c + asked c)
       → StandsCompleted t made (later_places c) c.remaining g us (later_words c) (last c)
@@ -186,7 +186,7 @@ module _ (c : Seal) (can : CanSealWithin c) where
       let long = can.sees.underway.long in
       omega (arith, asked_then, length-taken_back c.others (whole c), length-completed c.state c.places c.remaining c.words)
 
-  -- The sealed graph stands committed behind the seal of the completed words.
+  -- The sealed graph stands committed after the seal of the completed words.
   pub seal_committed_then : StandsCommitted (all c ++ placed_then c) c.g (taken_back c.others (fold put_record (whole c) (records_then c))) c.state.base (used_then c + asked c)
   seal_committed_then =
       let stands = subst (λ a. StandsCommitted (all c ++ promoted_places a (moves_of a (seen_then c) c.undo (free_then c))) c.g
@@ -195,7 +195,7 @@ module _ (c : Seal) (can : CanSealWithin c) where
       let sized = subst (λ n. StandsCommitted (all c ++ placed_then c) c.g (fold put_record (seen_then c) (records_then c)) c.state.base (used_then c + n)) (asked_same c can.sees) stands in
       subst (λ ws. StandsCommitted (all c ++ placed_then c) c.g ws c.state.base (used_then c + asked c)) beside_then sized
 
-  -- so it does in the completed words behind the seal
+  -- so it does in the completed words after the seal
   pub seal_committed : StandsCompleted 0 0 (later_places c) c.remaining c.g c.others (later_words c) (last c)
   seal_committed = seal_beside c.others 0 0 c.g can.sees.others_backed seal_committed_then
 

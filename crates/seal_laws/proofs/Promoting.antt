@@ -1,4 +1,4 @@
--- Objects of an area that are promoted within a collection: in the words they go behind the used ones, and in the completed words behind
+-- Objects of an area that are promoted within a collection: in the words they go after the used ones, and in the completed words after
 -- what is owed to the collection too.
 use Rattle.std.proofs.Common.{◌≡◌, ◌⊎◌, ℕ, ◌<◌, ◌≤◌, ◌+◌, inl, inr, Bool, true, false, List, [], ◌∷◌, ◌++◌, length, get_or, Option, None, Some, is_some, refl, sym, ap, ◌∙◌, subst, arith}
 use Rattle.std.specs.Prelude.{Contains, ◌||◌, if◌then◌else◌}
@@ -74,14 +74,14 @@ alls p = p.places ++ future p.s p.words p.remaining
 abbrev pub whole : Promoting → List ℕ
 whole p = completed p.s p.places p.remaining p.words
 
--- with the promoted objects behind all others
+-- with the promoted objects after all others
 abbrev pub all_there : Promoting → Places
 all_there p = alls p ++ placed_there p
 
 abbrev pub whole_there : Promoting → List ℕ
 whole_there p = based p.area p.starts (there p) (whole p)
 
--- The words behind the promotion.
+-- The words after the promotion.
 
 abbrev pub next : Promoting → State
 next p = sealed_state p.s p.t (need p)
@@ -125,7 +125,7 @@ fits_here p is =
     let more = spaced_more p.s (need p) is.is.spaced (omega arith) in
     let long = is.is.long in omega arith
 
--- so have the completed words, behind what is owed
+-- so have the completed words, past what is owed
 pub fits_there : (p : Promoting) → IsPromoting p → there p + need p ≤ length (whole p)
 fits_there p is =
     let room = is.room in
@@ -147,7 +147,7 @@ pub not_some : (o q : Option ℕ) → is_some o ≡ is_some q → q ≡ None →
 not_some None q same none = refl
 not_some (Some a) q same none = let clash = same ∙ ap is_some none in cc
 
--- names stay their own where places of others are put behind
+-- names stay their own where places of others are appended
 pub own_append : (ps qs : Places) → HaveOwnNames ps → HaveOwnNames qs → ((id : Id) (at : ℕ) → address_of ps id ≡ Some at → address_of qs id ≡ None) → HaveOwnNames (ps ++ qs)
 own_append [] qs one other apart = other
 own_append (p ∷ ps) qs one other apart = (
@@ -203,7 +203,7 @@ none_placed p is address id at stands = elim (none_or_some (address_of (promoted
   | inr new ↦ let clash = sym (is.apart id (promoted_at p is address id new.0 new.1).own) ∙ stands in cc
 ]
 
--- so names are their own behind the promotion
+-- so names are their own after the promotion
 pub own_currents : (p : Promoting) → IsPromoting p → HaveOwnNames (currents p)
 own_currents p is =
     own_append p.places (placed_here p) (own_front p.places p.remaining is.own) (own_placed p is (here p))
@@ -245,7 +245,7 @@ or_swap false true false = refl
 or_swap false false true = refl
 or_swap false false false = refl
 
--- the same objects have places in the completed words, with the promoted ones behind all others or behind the current ones
+-- the same objects have places in the completed words, with the promoted ones after all others or after the current ones
 pub same_objects : (p : Promoting) → HaveSameIds (all_there p) (all_behind p)
 same_objects p id =
     let old = is_some (address_of p.places id) in
@@ -262,7 +262,7 @@ same_objects p id =
     ∙ ap (λ b. b || is_some (address_of (future (next p) (behind p) p.remaining) id)) (some_append p.places (placed_here p) id) ∙ ap (λ b. (old || new) || b) to_come' in
     first ∙ or_swap old left new ∙ sym second
 
--- the same objects are current behind the promotion, or remain
+-- the same objects are current after the promotion, or remain
 pub same_left : (p : Promoting) (id : Id) → is_some (address_of (all_there p) id) ≡ is_some (address_of (currents p ++ p.remaining) id)
 same_left p id =
     same_objects p id

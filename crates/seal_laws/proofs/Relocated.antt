@@ -1,4 +1,4 @@
--- The completed words behind a promotion are those with the promoted objects behind all others, relocated: what is promoted goes before what
+-- The completed words after a promotion are those with the promoted objects after all others, relocated: what is promoted goes before what
 -- remains.
 use Rattle.std.proofs.Common.{◌≡◌, ℕ, ◌<◌, ◌+◌, inl, inr, List, ◌++◌, map, length, get_or, None, Some, is_some, refl, sym, ap, ◌∙◌, subst, arith}
 use Rattle.std.specs.Prelude.{Contains, slice_index}
@@ -37,7 +37,7 @@ use Rattle.seal_laws.proofs.Promoting.{IsOwnWord, IsPromotedAt, IsPromoting, Pro
 
 -- Words.
 
--- a word refers to the same object behind the promotion
+-- a word refers to the same object after the promotion
 still_refers : (p : Promoting) → IsPromoting p → (w : ℕ) (q : Id) → RefersTo p.s p.places p.remaining p.words w q → RefersTo (next p) (currents p) p.remaining (behind p) w q
 still_refers p is w q (current at means stands) = current at means (address_of-append_left p.places (placed_here p) q at stands)
 still_refers p is w q (forwarded old to means other forward stands) =
@@ -77,7 +77,7 @@ placed_at : (p : Promoting) → IsPromoting p → (address : ℕ) (id : Id) (new
     → address_of (promoted_places p.area (moves_to p.area p.starts address)) id ≡ Some new
 placed_at p is address id new own goes = address_of-promoted p.area p.g p.t p.made p.starts address id is.each own ∙ goes
 
--- it has its place behind all others
+-- it has its place after all others
 pub placed_behind : (p : Promoting) → IsPromoting p → (id : Id) (new : ℕ) → IsOwn p.t p.made id → moved (moves_there p) (index_of p.g id) ≡ Some new → address_of (all_there p) id ≡ Some new
 placed_behind p is id new own goes = address_of-append_right (alls p) (placed_there p) id (none_whole p is id own) ∙ placed_at p is (there p) id new own goes
 
@@ -85,11 +85,11 @@ placed_current : (p : Promoting) → IsPromoting p → (id : Id) (new : ℕ) →
 placed_current p is id new own goes =
     address_of-append_right p.places (placed_here p) id (none_front p.places p.remaining id (is.apart id own)) ∙ placed_at p is (here p) id new own goes
 
--- or behind the current ones
+-- or after the current ones
 pub placed_before : (p : Promoting) → IsPromoting p → (id : Id) (new : ℕ) → IsOwn p.t p.made id → moved (moves_here p) (index_of p.g id) ≡ Some new → address_of (all_behind p) id ≡ Some new
 placed_before p is id new own goes = address_of-append_left (currents p) (future (next p) (behind p) p.remaining) id new (placed_current p is id new own goes)
 
--- a reference to it is led along
+-- a reference to it is updated
 pub new_led : (p : Promoting) → IsPromoting p → (at old new w v : ℕ) → Contains p.starts at → moved (moves_there p) at ≡ Some old → moved (moves_here p) at ≡ Some new → w ≡ bits (word.Stable old)
     → v ≡ bits (word.Stable new) → IsRelocatedWord (all_there p) (all_behind p) w v
 new_led p is at old new w v has goes goes' was will =
@@ -106,7 +106,7 @@ new_led p is at old new w v has goes goes' was will =
       is = will;
     })
 
--- a word of a promoted object is led along
+-- a word of a promoted object is updated
 new_word : (p : Promoting) → (is : IsPromoting p) → (w : ℕ) → IsOwnWord p.places p.starts w
     → IsRelocatedWord (all_there p) (all_behind p) (moved_word (moves_there p) w) (followed (next p) (behind p) p.remaining (moved_word (moves_here p) w))
 new_word p is w (inl (plain, leads)) =
@@ -153,7 +153,7 @@ source_of p is id at stood = elim (none_or_some (address_of p.places id)) [
       }
 ]
 
--- it stands at the same address behind the promotion
+-- it stands at the same address after the promotion
 same_source : (p : Promoting) → IsPromoting p → (id : Id) (at to : ℕ) → address_of (p.places ++ p.remaining) id ≡ Some at → address_of (currents p ++ p.remaining) id ≡ Some to → at ≡ to
 same_source p is id at to stood stands = elim (none_or_some (address_of p.places id)) [
   | inl none ↦
@@ -164,7 +164,7 @@ same_source p is id at to stood stands = elim (none_or_some (address_of p.places
       ∙ sym (address_of-append_left (currents p) p.remaining id old.0 (address_of-append_left p.places (placed_here p) id old.0 old.1)) ∙ stands)
 ]
 
--- an object of the completed words stays where what is promoted goes behind it
+-- an object of the completed words stays when what is promoted goes after it
 pub kept_whole : (p : Promoting) → IsPromoting p → (id : Id) (at n : ℕ) → address_of (alls p) id ≡ Some at → object_at (whole p) at ≡ Some n → IsMade (λ w. w) (whole p) (whole_there p) at at n
 kept_whole p is id at n stands object =
     let lies = ends_below (whole p) p.s.base (addresses (alls p)) (there p) at (completed_ends is.is) (address_of-Contains (alls p) id at stands) in

@@ -1,4 +1,4 @@
--- A graph that stands in the completed words behind a seal of these stands in those behind the seal of the words.
+-- A graph that stands in the completed words after a seal of these stands in those after the seal of the words.
 use Rattle.std.proofs.Common.{◌≡◌, ℕ, ◌+◌, inl, inr, List, ◌++◌, map, Some, sym, ap, ◌∙◌, subst, arith}
 use Rattle.std.specs.Prelude.{fold}
 use Rattle.std.proofs.lemmas.List.Sums.{fold-append}
@@ -41,7 +41,7 @@ module _ (p : Promoting) (is : IsPromoting p) (seen : List ℕ) (fs : List Field
   abbrev entries_there : List UndoEntry
   entries_there = fix_entries seen (moves_there p) fs
 
-  -- the words behind all records
+  -- the words after all records
   abbrev pub final : List ℕ
   final = taken_back entries (behind p)
 
@@ -55,7 +55,7 @@ module _ (p : Promoting) (is : IsPromoting p) (seen : List ℕ) (fs : List Field
   pub final_backed : (us : List UndoEntry) → AreBacked p.places p.words us → AreBacked (currents p) final us
   final_backed us backed = backed_behind entries (promoted_laid p is) (fixed_backed p is seen fs fixed) us (backed_still p is us backed)
 
-  -- Births are told behind them.
+  -- Births are known after them.
   pub final_births : TellsBirths p.s p.places p.remaining p.words → TellsBirths (next p) (currents p) p.remaining final
   final_births tells =
       let laid = promoted_laid p is in
@@ -94,7 +94,7 @@ module _ (p : Promoting) (is : IsPromoting p) (seen : List ℕ) (fs : List Field
     | inr old ↦ old.1 ∙ sym (address_of-append_left (alls p) (placed_there p) root old.0 old.1) ∙ stands
   ]
 
-  -- So a graph that stands in the ones stands in the others.
+  -- So a graph that stands in the former stands in the latter.
   pub final_stands : (us : List UndoEntry) (t made : ℕ) (g : Graph) → AreBacked p.places p.words us
       → Stands t made (all_there p) g (taken_back us final_there) p.s.base ((p.s.used + owed p.s) + need p) → StandsCompleted t made (currents p) p.remaining g us final (next p)
   final_stands us t made g backed stands =
@@ -112,7 +112,7 @@ module _ (p : Promoting) (is : IsPromoting p) (seen : List ℕ) (fs : List Field
       }) moves.is
 
   -- The records.
-  -- the words behind the records of the objects and of the fields
+  -- the words after the records of the objects and of the fields
   pub final_put : fold put_record p.words (map (base_of p.area (moves_here p)) (moves_here p) ++ fixes p.t seen (moves_here p) fs) ≡ final
   final_put = fold-append put_record p.words (map (base_of p.area (moves_here p)) (moves_here p)) (fixes p.t seen (moves_here p) fs) ∙ put_entries p.t seen (behind p) (moves_here p) fs
 

@@ -95,7 +95,7 @@ module _ (c : Seal) (can : IsSeenWithin c) where
       let k = own_made c.t c.made id own in
       place_of-apart (all c) c.g id (ap (address_of (all c)) k ∙ has_then.apart id.k) ∙ sym (place_of-apart c.places c.g id (ap (address_of c.places) k ∙ can.has.apart id.k))
 
-  -- So its area is told by the current places alone.
+  -- So its area is given by the current places alone.
   pub area_same : area_of (place_of (all c) c.g) c.g c.t c.made ≡ area c
   area_same =
       ap (λ ws. record { transaction = c.t; made = c.made; words = ws }) (area_words-same (place_of c.places c.g) (place_of (all c) c.g) c.g c.g c.t c.made (λ k first last.

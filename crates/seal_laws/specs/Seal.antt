@@ -68,7 +68,7 @@ next_free c = c.state.base + c.state.used
 abbrev pub records : Seal → List Record
 records c = seal_records (area c) (seen c) c.undo (next_free c)
 
--- Behind it.
+-- After it.
 
 -- the state
 abbrev pub last : Seal → State
@@ -86,7 +86,7 @@ later_places c = c.places ++ placed c
 abbrev pub later_words : Seal → List ℕ
 later_words c = fold put_record c.words (records c)
 
--- The seal of the completed words, as if the collection had copied all: what is promoted goes behind what is owed to the collection.
+-- The seal of the completed words, as if the collection had copied all: what is promoted goes after what is owed to the collection.
 
 -- all objects, each where it will stand
 abbrev pub all : Seal → Places
@@ -148,7 +148,7 @@ pub record CanSealWithin (c : Seal) : Type 0 where
   pub number : is_number c.t ≡ true
   pub room : c.state.used + asked c + owed c.state ≤ space_words c.state.pages
 
--- What another transaction sees behind the seal of the completed words, as the law of a seal without a collection says it.
+-- What another transaction sees after the seal of the completed words, as the law of a seal without a collection says it.
 pub record IsSeenThen (c : Seal) (u made : ℕ) (g : Graph) (undo others : List UndoEntry) : Type 0 where
   pub stands : Stands u made (all c ++ placed_then c) g (taken_back others (fold put_record (whole c) (records_then c))) c.state.base (used_then c + asked c)
   pub has : HasMade (all c ++ placed_then c) g u made
@@ -159,7 +159,7 @@ pub record IsSeenThen (c : Seal) (u made : ℕ) (g : Graph) (undo others : List 
 abbrev pub seen_by : Seal → ℕ → ℕ → Graph → List UndoEntry → List UndoEntry → Seal
 seen_by c u made g undo others = record c { g = g; t = u; made = made; undo = undo; others = others }
 
--- the heap behind the seal, with what it sees then
+-- the heap after the seal, with what it sees then
 abbrev pub seen_behind : Seal → ℕ → ℕ → Graph → List UndoEntry → List UndoEntry → Seal
 seen_behind c u made g undo others =
     record c { state = last c; places = later_places c; words = later_words c; g = g; t = u; made = made; undo = undo; others = others }

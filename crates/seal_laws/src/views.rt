@@ -25,7 +25,7 @@ pub fn views_are_views_of_completed_words()
     ensures { (c : Seal) → IsSeenWithin c → HasMade (all c) c.g c.t c.made × AreOfFields (all c) c.g c.undo × AreWritten (all c) c.g c.undo × (area_of (place_of (all c) c.g) c.g c.t c.made ≡ area c) }
 {}
 
-/// What another active transaction saw before a seal it sees behind it, if it sees it behind the seal of the completed words and what it made is
+/// What another active transaction saw before a seal it sees after it, if it sees it after the seal of the completed words and what it made is
 /// as it was.
 pub fn seals_keep_views()
     ensures { (c : Seal) (u made : ℕ) (g h : Graph) (undo before behind : List UndoEntry) → CanSealWithin c → IsSeenWithin (seen_by c u made g undo before) → AreBacked c.places c.words behind → ((i : ℕ) → 1 ≤ i → i ≤ made → get h (made_by u i) ≡ get g (made_by u i)) → IsSeenThen c u made h undo behind → IsSeenWithin (seen_behind c u made h undo behind) }

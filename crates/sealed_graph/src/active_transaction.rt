@@ -1,4 +1,4 @@
-//! A transaction that has not ended, as a history tells of it.
+//! A transaction that has not ended, as a history has it.
 ghost use Rattle.std.specs.Prelude.{◌≡◌, [], ◌∷◌, ◌++◌, OnOk};
 
 use graph_model::Event;
@@ -23,7 +23,7 @@ impl Model for ActiveTransaction {
 impl ActiveTransaction {
     ghost use Rattle.graph_model.specs.Transaction.{Transaction};
 
-    /// A transaction that has just begun. It takes no memory.
+    /// A transaction that has just begun. Does not allocate.
     pub(crate) fn begin(alloc: Global, number: u64) -> ActiveTransaction
         ensures { result ≡ record { number = number; calls = [] } }
     {
@@ -47,7 +47,7 @@ impl ActiveTransaction {
         &self.calls
     }
 
-    /// One call more.
+    /// One more call.
     pub(crate) fn push(&mut self, call: Event) -> Result<(), AllocError>
         ensures { OnOk result (self.new ≡ record { number = self.old.number; calls = self.old.calls ++ call ∷ [] }) }
     {

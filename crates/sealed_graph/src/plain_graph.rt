@@ -13,7 +13,7 @@ use std::marker::Model;
 /// How many fields the root of a new heap has.
 const ROOT_FIELDS: usize = 4;
 
-/// The fields of each object, by its name. Clauses see the graph of the plain model. To find an object takes the logarithm of how many there
+/// The fields of each object, by its name. Clauses see the graph of the plain model. Finding an object takes time logarithmic in how many there
 /// are.
 #[derive(Debug, Drop)]
 pub struct PlainGraph {
@@ -34,7 +34,7 @@ impl Model for PlainGraph {
 }
 
 impl PlainGraph {
-    /// No objects. It takes no memory.
+    /// No objects. Does not allocate.
     pub fn empty(alloc: Global) -> PlainGraph
         ensures { result ≡ empty }
     {

@@ -19,7 +19,7 @@ pub(crate) struct Reading {
 }
 
 impl Reading {
-    /// Nothing, where the history began with this graph. It takes no memory.
+    /// Nothing, where the history began with this graph. Does not allocate.
     pub(crate) fn new(alloc: Global, first: PlainGraph) -> Reading
         ensures { TellsOf first nothing_yet result }
     {
@@ -30,7 +30,7 @@ impl Reading {
         }
     }
 
-    /// Reads one entry more.
+    /// Reads one more entry.
     pub(crate) fn read(&mut self, entry: &Entry) -> Result<(), AllocError>
         ensures { OnOk result (KeepsReading (λ a. account_after a entry.now) self.old self.new) }
     {

@@ -19,7 +19,7 @@ struct Registers {
     made: u32,
 }
 
-/// A sealed transaction makes its calls on what those before it left. It fails only where memory or a name for an object is lacking, and
+/// A sealed transaction makes its calls on what those before it left. It fails only when out of memory or of names for objects, and
 /// then some of the calls may have been made.
 pub(crate) fn run(graph: &mut PlainGraph, transaction: &ActiveTransaction) -> Result<(), AllocError>
     ensures { OnOk result (graph.new ≡ (run graph.old transaction.now).graph) }

@@ -11,11 +11,11 @@ use std::alloc::{AllocError, Global};
 /// The graph of what a history says is sealed, where it began with the graph `first`: its sealed transactions, run one after another in the
 /// order of their seals. What was refused, what was aborted, and what has not been sealed leaves nothing.
 ///
-/// It fails where memory is lacking. It also fails for a history that no heap writes: one with a transaction that makes an object and has a
+/// It fails when out of memory. It also fails for a history that no heap writes: one with a transaction that makes an object and has a
 /// number from 2^32 on, or makes more than 4,294,967,295 objects, since those have no name.
 ///
-/// It goes through the history once. A call that writes a field or reads one takes the logarithm of how many objects there are, and a new
-/// object besides the time for its fields. In memory it has a copy of `first` with what was sealed, and the calls of the transactions that
+/// It goes through the history once. A call that reads or writes a field takes time logarithmic in how many objects there are, and one that
+/// makes an object also the time for its fields. In memory it has a copy of `first` with what was sealed, and the calls of the transactions that
 /// are active where it reads.
 pub fn sealed_view(
     alloc: Global,

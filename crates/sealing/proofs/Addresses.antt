@@ -1,4 +1,4 @@
--- The addresses that objects get which move, one behind the other.
+-- The addresses of objects that are laid out one after another.
 use Rattle.std.proofs.Common.{◌≡◌, ℕ, zero, suc, get_or, ◌+◌, List, [], ◌∷◌, ◌++◌, map, zip, length, refl, ap, ◌∙◌, ◌≤◌, ◌<◌, arith}
 use Rattle.std.proofs.lemmas.List.Sums.{sum_by-cons}
 use Rattle.volatile_area.specs.Area.{AreaState}
@@ -8,7 +8,7 @@ use Rattle.graph_words.specs.Promotion.{words_taken, moves_to}
 abbrev pub addresses : AreaState → List ℕ → ℕ → List ℕ
 addresses area objects address = map (λ m. m.1) (moves_to area objects address)
 
--- one object more gets the words behind those of the others
+-- one more object gets the words after those of the others
 pub addresses_more : (area : AreaState) (xs : List ℕ) (x address : ℕ) → addresses area (xs ++ x ∷ []) address ≡ addresses area xs address ++ (address + need area xs) ∷ []
 addresses_more area [] x address = ap (λ n. n ∷ []) (omega arith)
 addresses_more area (y ∷ ys) x address =

@@ -1,4 +1,4 @@
--- The fields that writes wrote, with those of one write more.
+-- The fields that writes wrote, with those of one more write.
 use Rattle.std.proofs.Common.{◌≡◌, zero, suc, ◌⊎◌, inl, inr, List, [], ◌∷◌, refl, sym, ap, ◌∙◌, subst, arith}
 use Rattle.std.specs.Prelude.{Contains}
 use Rattle.std.specs.List.Sorted.{IsStrictlySortedBy}
@@ -9,7 +9,7 @@ use Rattle.std.specs.BTreeSet.{insert_key}
 use Rattle.sealing.proofs.Inserted.{inserted_from, inserted_there, inserted_keeps}
 use Rattle.graph_words.proofs.Area.Fields.{field_cmp_told, written_fields_one, written_from_field, field_from_written}
 
--- what one of these writes wrote, one of them and another did
+-- what some of these writes wrote, they and one more wrote
 pub written_rest : (u : UndoEntry) (us : List UndoEntry) (f : Field) → IsWritten us f.0 f.1 → IsWritten (u ∷ us) f.0 f.1
 written_rest u us f (k, v, within, is, same) = (suc k, v, omega arith, is, same)
 
@@ -35,14 +35,14 @@ empty : (fs : List Field) → ((f : Field) → Contains fs f → ⊥) → fs ≡
 empty [] none = refl
 empty (f ∷ fs) none = absurd (none f (0, omega arith, refl))
 
--- no write, no field
+-- no writes, no fields
 pub written_none : written_fields [] ≡ []
 written_none = empty (written_fields []) (λ f has. nothing f (written_from_field [] f has))
   where
     nothing : (f : Field) → IsWritten [] f.0 f.1 → ⊥
     nothing f (k, u, within, is, same) = omega arith
 
--- a set of the fields of some writes has those of one write more once its field was put in
+-- a set of the fields of some writes has those of one more write once its field is put in
 pub written_inserted : (u : UndoEntry) (us : List UndoEntry) (fs : List Field) → fs ≡ insert_key field_cmp (written_fields us) (field_of u) → IsStrictlySortedBy field_cmp fs → fs ≡ written_fields (u ∷ us)
 written_inserted u us fs is up = written_more u us fs up from own before
   where

@@ -1,9 +1,9 @@
--- Where an object goes that was searched among those that move.
+-- Where an object goes that was searched for among those that move.
 use Rattle.std.proofs.Common.{◌≡◌, ◌≢◌, ℕ, zero, suc, ◌<◌, List, [], ◌∷◌, zip, length, get_or, Some, None, refl, ◌∙◌, subst, arith}
 use Rattle.graph_words.specs.Promotion.{moved}
 use Rattle.graph_words.proofs.Places.Moves.{moved-head, moved-rest}
 
--- one that stands at a place, and at none before, goes where the address at that place says
+-- one that stands at a place, and at none before, goes to the address at that place
 pub moved_at : (xs ns : List ℕ) (i at : ℕ) → i < length xs → length ns ≡ length xs → get_or xs i 0 ≡ at → ((j : ℕ) → j < i → get_or xs j 0 ≢ at)
     → moved (zip xs ns) at ≡ Some (get_or ns i 0)
 moved_at [] ns i at within count is first = absurd (omega arith)

@@ -1,4 +1,4 @@
--- The keys of an ordered set with one key more.
+-- The keys of an ordered set with one more key.
 use Rattle.std.proofs.Common.{◌≡◌, ◌⊎◌, inl, inr, List, [], ◌∷◌, Ordering, Less, Equal, Greater, refl, sym, subst}
 use Rattle.std.specs.Prelude.{Contains}
 use Rattle.std.specs.Ordering.{match_ordering}

@@ -1,5 +1,5 @@
 //! What a seal appends to the log: the objects that become reachable get words of the current space, and the fields that led to them
-//! are put right.
+//! are updated.
 #![tactic(auto)]
 
 mod moves;

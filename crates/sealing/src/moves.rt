@@ -10,7 +10,7 @@ use heap_words::{FIELDS_AT, Word, decode, encode};
 use std::alloc::{AllocError, Global};
 use volatile_area::Area;
 
-/// The addresses of these objects of an area: they get the words from an address on, one behind the other.
+/// The addresses of these objects of an area: they are laid out one after another from an address on.
 pub(crate) fn addresses_of(
     alloc: Global,
     area: &Area,

@@ -15,7 +15,7 @@ use std::alloc::{AllocError, Global};
 use std::collections::BTreeSet;
 use volatile_area::Area;
 
-/// The record that puts an object of the area at its address, where these objects get these addresses.
+/// The record that puts an object of the area at its address, if these objects get these addresses.
 pub(crate) fn base(
     alloc: Global,
     area: &Area,
@@ -44,7 +44,7 @@ pub(crate) fn base(
     })
 }
 
-/// The record that puts a field right, if it referred to an object of the area.
+/// The record that updates a field, if it referred to an object of the area.
 pub(crate) fn fix(
     t: u32,
     words: &[u64],
@@ -93,7 +93,7 @@ pub(crate) fn bases(
     Ok(records)
 }
 
-/// Adds the records that put these fields right, where these objects get these addresses.
+/// Adds the records that update these fields, if these objects get these addresses.
 pub(crate) fn add_fixes(
     records: &mut Vec<Record>,
     t: u32,

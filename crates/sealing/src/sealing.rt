@@ -31,7 +31,7 @@ pub struct Sealing {
 }
 
 impl Sealing {
-    /// What a seal promotes, where the transaction made these writes, of which the newest stands last, and these words stand in the
+    /// What a seal promotes, if the transaction made these writes, of which the newest stands last, and these words stand in the
     /// current space.
     pub fn new(
         alloc: Global,
@@ -61,7 +61,7 @@ impl Sealing {
         self.need
     }
 
-    /// Its records, where the objects get the words from an address on.
+    /// Its records, if the objects get the words from an address on.
     pub fn records(
         &self,
         alloc: Global,

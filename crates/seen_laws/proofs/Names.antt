@@ -50,7 +50,7 @@ name_left (p ∷ ps) qs at has = elim (cases_order p.1 at) [
       ]
 ]
 
--- and another one from those behind
+-- and another one from those after
 name_right : (ps qs : Places) (at : ℕ) → (Contains (addresses ps) at → ⊥) → name_at (ps ++ qs) at ≡ name_at qs at
 name_right [] qs at apart = refl
 name_right (p ∷ ps) qs at apart =

@@ -1,4 +1,4 @@
--- Words of the from-space stay behind a record that can follow, but for headers where it puts forwarding words.
+-- Words of the from-space stay after a record that can follow, but for headers where it puts forwarding words.
 use Rattle.std.proofs.Common.{◌≡◌, ◌≢◌, ◌⊎◌, ℕ, ◌+◌, ◌-◌, inl, inr, true, List, [], ◌∷◌, length, set, Option, None, Some, refl, sym, ap, ◌∙◌, subst, arith, length-set, get_or-set_same, get_or-set_other}
 use Rattle.std.specs.Prelude.{◌&&◌, nat_le, nat_lt, slice_index, option_and_then}
 use Rattle.std.specs.List.{AllByRecursion}
@@ -23,7 +23,7 @@ use Rattle.collection_words.proofs.Laid.Old.{apart_spaces, other_bounds}
 use Rattle.seen_laws.specs.Writing.{IsCopyWrite, IsForwardingWord, IsFreeWord, IsUsedWord, WritesInPlace}
 use Rattle.seen_laws.proofs.Writes.{collection_writes, passed, transaction_writes}
 
--- The spaces behind a record.
+-- The spaces after a record.
 
 -- a state has the spaces of another
 abbrev HasSpaces : State → State → Type 0
@@ -104,7 +104,7 @@ copy_leaves : (s : State) → IsSpaced s → (at : ℕ) → in_other_space s at 
 copy_leaves s spaced at other w (inl free) = inl (free_apart s spaced at w.0 other free)
 copy_leaves s spaced at other w (inr forward) = inr (forward.to, forward.word)
 
--- the spaces whose from-space a record leaves: behind a flip they have changed their roles
+-- the spaces whose from-space a record leaves: after a flip they have changed their roles
 abbrev roles : State → Record → State
 roles s (Update t object field was word) = s
 roles s (Base t address words) = s
@@ -163,7 +163,7 @@ row_roles s n (Scan page writes) e = collection_roles s n (Scan page writes) e
 row_roles s n (Flip copies) e = collection_roles s n (Flip copies) e
 row_roles s n Collected e = collection_roles s n Collected e
 
--- A word of what is the from-space behind a record stays, or is a forwarding word.
+-- A word of what is the from-space after a record stays, or is a forwarding word.
 pub transaction_still : (s n : State) (rec : Record) (words : List ℕ) (at : ℕ) → IsConsistent s → after s rec ≡ Some n → in_other_space n at ≡ true → IsStill words (put_record words rec) at
 transaction_still s n rec words at is e other =
     let row = passed (is_number_or_none (number_of rec)) (row_after s rec) n e in

@@ -48,7 +48,7 @@ IsUnwrittenByOthers s t at = EachKeyed (λ q us. q ≢ t → IsUnwritten us at) 
 abbrev pub StandsSealed : Places → Places → Graph → List ℕ → State → Type 0
 StandsSealed places remaining g words s = Stands 0 0 (places ++ future s words remaining) g (all_taken_back s (completed s places remaining words)) s.base (s.used + owed s)
 
--- A graph stands in the completed words without the writes of all others, as a transaction sees it that has made so many objects.
+-- A graph stands in the completed words without the writes of all others, as a transaction that has made that many objects sees it.
 abbrev pub StandsViewed : ℕ → ℕ → Places → Places → Graph → List ℕ → State → Type 0
 StandsViewed t made places remaining g words s =
     Stands t made (places ++ future s words remaining) g (others_taken_back s t (completed s places remaining words)) s.base (s.used + owed s)

@@ -17,7 +17,7 @@ pub fn records_of_a_collection_write_in_place()
     ensures { (s n : State) (rec : Record) → IsConsistent s → collecting_after s rec ≡ Some n → WritesInPlace s rec }
 {}
 
-/// So each word of the from-space is behind a record of either kind what it was, or a forwarding word.
+/// So after a record of either kind each word of the from-space is what it was, or a forwarding word.
 pub fn from_space_words_stay_or_forward()
     ensures { (s n : State) (rec : Record) (words : List ℕ) (at : ℕ) → IsConsistent s → ((after s rec ≡ Some n) ⊎ (collecting_after s rec ≡ Some n)) → in_other_space n at ≡ true → (slice_index (put_record words rec) at ≡ slice_index words at) ⊎ IsForwardingWord (slice_index (put_record words rec) at) }
 {}

@@ -1,4 +1,4 @@
-//! The same of the writes that the state behind records says may be taken back: the sealed graph is seen, and each transaction reads its own view.
+//! The same of the writes that the state after records says may be taken back: the sealed graph is seen, and each transaction reads its own view.
 ghost use Rattle.std.specs.Prelude.{◌≡◌, ◌<◌, ◌++◌, ℕ, List, length, Some, false};
 ghost use Rattle.graph_model.specs.Graph.{Graph, fields};
 ghost use Rattle.graph_model.specs.declared.id.Id.{Id};

@@ -4,7 +4,7 @@ ghost use Rattle.heap_io.specs.Stream.{HasCause};
 
 use heap_io::{MemorySource, Source, SourceFailed};
 
-/// A source in memory that gives at most so many bytes a call, and at least one.
+/// A source in memory that gives at most `most` bytes a call, and at least one.
 #[derive(Drop)]
 pub struct Pieces {
     pub inner: MemorySource,

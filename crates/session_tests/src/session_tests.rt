@@ -42,7 +42,7 @@ fn heap_disk(alloc: Global) -> Result<MemoryDisk, AllocError> {
     }
 }
 
-/// Serves a session whose source gives so many bytes at once.
+/// Serves a session whose source gives that many bytes at once.
 fn serve_on<D: Disk + Drop>(
     alloc: Global,
     disk: D,
@@ -190,7 +190,7 @@ fn sessions_follow_one_another(rt: HostRuntime) -> Result<(), Fail> {
     Ok(())
 }
 
-/// The heap is closed and opened again where nothing is to be done before, and not else. Commits and lines are counted anew.
+/// The heap is closed and opened again if nothing has to be done before, and not otherwise. Commits and lines are counted anew.
 #[test]
 fn a_line_parts_the_session(rt: HostRuntime) -> Result<(), Fail> {
     for most in [1, 5, 64] {
@@ -220,7 +220,7 @@ fn a_closing_that_is_not_told_ends_the_session(rt: HostRuntime) -> Result<(), Fa
     Ok(())
 }
 
-/// A line that is too long is one line, whatever comes behind it.
+/// A line that is too long is one line, whatever follows it.
 #[test]
 fn a_line_that_is_too_long_is_one_line(rt: HostRuntime) -> Result<(), Fail> {
     let alloc = rt.alloc();

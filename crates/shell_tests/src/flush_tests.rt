@@ -1,5 +1,5 @@
 //! Scripts with flushes, played with a stop at each of their device calls and of their recoveries, by each pick of a restart. The slow heap, which has
-//! no pages, is asked for the same scripts without the flushes.
+//! no pages, plays the same scripts without the flushes.
 use crate::playing::{Played, disk_of, expect_played, make_disk, play_on, same};
 use crate::stop_tests::{
     DRAWN, DRAWN_LINES, FLUSH_STOPPED, FORCE_CALLS, FORCED_INSIDE, FOUR, OBJECTS_FORCED_INSIDE,
@@ -27,13 +27,13 @@ fn make_stored(alloc: Global) -> Result<Vec<u8>, AllocError> {
     disk.contents().to_vec(alloc)
 }
 
-/// What stands behind the lines of a script, in turn.
+/// What is inserted after the lines of a script, in turn.
 type Flushes = [&'static str; 5];
 
-/// Both pages, behind each line.
+/// Both pages, after each line.
 const EACH: Flushes = ["flush 0\nflush 1\n"; 5];
 
-/// A page behind some lines, so that both have records behind what is stored of them, of which some are on the disk and some are not.
+/// A page after some lines, so that both have records after what is stored of them, of which some are on the disk and some are not.
 const SOME: Flushes = ["", "", "flush 0\n", "", "flush 1\n"];
 
 /// The lines of flushes that are neither refused nor cut short.
@@ -56,7 +56,7 @@ fn with_flushes(alloc: Global, script: &str, flushes: &Flushes) -> Result<String
     Ok(flushed)
 }
 
-/// Leaves the lines of flushes out, which the slow heap has no pages for. Of one that stopped it leaves that.
+/// Leaves out the lines of flushes, since the slow heap has no pages. Of one that stopped it leaves that.
 fn without_flushes(rt: &impl Abort, alloc: Global, output: &[u8]) -> Result<Vec<u8>, AllocError> {
     let text = str::from_utf8(output).unwrap_or("");
     let mut kept = String::new(alloc);
@@ -94,7 +94,7 @@ impl<'a> Flushed<'a> {
         })
     }
 
-    /// Plays it, and leaves the lines of its flushes out.
+    /// Plays it, and leaves out the lines of its flushes.
     fn play(
         &self,
         rt: &impl Abort,
@@ -120,7 +120,7 @@ impl<'a> Flushed<'a> {
         Ok(())
     }
 
-    /// Stops it after so many calls, and then the recovery at each of its own and behind them, which changes nothing. Says whether the first
+    /// Stops it after that many calls, and then the recovery at each of its own and after them, which changes nothing. Returns whether the first
     /// stop came.
     fn stops(
         &self,
@@ -140,7 +140,7 @@ impl<'a> Flushed<'a> {
     }
 }
 
-/// A script, the flushes behind its lines, what a run appends, and how many writes and syncs it makes before that.
+/// A script, the flushes after its lines, what a run appends, and how many writes and syncs it makes before that.
 #[derive(Clone, Copy)]
 struct Stored {
     script: &'static str,
@@ -149,7 +149,7 @@ struct Stored {
     calls: usize,
 }
 
-/// Stops a script with flushes at each of its calls and behind them.
+/// Stops a script with flushes at each of its calls and after them.
 fn check_flushed(rt: &impl Abort, alloc: Global, stored: &Stored, pick: Pick) -> Result<(), Fail> {
     let flushed = Flushed::of(rt, alloc, stored.script, stored.flushes)?;
     flushed.expect_whole(rt, alloc, stored.ending)?;
@@ -268,7 +268,7 @@ fn stored_objects_are_promoted_or_gone_from_filled_bytes(rt: HostRuntime) -> Res
     check_flushed(&rt, rt.alloc(), &PROMOTED, Pick::AllOpen)
 }
 
-/// Four pages, behind some lines.
+/// Four pages, after some lines.
 const FOUR_PAGES: Flushes = ["", "flush 0\n", "flush 1\nflush 2\n", "", "flush 3\n"];
 
 /// Plays drawn scripts of these sessions with flushes and without a stop.

@@ -57,7 +57,7 @@ fn image_of(rt: &impl Abort, alloc: Global, runs: &[Run]) -> Result<Vec<u8>, Fai
 
 const FORMATTED: Run = (SMALL_FORMAT_LINE, "", Status::Done, "formatted 67712\n");
 
-/// The smallest logs. What is refused leaves room for the end of each transaction, which is told to the byte, and so each one ends.
+/// The smallest logs. What is refused leaves room for the end of each transaction, which is computed to the byte, and so each one ends.
 const FULL_LOG_RUNS: [Run; 4] = [
     ("heap format 1 128 1", "", Status::Done, "formatted 2304\n"),
     (
@@ -143,7 +143,7 @@ fn a_heap_is_made_played_on_and_printed(rt: HostRuntime) -> Result<(), Fail> {
     Ok(())
 }
 
-/// Runs on one heap whose page is stored with a write that is never sealed, and then behind commits: each by each pick.
+/// Runs on one heap whose page is stored with a write that is never sealed, and then after commits: each by each pick.
 const STORED_RUNS: [Run; 7] = [
     (
         "heap play --stop 8",
@@ -197,7 +197,7 @@ const COMMITTED_RUNS: [Run; 2] = [
     ),
 ];
 
-/// A loser is left in the log: a fault ends a run behind its force.
+/// A loser is left in the log: a fault ends a run after its force.
 const LOSER_RUNS: [Run; 1] = [(
     "heap play",
     "1 begin\n1 root 0\n1 put 0 0 8\nforce\n1 put 0 0 9\nforce\n",
@@ -215,7 +215,7 @@ fn heap_with_a_loser(rt: &impl Abort, alloc: Global) -> Result<Vec<u8>, Fail> {
     )
 }
 
-/// Runs that are stopped in their opening, and once more in the one behind it.
+/// Runs that are stopped in their opening, and again in the one after it.
 const CUT_OFF: [Run; 4] = [
     ("heap play --stop 0", ONE_COMMIT, Status::Done, TAKEN_BACK),
     ("heap play --stop 1", ONE_COMMIT, Status::Done, TAKEN_BACK),
@@ -281,7 +281,7 @@ fn spoiled(alloc: Global, image: &[u8], changes: &[Change]) -> Result<Vec<u8>, A
     Ok(bytes)
 }
 
-/// What changes of a small heap's image come to: the gate of the superblock, its letters, its limits, then an open batch of no bytes behind which a
+/// What changes of a small heap's image lead to: the gate of the superblock, its letters, its limits, then an open batch of no bytes after which a
 /// gate is open that has no batch, the gate of a frame of the first page, in which no root stands, a batch that breaks off, and a page that is
 /// ahead of the log.
 const SPOILED: [(&[Change], Status); 11] = [
@@ -362,7 +362,7 @@ fn step(rt: &impl Abort, heap: &mut Heap<MemoryDisk>, event: Event) -> Result<Re
     heap.step(event)
 }
 
-/// A step behind the fifth entry tells it.
+/// A step after the fifth entry reports it.
 fn expect_failed(rt: &impl Abort, alloc: Global, disk: MemoryDisk) -> Result<(), Fail> {
     let Ok(mut heap) = Heap::open(alloc, disk) else {
         panic!(rt; "not opened");

@@ -32,7 +32,7 @@ fn load_on(
     run_failing(alloc, line, b"no script", disk, (Some(1), None))
 }
 
-/// Runs a command line on a new disk of so many bytes, which prints a summary.
+/// Runs a command line on a new disk of that many bytes, which prints a summary.
 fn expect_summary(
     rt: &impl Abort,
     alloc: Global,
@@ -51,7 +51,7 @@ fn expect_summary(
 const MANY_ROUNDS: &str =
     "load 1 2000\nevents 18218\nsealed 1749\naborted 251\nrefused 109\ncollected 124\nobjects 8\n";
 
-/// Loads on new disks of so many bytes, of which the last two are equal.
+/// Loads on new disks of given sizes, of which the last two are equal.
 const LOADS: [(usize, &str, &str); 4] = [
     (SMALL_DISK, "heap load 1 2 --fresh 1", TWO_ROUNDS),
     (SMALL_DISK, "heap load 1 0 --fresh 1", NO_ROUND),
@@ -92,7 +92,7 @@ fn a_failing_call_ends_a_load_without_a_summary(rt: HostRuntime) -> Result<(), F
     expect_failing(&rt, rt.alloc(), ALL_CALLS + 1, (Status::Done, TWO_ROUNDS))
 }
 
-/// Runs a command line on a disk that passes so many writes and syncs and then stops, and gives the disk back as it is after a restart.
+/// Runs a command line on a disk that passes that many writes and syncs and then stops, and returns the disk as it is after a restart.
 fn load_stopped(
     alloc: Global,
     disk: MemoryDisk,
@@ -114,7 +114,7 @@ const LOST: &str = "graph 1\n0: - - - -\n";
 
 const KEPT: &str = "graph 2\n0: - - - @1\n1: 2 - -\n";
 
-/// What comes of a load behind a stop after so many calls, and which graph is there then.
+/// How a load ends with a stop after that many calls, and which graph is there then.
 fn check_stopped(
     rt: &impl Abort,
     alloc: Global,

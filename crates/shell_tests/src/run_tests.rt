@@ -59,7 +59,7 @@ const PLAYS: [(&str, &str, &str); 17] = [
         "3 begin -> begun 1\n1 begin -> begun 2\n2 begin -> begun 3\n3 new 0 1 -> done\n2 root 0 -> done\n2 put 0 0 4 -> done\n",
         "1 abort -> aborted\n2 abort -> aborted\n3 abort -> aborted\nforce -> durable 0\ngraph 1\n0: - - - -\n",
     ),
-    // A write gives way to a reader.
+    // A writer is refused while a reader holds the object.
     (
         "1 begin\n1 root 0\n1 get 0 0 1\n2 begin\n2 root 0\n2 put 0 0 5\n1 abort\n2 put 0 0 5\n2 commit\n",
         "1 begin -> begun 1\n1 root 0 -> done\n1 get 0 0 1 -> null\n2 begin -> begun 2\n2 root 0 -> done\n2 put 0 0 5 -> busy 1\n1 abort -> aborted\n2 put 0 0 5 -> done\n2 seal -> sealed 1\nforce -> durable 1\n",
@@ -92,7 +92,7 @@ const PLAYS: [(&str, &str, &str); 17] = [
         "1 root 0 -> notactive\n1 begin -> begun 1\n1 begin -> alreadyactive\n1 root 64 -> badhandle\n1 root 0 -> done\n1 put 9 4 4611686018427387904 -> badhandle\n1 put 0 4 4611686018427387904 -> range\n1 put 0 4 1 -> badfield\n1 new 1 511 -> range\n1 len 0 -> len 4\n1 drop 0 -> done\n1 len 0 -> badhandle\nflush 2 -> nosuchpage\nflush 1 -> clean 1\n1 root 0 -> done\n1 put 0 3 4611686018427387903 -> done\n1 seal -> sealed 1\nforce -> durable 1\n",
         "graph 1\n0: - - - 4611686018427387903\n",
     ),
-    // Flushes of pages that there are and of others, on a heap of two pages, before and behind a write into the first.
+    // Flushes of pages that exist and of others, on a heap of two pages, before and after a write into the first.
     (
         "flush 0\nflush 18446744073709551615\nflush 4294967296\n1 begin\n1 root 0\n1 put 0 0 7\nflush 2\nflush 1\nflush 0\nflush 0\n1 clear 0 0\nflush 0\n1 commit\nflush 0\n",
         "flush 0 -> clean 0\nflush 18446744073709551615 -> nosuchpage\nflush 4294967296 -> nosuchpage\n1 begin -> begun 1\n1 root 0 -> done\n1 put 0 0 7 -> done\nflush 2 -> nosuchpage\nflush 1 -> clean 1\nflush 0 -> flushed 0\nflush 0 -> clean 0\n1 clear 0 0 -> done\nflush 0 -> flushed 0\n1 seal -> sealed 1\nforce -> durable 1\nflush 0 -> clean 0\n",
@@ -201,7 +201,7 @@ fn a_stop_in_a_force_leaves_its_commits_or_not(rt: HostRuntime) -> Result<(), Fa
 
 const NONE_LEFT: &str = "recovered 0\ngraph 1\n0: - - - -\n";
 
-/// A transaction that is forced while it is active is taken back by the opening, and where that is stopped by the next one.
+/// A transaction that is forced while it is active is taken back by the opening, and if that is stopped by the next one.
 const FORCED: Stopped = Stopped {
     script: FORCED_INSIDE,
     lines: FORCED_INSIDE_LINES,
@@ -222,7 +222,7 @@ const FORCED_INSIDE: &str = "1 begin\n1 root 0\n1 put 0 0 7\nforce\n";
 const FORCED_INSIDE_LINES: &str =
     "1 begin -> begun 1\n1 root 0 -> done\n1 put 0 0 7 -> done\nforce -> durable 0\n";
 
-/// A reference to a volatile object is stored with its page, and the run stops behind that.
+/// A reference to a volatile object is stored with its page, and the run stops after that.
 const VOLATILE: Stopped = Stopped {
     script: "1 begin\n1 root 0\n1 new 1 1\n1 link 0 0 1\nforce\nflush 0\n",
     lines: "1 begin -> begun 1\n1 root 0 -> done\n1 new 1 1 -> done\n1 link 0 0 1 -> done\nforce -> durable 0\nflush 0 -> flushed 0\n",
@@ -246,7 +246,7 @@ const LOSERS_DURABLE: &str =
     "force -> durable 1\nrecovered 1\ngraph 4\n0: @1 @2 @3 -\n1: 11\n2: 12\n3: - 13\n";
 
 /// Three objects are committed, and then three transactions of as many sessions write into one of them each, one of them also a reference to
-/// an object that it makes; all of that is forced. The disk stops in that force or behind it, and recovery after so many calls.
+/// an object that it makes; all of that is forced. The disk stops in that force or after it, and recovery after some number of calls.
 const LOSERS: Stopped = Stopped {
     script: "1 begin\n1 root 0\n1 new 1 1\n1 new 2 1\n1 new 3 2\n1 link 0 0 1\n1 link 0 1 2\n1 link 0 2 3\n1 put 1 0 11\n1 put 2 0 12\n1 put 3 1 13\n1 commit\n2 begin\n1 begin\n3 begin\n2 root 0\n1 root 0\n3 root 0\n2 get 0 0 1\n1 get 0 1 1\n3 get 0 2 1\n3 put 1 0 33\n2 put 1 0 22\n1 put 1 0 21\n2 put 1 0 23\n3 new 2 1\n3 link 1 1 2\nforce\n",
     lines: "1 begin -> begun 1\n1 root 0 -> done\n1 new 1 1 -> done\n1 new 2 1 -> done\n1 new 3 2 -> done\n1 link 0 0 1 -> done\n1 link 0 1 2 -> done\n1 link 0 2 3 -> done\n1 put 1 0 11 -> done\n1 put 2 0 12 -> done\n1 put 3 1 13 -> done\n1 seal -> sealed 1\nforce -> durable 1\n2 begin -> begun 2\n1 begin -> begun 3\n3 begin -> begun 4\n2 root 0 -> done\n1 root 0 -> done\n3 root 0 -> done\n2 get 0 0 1 -> ref\n1 get 0 1 1 -> ref\n3 get 0 2 1 -> ref\n3 put 1 0 33 -> done\n2 put 1 0 22 -> done\n1 put 1 0 21 -> done\n2 put 1 0 23 -> done\n3 new 2 1 -> done\n3 link 1 1 2 -> done\n",
@@ -289,8 +289,8 @@ const STOPPED_KEPT: &str = "flush 0 -> stopped\nrecovered 1\ngraph 1\n0: 7 - - -
 
 const STORED: &str = "flush 0 -> flushed 0\nforce -> durable 1\nrecovered 1\ngraph 1\n0: 7 - - -\n";
 
-/// Nothing but a flush forces what is sealed, and the force behind it has nothing to force. The disk stops at each call of the force that the flush
-/// makes, at each call of the store behind it, and at none.
+/// Only a flush forces what is sealed, and the force after it has nothing to force. The disk stops at each call of the force that the flush
+/// makes, at each call of the store after it, and at none.
 const SEALED_AND_STORED: Stopped = Stopped {
     script: "1 begin\n1 root 0\n1 put 0 0 7\n1 seal\nflush 0\nforce\n",
     lines: ONE_SEALED,
@@ -315,15 +315,15 @@ fn a_commit_that_a_flush_forces_comes_back(rt: HostRuntime) -> Result<(), Fail> 
     check_stopped(&rt, rt.alloc(), &SEALED_AND_STORED)
 }
 
-/// A page is written and stored four times, and forced before each of that.
+/// A page is written and stored four times, with a force before each store.
 const FORCED_STORES: &str =
     "1 begin\n1 root 0\n1 put 0 0 1\nforce\nflush 0\n1 put 0 0 2\nforce\nflush 0\n1 put 0 0 3\nforce\nflush 0\n1 put 0 0 4\nforce\nflush 0\n";
 
-/// So is it where the flush has to force.
+/// The same, if the flush has to force.
 const FORCING_STORES: &str =
     "1 begin\n1 root 0\n1 put 0 0 1\nflush 0\n1 put 0 0 2\nflush 0\n1 put 0 0 3\nflush 0\n1 put 0 0 4\nflush 0\n";
 
-/// After how many writes and syncs a stop is before or behind each store of these scripts, and how many stores it leaves: a force makes four calls,
+/// After how many writes and syncs a stop is before or after each store of these scripts, and how many stores it leaves: a force makes four calls,
 /// the first two stores four each, and the others six.
 const STORES_LEFT: [(u64, usize); 8] = [
     (7, 0),
@@ -336,7 +336,7 @@ const STORES_LEFT: [(u64, usize); 8] = [
     (36, 4),
 ];
 
-/// How many stores a play printed that stopped. Its transaction is never sealed, and nothing of it comes back.
+/// How many stores a play that stopped printed. Its transaction is never sealed, and nothing of it comes back.
 fn stores_in(played: &Played) -> Option<usize> {
     let text = str::from_utf8(&played.output).ok()?;
     let (lines, rest) = text.split_once("recovered ")?;
@@ -394,7 +394,7 @@ fn a_bad_script_leaves_the_disk(rt: HostRuntime) -> Result<(), Fail> {
     Ok(())
 }
 
-/// Plays a script on a disk of so many bytes, with streams whose calls of these numbers fail, and says how that ends.
+/// Plays a script on a disk of that many bytes, with streams whose calls of these numbers fail, and compares how that ends.
 fn status_of(
     alloc: Global,
     bytes: usize,

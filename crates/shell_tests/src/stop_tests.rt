@@ -1,5 +1,5 @@
-//! A script played with a stop at each of its device calls, by each pick of a restart: the first commits come back, and
-//! among them all that were acknowledged. What is expected comes from the slow heap, which has no log and no disk.
+//! A script played with a stop at each of its device calls, by each pick of a restart: a commit prefix comes back that
+//! has all that were acknowledged. What is expected comes from the slow heap, which has no log and no disk.
 use crate::playing::{ONE_COMMIT, Played, expect_played, play, same};
 use disk_model::Pick;
 use graph_model::{Entry, Event};
@@ -47,7 +47,7 @@ pub const FORCED_INSIDE: &str =
 const FORCED_AT_END: &str =
     "1 begin\n1 root 0\n1 put 0 0 7\n1 commit\n1 begin\n1 root 0\n1 put 0 0 8\n1 put 0 0 9\nforce\n1 clear 0 0\n";
 
-/// Two objects that refer to each other, then a third one; one is made that nothing refers to, and one is let go.
+/// Two objects that refer to each other, then a third one; one is made that nothing refers to, and one is dropped.
 const OBJECTS: &str =
     "1 begin\n1 root 0\n1 new 1 2\n1 new 2 1\n1 new 3 1\n1 link 0 0 1\n1 link 1 0 2\n1 link 2 0 1\n1 put 3 0 5\n1 commit\n1 begin\n1 root 0\n1 get 0 0 1\n1 get 1 0 2\n1 same 1 2\n1 new 4 1\n1 link 4 0 0\n1 link 1 1 4\n1 clear 2 0\n1 commit\n";
 
@@ -99,7 +99,7 @@ impl<'a> Told<'a> {
     }
 }
 
-/// What a play printed whose disk was started again: the lines of its events, how many commits came back, and the graph.
+/// What a play printed whose disk was restarted: the lines of its events, how many commits came back, and the graph.
 #[derive(Clone, Copy)]
 struct Restarted<'a> {
     lines: &'a str,
@@ -132,7 +132,7 @@ fn acknowledged(lines: &str) -> usize {
         .unwrap_or(0)
 }
 
-/// Whether the lines are the first ones that were told, where the last may be that of a force or a flush that stopped.
+/// Whether the lines are the first of the expected ones, where the last may be that of a force or a flush that stopped.
 fn are_first(lines: &str, told: &str) -> bool {
     if let Some(before) = lines.strip_suffix(FLUSH_STOPPED) {
         return told.starts_with(before);
@@ -158,7 +158,7 @@ fn play_to(alloc: Global, script: &str, pick: Pick, calls: usize) -> Result<Play
     play_by(alloc, line.as_str(), script, pick)
 }
 
-/// Plays the script with a stop after so many calls, and says whether it came and how many commits came back.
+/// Plays the script with a stop after that many calls, and returns whether it came and how many commits came back.
 fn check_stop(
     rt: &impl Abort,
     alloc: Global,
@@ -184,7 +184,7 @@ pub fn check_played(
     Ok((found.lines.ends_with(" -> stopped\n"), found.recovered))
 }
 
-/// Whether the lines are the first ones that were told, and those commits came back that they acknowledge, and no more than they seal.
+/// Whether the lines are the first of the expected ones, and those commits came back that they acknowledge, and no more than they seal.
 fn is_told(told: &Told<'_>, found: Restarted<'_>) -> bool {
     are_first(found.lines, told.lines.as_str())
         && acknowledged(found.lines) <= found.recovered
@@ -199,7 +199,7 @@ fn check_graph(rt: &impl Abort, told: &Told<'_>, found: Restarted<'_>) -> Result
     Ok(())
 }
 
-/// How many commits come back after each stop, of the first call and of each one behind it until none stops.
+/// How many commits come back after each stop, of the first call and of each one after it until none stops.
 fn check_stops(
     rt: &impl Abort,
     alloc: Global,
@@ -281,7 +281,7 @@ fn an_abort_leaves_nothing_in_filled_bytes(rt: HostRuntime) -> Result<(), Fail> 
     check_script(&rt, rt.alloc(), ABORT_BETWEEN, "", FILLED)
 }
 
-/// What a run appends where records wait behind one commit.
+/// What a run appends if records are pending after one commit.
 const ONE_FORCED: &str = "force -> durable 1\n";
 
 #[test]
@@ -321,14 +321,14 @@ const LAST_TWO: [u32; 4] = [31, 32, 31, 32];
 
 pub const ONE: [u32; 4] = [1, 1, 1, 1];
 
-/// How many lines of a script are drawn that is played whole.
+/// How many lines are drawn of a script that is played to its end.
 pub const DRAWN_LINES: usize = 100;
 
 /// A commit of objects for all: each of them is met from the root, and two of them from another one.
 const SHARED: &str =
     "1 begin\n1 root 0\n1 new 1 2\n1 new 2 3\n1 link 0 0 1\n1 link 0 1 2\n1 link 1 1 2\n1 link 2 0 1\n1 commit\n";
 
-/// Begins a transaction, which first reads one of two fields of the root, or none and leaves it to others to write.
+/// Begins a transaction, which first reads one of two fields of the root, or none, so that others can write it.
 fn write_begin(script: &mut String, s: u32, field: u64) -> Result<(), AllocError> {
     writeln!(script, "{s} begin\n{s} root 0")?;
     if field < 2 {
@@ -397,8 +397,8 @@ fn draw_begin(alloc: Global, sessions: [u32; 4]) -> Result<String, AllocError> {
     Ok(script)
 }
 
-/// A script of which so many lines are drawn by a seed: in transactions of these sessions, which are sealed or taken back and forced in
-/// between, objects are made, linked, let go and looked at. Each session has a transaction at its end.
+/// A script of that many lines drawn from a seed: in transactions of these sessions, which are sealed or taken back and forced in
+/// between, objects are made, linked, dropped and compared. Each session has a transaction at its end.
 pub fn draw_script(
     alloc: Global,
     seed: u64,
@@ -472,7 +472,7 @@ fn the_last_drawn_sessions_are_answered_as_by_the_slow_heap(rt: HostRuntime) -> 
     check_whole(&rt, rt.alloc(), LAST_TWO)
 }
 
-/// Sessions, and a seed by which they commit before and behind a force at which two of them are losers, in few forces.
+/// Sessions, and a seed by which they commit before and after a force at which two of them are losers, in few forces.
 type Table = ([u32; 4], u64);
 
 const FOUR_LOSERS: Table = (FOUR, 291);
@@ -482,10 +482,10 @@ const LAST_LOSERS: Table = (LAST_TWO, 306);
 /// How many lines are drawn of a script that is stopped at each of its calls.
 const STOPPED_LINES: usize = 24;
 
-/// The forces of these scripts. Behind the first one there may be losers.
+/// The forces of these scripts. After the first one there may be losers.
 const FORCES: usize = 3;
 
-/// Stops a drawn script at each of these calls, and where there may be losers also the recovery at each of its own.
+/// Stops a drawn script at each of these calls, and if there may be losers also the recovery at each of its own.
 fn check_table(
     rt: &impl Abort,
     alloc: Global,
@@ -512,7 +512,7 @@ fn check_table(
 /// The stops in the first two forces.
 const EARLY: Range<usize> = 0..2 * FORCE_CALLS;
 
-/// Those in the last force, and behind it.
+/// Those in the last force, and after it.
 const LATE: Range<usize> = 2 * FORCE_CALLS..FORCES * FORCE_CALLS + 1;
 
 #[test]
@@ -639,7 +639,7 @@ fn an_open_transaction_is_taken_back_from_filled_bytes(rt: HostRuntime) -> Resul
     check_script(&rt, rt.alloc(), FORCED_AT_END, TAKEN_BACK, FILLED)
 }
 
-/// A recovery that is stopped after so many calls changes nothing of what is printed behind a stop.
+/// A recovery that is stopped after that many calls changes nothing of what is printed after a stop.
 fn expect_same(
     rt: &impl Abort,
     alloc: Global,
@@ -660,7 +660,7 @@ fn expect_same(
     Ok(())
 }
 
-/// Stops the recovery at each of its calls and behind them.
+/// Stops the recovery at each of its calls and after them.
 fn check_again(
     rt: &impl Abort,
     alloc: Global,

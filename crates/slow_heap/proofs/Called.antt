@@ -1,4 +1,4 @@
--- What a call is answered that is not refused.
+-- What a call that is not refused is answered.
 use Rattle.std.proofs.Common.{◌≡◌, ℕ, ◌+◌, Option, None, Some, sym, ap, ◌∙◌}
 use Rattle.graph_model.specs.Graph.{Graph}
 use Rattle.graph_model.specs.declared.event.Event.{Event}

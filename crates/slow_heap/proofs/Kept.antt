@@ -26,18 +26,18 @@ use Rattle.slow_heap.specs.Objects.{graph_of}
 use Rattle.graph_model.proofs.Refusals.Plain.{IsNoFault, account_after-refused}
 use Rattle.slow_heap.specs.SlowHeap.{IsSlowHeap, Leaves, seen_by}
 
--- the objects after so many sealed transactions
+-- the objects after each number of sealed transactions
 abbrev States : Type 0
 States = List (List (Id × List Val))
 
--- one entry more
+-- one more entry
 pub kept_entry : (h new : List Entry) (e : Entry) (next : ℕ) (active : BTreeMap ℕ Transaction) (states : States)
     → new ≡ h ++ e ∷ [] → IsSlowHeap (account_after (account h) e) next active states → IsSlowHeap (account new) next active states
 kept_entry h new e next active states is k =
     let P : Account → Type 0 = λ a. IsSlowHeap a next active states in
     subst P (sym (ap account is ∙ account-append h e)) k
 
--- one refusal more
+-- one more refusal
 pub kept_refused : (a : Account) (next : ℕ) (active : BTreeMap ℕ Transaction) (states : States) (event : Event) (why : Refusal)
     → IsNoFault why → IsSlowHeap a next active states → IsSlowHeap (account_after a (record { event = event; reply = Refused why })) next active states
 kept_refused a next active states event why h k =

@@ -6,7 +6,7 @@ use Rattle.graph_model.specs.Graph.{Graph, fields}
 use Rattle.graph_model.specs.Canon.{with_targets, visit, Shown, shown}
 use Rattle.graph_model.specs.Text.{rows_text}
 
--- what is numbered once it has been gone on from the ith
+-- what is numbered once the visits have continued from the ith
 abbrev pub visited : Graph → ℕ → ℕ → List Id → List Id
 visited g end i ids = visit g (end - i) i (slice_get ids i) ids
 

@@ -23,7 +23,7 @@ impl Model for ActiveTransaction {
 impl ActiveTransaction {
     ghost use Rattle.graph_model.specs.Transaction.{Transaction};
 
-    /// A transaction that has just begun. It takes no memory.
+    /// A transaction that has just begun. Does not allocate.
     pub fn begin(alloc: Global, number: u32) -> ActiveTransaction
         ensures { result ≡ record { number = number; calls = [] } }
     {
@@ -47,7 +47,7 @@ impl ActiveTransaction {
         &self.calls
     }
 
-    /// The same with one call more. It fails only where memory is lacking.
+    /// The same with one more call. It fails only when out of memory.
     pub fn with_call(&self, alloc: Global, call: Event) -> Result<ActiveTransaction, AllocError>
         ensures { IfOk result (λ transaction. transaction ≡ record { number = self.now.number; calls = self.now.calls ++ call ∷ [] }) }
     {

@@ -10,7 +10,7 @@ use crate::objects::Objects;
 use graph_model::{Id, ROOT, Val};
 use std::alloc::{AllocError, Global};
 
-/// The text of the graph of these objects. It fails only where memory is lacking.
+/// The text of the graph of these objects. It fails only when out of memory.
 pub fn canon_text(alloc: Global, objects: &Objects) -> Result<String, AllocError>
     ensures { IfOk result (λ text. string_bytes text ≡ canon_text (canon (graph_of objects.now))) }
 {
@@ -23,7 +23,7 @@ pub fn canon_text(alloc: Global, objects: &Objects) -> Result<String, AllocError
     Ok(text)
 }
 
-/// The names of what is reached from the root, in the order of their numbers. It fails only where memory is lacking.
+/// The names of what is reached from the root, in the order of their numbers. It fails only when out of memory.
 pub fn numbered(alloc: Global, objects: &Objects) -> Result<Vec<Id>, AllocError>
     ensures { IfOk result (λ ids. ids.items ≡ numbered (graph_of objects.now)) }
 {

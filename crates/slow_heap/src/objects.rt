@@ -42,7 +42,7 @@ impl Model for Objects {
 impl Objects {
     ghost use Rattle.slow_heap.specs.Objects.{graph_of};
 
-    /// The root alone, with four null fields. It fails only where memory is lacking.
+    /// The root alone, with four null fields. It fails only when out of memory.
     pub fn new(alloc: Global) -> Result<Objects, AllocError>
         ensures { IfOk result (λ objects. graph_of objects ≡ new_graph) }
     {
@@ -52,7 +52,7 @@ impl Objects {
         Ok(Objects { alloc, objects })
     }
 
-    /// The same objects once more. It fails only where memory is lacking.
+    /// The same objects once more. It fails only when out of memory.
     pub fn copy(&self) -> Result<Objects, AllocError>
         ensures { IfOk result (λ objects. objects ≡ self.now) }
     {
@@ -100,8 +100,8 @@ impl Objects {
         }
     }
 
-    /// An object of that name with `len` null fields is added, in place of one that has the name. It fails only where memory is
-    /// lacking, and then nothing changes.
+    /// An object of that name with `len` null fields is added, in place of one that has the name. It fails only when out of
+    /// memory, and then nothing changes.
     pub fn insert(&mut self, id: Id, len: usize) -> Result<(), AllocError>
         ensures ok { OnOk result (graph_of self.new ≡ insert (graph_of self.old) id (replicate len Null)) }
         ensures err { OnErr result (self.new ≡ self.old) }
@@ -115,7 +115,7 @@ impl Objects {
     }
 
     /// Field `i` of the object of that name has this value. Nothing changes if the object has no such field; where there is no such
-    /// object, it is added with no fields. It fails only where memory is lacking.
+    /// object, it is added with no fields. It fails only when out of memory.
     pub fn set(&mut self, id: Id, i: usize, value: Val) -> Result<(), AllocError>
         ensures { OnOk result (graph_of self.new ≡ with_field (graph_of self.old) id i value) }
     {

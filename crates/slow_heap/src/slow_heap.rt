@@ -22,8 +22,8 @@ use std::marker::Model;
 /// The first number that no transaction has.
 const NO_NUMBER: u32 = u32::MAX;
 
-/// The plain heap of the sessions 1 to 32. It is slow, keeps everything, and answers as it is defined that a heap answers: what a
-/// transaction sees and holds is computed anew each time, by its calls so far on what the sealed ones left. A clause sees it as its
+/// The plain heap of the sessions 1 to 32. It is slow, keeps everything, and answers as a heap is defined to answer: what a
+/// transaction sees and holds is computed anew each time, from its calls so far on what the sealed ones left. A clause sees it as its
 /// history: what it was asked and what it answered, oldest first.
 #[derive(Drop)]
 pub struct SlowHeap {
@@ -33,7 +33,7 @@ pub struct SlowHeap {
     next: u32,
     /// The transaction of each session that has one.
     active: BTreeMap<u32, ActiveTransaction>,
-    /// The objects after so many sealed transactions, from none on.
+    /// The objects after each number of sealed transactions, from none on.
     states: Vec<Objects>,
 }
 
@@ -52,7 +52,7 @@ impl Model for SlowHeap {
 }
 
 impl SlowHeap {
-    /// A new heap. It fails only where memory is lacking.
+    /// A new heap. It fails only when out of memory.
     pub fn new(alloc: Global) -> Result<SlowHeap, AllocError>
         ensures { IfOk result (λ heap. heap ≡ []) }
     {
@@ -76,7 +76,7 @@ impl SlowHeap {
     }
 
     /// The text of the graph after the first `k` sealed transactions, in the order in which they were sealed. It fails only
-    /// where memory is lacking.
+    /// when out of memory.
     pub fn text(&self, k: usize) -> Result<Vec<u8>, AllocError>
         requires { k ≤ length (sealed self.now) }
         ensures { IfOk result (λ text. text.items ≡ canon_text (canon (serial new_graph (take k (sealed self.now))))) }
@@ -86,7 +86,7 @@ impl SlowHeap {
     }
 
     /// The names of the objects that are reached from the root after the first `k` sealed transactions, in the order of their numbers. It fails
-    /// only where memory is lacking.
+    /// only when out of memory.
     pub fn reached(&self, k: usize) -> Result<Vec<Id>, AllocError>
         requires { k ≤ length (sealed self.now) }
         ensures { IfOk result (λ ids. ids.items ≡ numbered (serial new_graph (take k (sealed self.now)))) }
@@ -94,7 +94,7 @@ impl SlowHeap {
         numbered(self.alloc, &self.states[k])
     }
 
-    /// Answers an event of a session from 1 to 32, or of none, and adds it to the history. It fails only where memory is lacking, or
+    /// Answers an event of a session from 1 to 32, or of none, and adds it to the history. It fails only when out of memory, or
     /// where a transaction has made 4,294,967,295 objects and asks for one more, and then nothing changes.
     pub fn step(&mut self, event: Event) -> Result<Reply, AllocError>
         requires { IsOfSession event }
@@ -174,7 +174,7 @@ impl SlowHeap {
         &self.states[self.states.len() - 1]
     }
 
-    // The least of the numbers of those that stand in the way of a lock of transaction `number`, if it needs one.
+    // The least of the numbers of those with a lock that conflicts with one of transaction `number`, if it needs one.
     fn busy_holder(&self, number: u32, lock: Option<ObjectLock>) -> Result<Option<u32>, AllocError>
         ensures { IfOk result (λ holder. holder ≡ busy_holder new_graph (account self.now) number lock) }
     {
@@ -190,7 +190,7 @@ impl SlowHeap {
         Ok(least)
     }
 
-    // The number of the transaction of session `s`, if it has one and that stands in the way.
+    // The number of the transaction of session `s`, if it has one and that holds a conflicting lock.
     fn holder_in_the_way(
         &self,
         s: u32,
@@ -257,7 +257,7 @@ impl SlowHeap {
         Ok(reply)
     }
 
-    // This heap stores no page, and has any that is asked for.
+    // This heap stores no page, and answers a flush of any.
     fn flush(&mut self, p: u64) -> Result<Reply, AllocError>
         ensures reply { IfOk result (λ reply. reply ≡ plain_reply 1 new_graph (account self.old) (Event.Flush p)) }
         ensures entry { IfOk result (λ reply. self.new ≡ self.old ++ (record { event = Event.Flush p; reply = reply }) ∷ []) }

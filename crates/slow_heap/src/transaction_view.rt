@@ -35,7 +35,7 @@ pub struct TransactionView {
 impl TransactionView {
     ghost use Rattle.slow_heap.specs.SlowHeap.{seen_by, Leaves};
 
-    /// A transaction begins where there are these objects. It fails only where memory is lacking.
+    /// A transaction begins on these objects. It fails only when out of memory.
     fn begin(number: u32, objects: &Objects) -> Result<TransactionView, AllocError>
         ensures number { IfOk result (λ view. view.number ≡ number) }
         ensures view { IfOk result (λ view. seen_by view ≡ fresh_view (graph_of objects.now)) }
@@ -48,7 +48,7 @@ impl TransactionView {
         })
     }
 
-    /// A transaction has made its calls where there were these objects. It fails only where memory or a name for an object is lacking.
+    /// A transaction has made its calls on these objects. It fails only when out of memory or of names for objects.
     pub fn run(
         objects: &Objects,
         transaction: &ActiveTransaction,
@@ -71,7 +71,7 @@ impl TransactionView {
         objects
     }
 
-    /// Why a call is refused for what it asks.
+    /// Why a call is refused for what it asks for.
     pub fn refusal(&self, event: Event) -> Option<Refusal>
         ensures { result ≡ view_refusal (seen_by self.now) event }
     {
@@ -167,7 +167,7 @@ impl TransactionView {
         }
     }
 
-    /// Makes a call, whether or not it should be refused. It fails only where memory or a name for an object is lacking.
+    /// Makes a call, whether or not it should be refused. It fails only when out of memory or of names for objects.
     pub fn call(&mut self, event: Event) -> Result<Reply, AllocError>
         ensures { IfOk result (λ reply. Leaves self.old self.new reply (call (seen_by self.old) self.old.number event)) }
     {
@@ -323,8 +323,8 @@ fn new_refusal(h: u64, len: u64) -> Option<Refusal>
     None
 }
 
-/// Whether a transaction, run where there were these objects, stands in the way of a lock that transaction `number` asks for. It fails
-/// only where memory or a name for an object is lacking.
+/// Whether a transaction, run on these objects, holds a lock that conflicts with one that transaction `number` asks for. It fails
+/// only when out of memory or of names for objects.
 pub fn stands_in_the_way(
     objects: &Objects,
     number: u32,

@@ -16,8 +16,8 @@ pub const FRAMES_AT: usize = LOG_AT + LOG_BYTES as usize;
 
 const IMAGE_BYTES: usize = FRAMES_AT + 2_112 * PAGES as usize;
 
-/// Transaction 1 promotes a chain of objects, of which one crosses a page. Transaction 2 writes over a reference, and a flip comes. A scan
-/// copies a part of the chain, and transaction 2 writes again, behind it.
+/// Transaction 1 promotes a chain of objects, of which one crosses a page. Transaction 2 writes over a reference, and a flip follows. A scan
+/// copies a part of the chain, and transaction 2 writes again after it.
 const EVENTS: [Event; 24] = [
     Event::Begin { s: 1 },
     Event::Root { s: 1, h: 0 },
@@ -90,10 +90,10 @@ pub fn collecting_image(rt: &impl Abort, alloc: Global) -> Result<Vec<u8>, Alloc
     disk.contents().to_vec(alloc)
 }
 
-/// The kinds that come wherever words are spoiled.
+/// The kinds that occur wherever words are spoiled.
 const OF_WORDS: [(Kind, bool); 2] = [(Kind::Heap, true), (Kind::Address, true)];
 
-/// Spoils a part of the image. Each has a test of its own, since code that is only tried is slow, and a test has a minute.
+/// Spoils a part of the image. Each has a test of its own, since unproved code is slow, and a test has a minute.
 fn check_part(rt: &impl Abort, alloc: Global, part: &[Part]) -> Result<(), Fail> {
     let image = collecting_image(rt, alloc)?;
     check_parts(rt, alloc, &image, part)

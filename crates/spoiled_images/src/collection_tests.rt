@@ -1,4 +1,4 @@
-//! Records of a collection in an image's last batch: the image is damaged at the record, and at the batch where it is none.
+//! Records of a collection in an image's last batch: the image is damaged at the record, or at the batch if it is no record.
 use crate::images::{ABORTED, LOG_AT, made_image};
 use crate::judging::{Kind, Part, expect, expect_bytes, spoil_parts};
 use crate::reader::Verdict;
@@ -38,7 +38,7 @@ const FLIP: (usize, u64) = (1, 9);
 /// The greatest address.
 const FAR: (usize, u64) = (4, 4_294_967_295);
 
-/// Whole records, none of which may follow. One without its last byte is none.
+/// Whole records, none of which may follow. Without its last byte each is no record.
 const WHOLE: [(&str, Numbers<'static>); 7] = [
     ("copy without fields", &[COPY, (4, 0), FAR, (8, 1), (8, 0)]),
     (
@@ -118,7 +118,7 @@ fn none_follows(rt: HostRuntime) -> Result<(), Fail> {
     Ok(())
 }
 
-/// A record in which a number of so many bytes has one of these values, between others.
+/// A record in which a number of that many bytes has one of these values, between others.
 #[derive(Clone, Copy)]
 struct Filled {
     what: &'static str,
@@ -264,10 +264,10 @@ const THREE: Numbers<'static> = &[
     (1, 10),
 ];
 
-/// Where they end, behind their batch's gate and length.
+/// Where they end, after their batch's gate and length.
 const THREE_END: usize = BATCH_AT + 5 + 101;
 
-/// The last of them, and the gate behind them.
+/// The last of them, and the gate after them.
 const ENDS: [(usize, u8); 2] = [(THREE_END - 1, 10), (THREE_END, 0)];
 
 /// All bytes of their batch, and the next gate.

@@ -6,14 +6,14 @@ use std::alloc::{AllocError, Global};
 use std::process::Abort;
 use std::test::Fail;
 
-/// Where a frame's LSN stands, and where its words begin.
+/// The offset of a frame's LSN, and that of its words.
 const LSN_AT: usize = 8;
 
 const WORDS_AT: usize = 16;
 
 const PAGE_WORDS: usize = 64;
 
-/// A word that no field may hold, nor is it a header.
+/// A word that no field may hold, and that is no header.
 const BAD_WORD: u64 = 4;
 
 const GATES: [u8; 4] = [0, 1, 2, 255];
@@ -97,7 +97,7 @@ const SIX: usize = WORDS_AT + 6 * 8;
 
 const TEN: usize = WORDS_AT + 10 * 8;
 
-/// The kinds that come where a page is used, and where it is of the other space.
+/// The kinds that occur if a page is used, and if it is of the other space.
 const USED: [(Kind, bool); 3] = [
     (Kind::Heap, true),
     (Kind::Page, true),
@@ -171,7 +171,7 @@ fn any_front(
     Ok(())
 }
 
-/// How often each kind comes: four of the LSNs are past the log, which is told where the gate is open.
+/// How often each kind occurs: four of the LSNs are past the log, which is reported if the gate is open.
 const OF_FRONTS: [(Kind, usize); 2] = [
     (Kind::Page, FRAMES * 4),
     (Kind::Heap, FRAMES * (4 * 15 - 4)),
@@ -190,7 +190,7 @@ fn any_gate_before_any_lsn(rt: HostRuntime) -> Result<(), Fail> {
     Ok(())
 }
 
-/// The page has one open frame, with this LSN. In turn each of its words is one that no field may hold: that is found exactly where no record of a
+/// The page has one open frame, with this LSN. In turn each of its words is one that no field may hold: that is found exactly if no record of a
 /// greater number writes the word, and no rollback does.
 fn bad_words(
     rt: &impl Abort,
@@ -208,7 +208,7 @@ fn bad_words(
     Ok(())
 }
 
-/// What comes where the first frame of a page is closed.
+/// What is reported if the first frame of a page is closed.
 fn check_lacks(rt: &impl Abort, alloc: Global, page: usize) -> Result<(), Fail> {
     let mut image = stored_image(rt, alloc)?;
     poke(rt, &mut image, frame_at(page, false), &[0]);

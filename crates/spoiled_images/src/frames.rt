@@ -1,4 +1,4 @@
-//! The pages that lie behind the log, each as the frame that counts has it.
+//! The pages after the log, each as the frame that counts has it.
 use crate::bytes::Cursor;
 use crate::records::{Copied, Record, field_address, forwarding};
 use std::alloc::{AllocError, Global};
@@ -59,7 +59,7 @@ fn counting<'a>(first: Option<Frame<'a>>, second: Option<Frame<'a>>) -> Option<F
 }
 
 impl Pages {
-    /// Reads so many pages, of which each has two frames.
+    /// Reads `count` pages, of which each has two frames.
     pub fn read(alloc: Global, frames: &[u8], count: u32) -> Result<Pages, AllocError> {
         let mut pages = Pages {
             lsns: Vec::new(alloc),
@@ -97,7 +97,7 @@ impl Pages {
         Ok(())
     }
 
-    /// The first page that is ahead of a log of so many records.
+    /// The first page that is ahead of a log of that many records.
     pub fn first_ahead(&self, records: u64) -> Option<usize> {
         self.lsns.iter().position(|lsn| *lsn > records)
     }

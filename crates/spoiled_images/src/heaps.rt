@@ -1,4 +1,4 @@
-//! What the heap makes of events, and what it says of an image.
+//! What the heap makes of events, and how it answers for an image.
 use crate::reader::Verdict;
 use disk_model::{MemoryDisk, Pick};
 use graph_model::{Event, Reply};
@@ -22,7 +22,7 @@ pub fn disk_of(alloc: Global, bytes: &[u8]) -> Result<Disk, AllocError> {
     )
 }
 
-/// Formats a disk for a heap of so many pages a space, with so many bytes for its log.
+/// Formats a disk for a heap of that many pages a space, with that many bytes for its log.
 fn formatted(rt: &impl Abort, disk: Disk, pages: u32, log_bytes: u32) -> Disk {
     assert!(rt; 1 <= pages && pages <= 16_384);
     assert!(rt; 64 <= log_bytes && log_bytes <= 1_073_741_824);
@@ -37,7 +37,7 @@ fn open(alloc: Global, disk: Disk) -> Result<Heap<Disk>, (OpenError, Disk)> {
     Heap::open(alloc, disk)
 }
 
-/// A disk of so many bytes with a new heap of so many pages a space, on which these events were made.
+/// A disk of that many bytes with a new heap of that many pages a space, on which these events were made.
 pub fn played(
     rt: &impl Abort,
     alloc: Global,

@@ -5,7 +5,7 @@ use crate::reader::Verdict;
 use crate::spelling::{Numbers, expect_batches};
 use std::test::Fail;
 
-/// Where a word of the image stands that its pages hold: in the first frame of page 0, or in the second one of page 2.
+/// Where the word of an address stands in the image: in the first frame of page 0, or in the second one of page 2, which hold these pages.
 fn word_at(address: usize) -> usize {
     let words = if address < 128 {
         FRAMES_AT + 16
@@ -24,7 +24,7 @@ const WORDS: [(usize, u64, Verdict); 20] = [
     (6, 4 * 9 + 2, Verdict::Address(6)),
     (9, 4 * 6 + 2, Verdict::Address(9)),
     (9, 4 * 9 + 2, Verdict::Address(9)),
-    // To the copy of another object, of another length, and of its own, which no walk can tell.
+    // To the copy of another object, of another length, and of its own, which no walk can notice.
     (6, 4 * 140 + 2, Verdict::Address(58)),
     (0, 4 * 134 + 2, Verdict::Address(3)),
     (6, 4 * 134 + 2, Verdict::Heap),
@@ -33,7 +33,7 @@ const WORDS: [(usize, u64, Verdict); 20] = [
     (6, 5, Verdict::Address(6)),
     (61, 9, Verdict::Address(61)),
     (61, 4 * 192 + 3, Verdict::Address(61)),
-    // An object takes in the next one, so that what is gray is none.
+    // An object takes in the next one, so that what is gray is no object.
     (140, 4 * 54 + 1, Verdict::Address(192)),
     // Objects of other lengths, and one that is no root.
     (140, 4 * 49 + 1, Verdict::Address(191)),
@@ -63,7 +63,7 @@ const COLLECTED: (usize, u64) = (1, 10);
 
 /// What is appended to the log of 16 records, and what is said of that.
 const RECORDS: [(Numbers<'static>, Verdict); 14] = [
-    // The end, while an object is gray; and behind the scan of its page, with its field led on and as it was.
+    // The end, while an object is gray; and after the scan of its page, with its field updated to the copy and as it was.
     (&[COLLECTED], Verdict::Record(17)),
     (
         &[
@@ -86,7 +86,7 @@ const RECORDS: [(Numbers<'static>, Verdict); 14] = [
     (&[(1, 8), (4, 1), (2, 0)], Verdict::Record(17)),
     (&[(1, 8), (4, 4), (2, 0)], Verdict::Record(17)),
     (&[(1, 8), (4, 4_294_967_295), (2, 0)], Verdict::Record(17)),
-    // Scans that write behind the used words, into the from-space, a reference to it, and a number.
+    // Scans that write past the used words, into the from-space, a reference to it, and a number.
     (
         &[(1, 8), (4, 3), (2, 1), (4, 196), (8, 4 * 134 + 2)],
         Verdict::Record(17),
@@ -123,7 +123,7 @@ const RECORDS: [(Numbers<'static>, Verdict); 14] = [
         ],
         Verdict::Record(17),
     ),
-    // A flip behind the end, of the root alone: what was written in another object does not go along.
+    // A flip after the end, of the root alone: what was written in another object does not move along.
     (
         &[
             (1, 8),

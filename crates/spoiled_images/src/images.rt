@@ -16,7 +16,7 @@ pub const COMMITTED: usize = 176;
 
 pub const ABORTED: usize = 232;
 
-/// The bytes of the log that the events take: three batches, and the closed gate behind them.
+/// The bytes of the log that the events take: three batches, and the closed gate after them.
 pub const USED: usize = 346;
 
 /// What the rollback of the two losers takes, with two writes each.

@@ -8,7 +8,7 @@ use std::test::Fail;
 /// What an image is, for a comparison that fails: a word, a place and a value.
 pub type Case<'a> = (&'a str, usize, u64);
 
-/// What is said of an image is what has to be said.
+/// The verdict on an image is the expected one.
 fn expect_same(rt: &impl Abort, case: Case<'_>, found: [Verdict; 2], want: Verdict) {
     assert_eq!(rt; found, [want, want], "{case:?}");
 }
@@ -64,7 +64,7 @@ fn kind_of(verdict: Verdict) -> Kind {
     }
 }
 
-/// The kinds of the verdicts that came.
+/// The kinds of the verdicts that occurred.
 #[derive(Drop)]
 pub struct Tally {
     kinds: Vec<Kind>,
@@ -77,7 +77,7 @@ impl Tally {
         }
     }
 
-    /// How often a kind came.
+    /// How often a kind occurred.
     fn count(&self, kind: Kind) -> usize {
         self.kinds.iter().filter(|other| **other == kind).count()
     }
@@ -112,7 +112,7 @@ impl Tally {
         Ok(())
     }
 
-    /// These kinds came so often.
+    /// These kinds occurred this often.
     pub fn expect_counts(&self, rt: &impl Abort, counts: &[(Kind, usize)]) {
         for (kind, want) in counts {
             let found = self.count(*kind);
@@ -120,7 +120,7 @@ impl Tally {
         }
     }
 
-    /// These kinds came, or never came.
+    /// These kinds occurred, or never did.
     pub fn expect_kinds(&self, rt: &impl Abort, kinds: &[(Kind, bool)]) {
         for (kind, want) in kinds {
             let came = self.count(*kind) > 0;
@@ -133,7 +133,7 @@ impl Tally {
 #[derive(Clone, Copy)]
 enum Change {
     Fixed(u8),
-    /// That much more, and from 256 on from 0 again.
+    /// Increased by that much, modulo 256.
     Raised(u8),
     /// Other bits where this one has ones.
     Turned(u8),
@@ -178,7 +178,7 @@ fn spoil_byte(
     Ok((spoiled, value))
 }
 
-/// Bytes of an image that are spoiled in turn, from one to before another, and which kinds of verdicts come of that and which never do.
+/// Bytes of an image that are spoiled in turn, from one to before another, and which kinds of verdicts result and which never do.
 #[derive(Clone, Copy)]
 pub struct Part {
     pub bytes: &'static [(usize, usize)],

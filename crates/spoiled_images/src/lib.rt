@@ -2,7 +2,7 @@
 //! slowly. The tests spoil images byte by byte, and compare what the heap answers with what this reading says.
 #![tactic(auto)]
 
-// What reads images here serves the tests alone, so it is proved with them and not once more without them.
+// What reads images here serves only the tests, so it is proved only together with them.
 #[cfg(test)]
 mod bytes;
 #[cfg(test)]

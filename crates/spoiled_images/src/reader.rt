@@ -6,7 +6,7 @@ use crate::state::State;
 use crate::walk::walk_fault;
 use std::alloc::{AllocError, Global};
 
-/// What an image holds: a heap, or what comes first of what is wrong with it, in the order in which an opening looks.
+/// What an image holds: a heap, or the first fault in the order in which an opening looks for them.
 #[derive(Clone, Copy, Debug, PartialEq, Eq)]
 pub enum Verdict {
     /// A heap.
@@ -73,7 +73,7 @@ impl Shape {
 /// The batches of a log.
 #[derive(Drop)]
 enum Batches {
-    /// They take so many bytes, with the closed gate that ends them.
+    /// They take that many bytes, with the closed gate that ends them.
     Whole(usize),
     /// No whole batch stands at this offset.
     Broken(usize),
@@ -126,7 +126,7 @@ fn first_unfit(state: &mut State, records: &[Record]) -> Result<Option<u64>, All
     Ok(None)
 }
 
-/// The numbers of a good superblock, the log, and the frames behind it.
+/// The numbers of a good superblock, the log, and the frames after it.
 fn read_shape(image: &[u8]) -> Option<(Shape, &[u8], &[u8])> {
     let (block, rest) = image.split_at_checked(SUPER_BYTES)?;
     let shape = read_super(block)?;
@@ -137,7 +137,7 @@ fn read_shape(image: &[u8]) -> Option<(Shape, &[u8], &[u8])> {
     Some((shape, log, frames))
 }
 
-/// The numbers of a superblock, which are within their limits and have zeros behind them.
+/// The numbers of a superblock, which are within their limits and followed by zeros.
 fn read_super(block: &[u8]) -> Option<Shape> {
     let (front, zeros) = block.split_at_checked(SUPER_BYTES - SUPER_ZEROS)?;
     let shape = read_numbers(front.strip_prefix(FRONT)?)?;
@@ -182,7 +182,7 @@ fn read_batches(
     Ok(Batches::Broken(last))
 }
 
-/// Adds the records of the batch whose open gate comes first, and gives its size, if it is whole but for the next gate.
+/// Adds the records of the batch whose open gate comes first, and returns its size, if it is whole but for the next gate.
 fn read_batch(
     alloc: Global,
     bytes: &[u8],
@@ -204,7 +204,7 @@ fn read_batch(
     Ok(Some(BATCH_HEAD.saturating_add(body.len())))
 }
 
-/// Adds the record that the bytes begin with, and gives its size.
+/// Adds the record that the bytes begin with, and returns its size.
 fn add_record(
     alloc: Global,
     bytes: &[u8],
@@ -225,7 +225,7 @@ fn batch_body(bytes: &[u8]) -> Option<&[u8]> {
     cursor.rest().get(..length as usize)
 }
 
-/// Whether the log has room for the rollback of so many losers with so many undo entries.
+/// Whether the log has room for the rollback of that many losers with that many undo entries.
 fn has_room(shape: &Shape, used: usize, losers: usize, entries: usize) -> bool {
     rollback_bytes(losers as u64, entries as u64)
         .and_then(|bytes| bytes.checked_add(used as u64))

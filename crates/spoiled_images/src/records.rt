@@ -58,7 +58,7 @@ pub enum Record {
     Collected,
 }
 
-/// An object that is copied: its words, where they stood and where they go.
+/// An object that is copied: its words, its old address and its new one.
 #[derive(Drop)]
 pub struct Copied {
     pub from: u32,
@@ -100,7 +100,7 @@ pub fn is_plain(word: u64) -> bool {
     word == 0 || word % 4 == 1
 }
 
-/// How many fields has the object with this header?
+/// How many fields the object with this header has.
 pub fn fields_of(header: u64) -> Option<u64> {
     if header % 4 == 1 && header / 4 <= MOST_FIELDS {
         Some(header / 4)

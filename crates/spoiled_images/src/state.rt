@@ -23,7 +23,7 @@ fn copy_of(copies: &[Copied], from: u64) -> Option<&Copied> {
 }
 
 impl UndoEntry {
-    /// Lets the entry go along with these copies, if its object is one of them, with that field, and so is what the old word leads to.
+    /// Updates the entry to these copies; false if its object, with that field, or the object that the old word leads to is not among them.
     fn go_along(&mut self, copies: &[Copied]) -> bool {
         let Some(copy) = copy_of(copies, u64::from(self.object)) else {
             return false;
@@ -122,7 +122,7 @@ impl State {
             .saturating_sub(self.end)
     }
 
-    /// Makes what the record does, if it may follow, and says whether it may.
+    /// Applies the record, if it may follow, and returns whether it may.
     pub fn follow(&mut self, record: &Record) -> Result<bool, AllocError> {
         match record {
             Record::Update {
@@ -214,7 +214,7 @@ impl State {
         Ok(true)
     }
 
-    /// Where it makes a part of what the record does and then finds that it may not follow, nothing is asked of the state any more.
+    /// If it applies a part of the record and then finds that it may not follow, the state is not used any more.
     fn flip(&mut self, copies: &[Copied]) -> Result<bool, AllocError> {
         let begins = copies
             .first()

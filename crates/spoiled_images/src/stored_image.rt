@@ -104,7 +104,7 @@ const EVENTS: [Event; 21] = [
     Event::Force,
 ];
 
-/// Which pages are stored, one after another, and behind so many of the log's records.
+/// Which pages are stored, one after another, and after how many of the log's records.
 const STORES: [(usize, u32); 4] = [(3, 0), (2, 1), (8, 0), (6, 1)];
 
 /// The page of the other space that is stored, once, with this LSN.
@@ -153,7 +153,7 @@ fn redo(rt: &impl Abort, alloc: Global, cache: &mut PageCache, records: &[Record
     cache.redo_all(1, records);
 }
 
-/// Stores a page as it is behind the first records of the log.
+/// Stores a page as it is after the first records of the log.
 fn store_page(
     rt: &impl Abort,
     alloc: Global,

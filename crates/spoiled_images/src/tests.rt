@@ -7,20 +7,20 @@ use std::alloc::Global;
 use std::process::Abort;
 use std::test::Fail;
 
-/// Where END is once both objects are promoted.
+/// Where END is after both objects are promoted.
 const END: u32 = 13;
 
 /// The closed gate that ends the log, and the open one of its last batch.
 const GATES: [(usize, u8); 2] = [(LOG_AT + USED - 1, 0), (LOG_AT + ABORTED, 1)];
 
-/// The kinds that come wherever records are spoiled.
+/// The kinds that occur wherever records are spoiled.
 const OF_RECORDS: [(Kind, bool); 3] = [
     (Kind::Heap, true),
     (Kind::Batch, true),
     (Kind::Record, true),
 ];
 
-/// Those that come too where words are.
+/// Those that occur too where words are.
 const OF_WORDS: [(Kind, bool); 5] = [
     (Kind::Heap, true),
     (Kind::Batch, true),
@@ -69,7 +69,7 @@ fn superblock_and_log(rt: HostRuntime) -> Result<(), Fail> {
     check_parts(&rt, rt.alloc(), &image, &PARTS)
 }
 
-/// How often each kind comes, the log having each length. The disk has no byte more than the image takes.
+/// How often each kind occurs, the log having each length. The disk has no byte more than the image takes.
 const CUT: [(Kind, usize); 4] = [
     (Kind::NotHeap, 4 + 2),
     (Kind::Batch, USED - 64),
@@ -134,7 +134,7 @@ fn any_word_is_written(rt: HostRuntime) -> Result<(), Fail> {
     Ok(())
 }
 
-/// The kinds that come where any word is written.
+/// The kinds that occur where any word is written.
 const OF_WRITES: [(Kind, bool); 4] = [
     (Kind::Heap, true),
     (Kind::Batch, true),

@@ -14,7 +14,7 @@ struct Object<'a> {
     fields: &'a [u64],
 }
 
-/// What is found of the row of objects.
+/// The result of walking the row of objects.
 #[derive(Drop)]
 enum Row<'a> {
     Whole(Vec<Object<'a>>),
@@ -44,7 +44,7 @@ pub fn walk_fault(
     Ok(fault.map(|address| address as usize))
 }
 
-/// The same behind the row of the current space, while a collection runs.
+/// The same after the row of the current space, while a collection runs.
 fn collection_fault(
     alloc: Global,
     words: &[u64],
@@ -92,7 +92,7 @@ fn read_row(alloc: Global, words: &[u64], from: u64) -> Result<Row<'_>, AllocErr
     Ok(Row::Whole(objects))
 }
 
-/// The objects of the from-space, to the end of the words: in place of one that was copied stands where it went. What was copied has as many
+/// The objects of the from-space, to the end of the words: for one that was copied, the address of its copy. What was copied has as many
 /// words as were counted.
 fn read_old_row<'a>(
     alloc: Global,
@@ -133,7 +133,7 @@ fn read_old_row<'a>(
     Ok(Row::Whole(olds))
 }
 
-/// How many fields the object has that was copied from there, if a word says so that leads to an object, whose words would end in time.
+/// How many fields the object that was copied from there has, if a word there leads to an object whose words would end in time.
 fn moved_count(words: &[u64], objects: &[Object<'_>], at: u64) -> Option<u64> {
     let to = target(*words.get(at as usize)?)?;
     let object = objects.iter().find(|object| object.address == to)?;

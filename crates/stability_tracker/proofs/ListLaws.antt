@@ -1,4 +1,4 @@
--- Laws of lists of numbers: filters by two tests, and lists that rise.
+-- Laws of lists of numbers: filters by two tests, and lists that ascend.
 use Rattle.std.proofs.Common.{◌≡◌, ℕ, zero, suc, ◌<◌, ◌≤◌, ◌⊎◌, inl, inr, List, [], ◌∷◌, length, Bool, true, false, cond, Some, refl, sym, ap, ◌∙◌, subst, arith, get_or}
 use Rattle.std.specs.Prelude.{slice_get, Contains, filter}
 use Rattle.std.specs.List.{list_any}
@@ -12,7 +12,7 @@ use Rattle.object_layout.proofs.WalkLaws.{Contains-head, Contains-rest, Contains
 
 -- Tests of lists.
 
--- where some element passes a test there is one
+-- if some element passes a test there is one
 pub any_at : (p : ℕ → Bool) (xs : List ℕ) → list_any p xs ≡ true → (i : ℕ) × (x : ℕ) × (slice_get xs i ≡ Some x) × (p x ≡ true)
 any_at p [] is = absurd (cc is)
 any_at p (x ∷ xs) is = elim (or_cases (p x) (list_any p xs) is) [
@@ -20,7 +20,7 @@ any_at p (x ∷ xs) is = elim (or_cases (p x) (list_any p xs) is) [
   | inr later ↦ let found = any_at p xs later in (suc found.0, found.1, found.2, found.3)
 ]
 
--- and the other way round
+-- and conversely
 pub at_any : (p : ℕ → Bool) (xs : List ℕ) (i x : ℕ) → slice_get xs i ≡ Some x → p x ≡ true → list_any p xs ≡ true
 at_any p [] i x is passes = absurd (cc is)
 at_any p (y ∷ xs) zero x is passes = or_left (p y) (list_any p xs) (ap p (same_Some y x is) ∙ passes)
@@ -51,7 +51,7 @@ keep_cases p y xs x true passes (inr behind) is = Contains-rest y (filter p xs) 
 keep_cases p y xs x false fails (inl here) is = let clash = sym fails ∙ ap p here ∙ is in absurd (cc clash)
 keep_cases p y xs x false fails (inr behind) is = behind
 
--- and the other way round
+-- and conversely
 pub Contains-filter : (p : ℕ → Bool) (xs : List ℕ) (x : ℕ) → Contains xs x → p x ≡ true → Contains (filter p xs) x
 Contains-filter p [] x has is = absurd (Contains-none x has)
 Contains-filter p (y ∷ xs) x has is = elim (Contains-cases y xs x has) [
@@ -80,16 +80,16 @@ filter_grows p q (x ∷ xs) more = grown (p x) (q x) (more x) (filter_grows p q 
     grown false true also (inr longer) = inr (omega arith)
     grown false false also rest = rest
 
--- Lists that rise.
+-- Lists that ascend.
 
--- what follows the first is above it
+-- what follows the first is greater
 pub rises_above : (x : ℕ) (xs : List ℕ) (y : ℕ) → IsStrictlyIncreasing (x ∷ xs) → Contains xs y → x < y
 rises_above x xs y rises (k, within, is) =
     let above : x < get_or xs k 0 = below_from_sorted (x ∷ xs) zero (suc k) 0 (sorted_from_strictly_increasing (x ∷ xs) rises) (omega arith) (omega arith) in
     let there = sym (get_or_default_zero xs k y within) ∙ is in
     omega arith
 
--- and rises too
+-- and ascends too
 pub rises_on : (x : ℕ) (xs : List ℕ) → IsStrictlyIncreasing (x ∷ xs) → IsStrictlyIncreasing xs
 rises_on x xs rises = IsStrictlyIncreasing-from_sorted xs (sorted_tail nat_cmp x xs (sorted_from_strictly_increasing (x ∷ xs) rises))
 
@@ -108,7 +108,7 @@ same_rest x xs y ys same rises also z has = elim (Contains-cases y ys z (also z 
   | inr behind ↦ behind
 ]
 
--- two lists that rise and have the same elements are one
+-- two lists that ascend and have the same elements are one
 pub same_rising : (xs ys : List ℕ) → IsStrictlyIncreasing xs → IsStrictlyIncreasing ys → ((x : ℕ) → Contains xs x → Contains ys x) → ((x : ℕ) → Contains ys x → Contains xs x) → xs ≡ ys
 same_rising [] [] one other also back = refl
 same_rising [] (y ∷ ys) one other also back = absurd (Contains-none y (back y (Contains-head y ys)))

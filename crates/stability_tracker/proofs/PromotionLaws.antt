@@ -1,4 +1,4 @@
--- Laws of what is promoted: it is just what is reached.
+-- Laws of promotion: exactly what is reached is promoted.
 use Rattle.std.proofs.Common.{◌≡◌, ℕ, zero, suc, ◌≤◌, ◌⊎◌, inl, inr, List, [], ◌∷◌, length, true, Option, None, Some, refl, sym, ap, ◌∙◌, subst, arith}
 use Rattle.std.specs.Prelude.{slice_get, Contains, filter, ◌||◌}
 use Rattle.std.specs.List.{list_any}
@@ -36,7 +36,7 @@ unfolding reached_in
 reached_start zero area written at has = absurd (Contains-none at has)
 reached_start (suc steps) area written at has = (Contains-from_filter (is_led_to area written (reached_in steps area written)) (starts_of area) at has).0
 
--- what is reached in so many steps is reached
+-- what is reached in a number of steps is reached
 reached_is : (steps : ℕ) (area : AreaState) (written : List ℕ) (at : ℕ) → Contains (reached_in steps area written) at → IsReached area written at
 unfolding reached_in
 reached_is zero area written at has = absurd (Contains-none at has)
@@ -65,7 +65,7 @@ led_more area written fewer more at also is =
           or_right (some_refers at written) (list_any through more) (at_any through more place.0 object.1 place.1 object.3)
     ]
 
--- with each step no less is reached
+-- no step reaches less
 reached_more : (steps : ℕ) (area : AreaState) (written : List ℕ) (at : ℕ) → Contains (reached_in steps area written) at → Contains (reached_in (suc steps) area written) at
 unfolding reached_in
 reached_more zero area written at has = absurd (Contains-none at has)
@@ -75,7 +75,7 @@ reached_more (suc steps) area written at has =
     let kept = Contains-from_filter (is_led_to area written before) (starts_of area) at has in
     Contains-filter (is_led_to area written now) (starts_of area) at kept.0 (led_more area written before now at (reached_more steps area written) kept.1)
 
--- each step reaches an object more, or none does any more
+-- each step reaches a further object, or no later one does
 reached_grows : (steps : ℕ) (area : AreaState) (written : List ℕ)
     → (reached_in (suc steps) area written ≡ reached_in steps area written) ⊎ (suc steps ≤ length (reached_in (suc steps) area written))
 unfolding reached_in
@@ -108,7 +108,7 @@ promoted_again area written = elim (reached_grows area.made area written) [
 
 -- What is promoted.
 
--- only objects of the area are
+-- only objects of the area are promoted
 pub promoted_start : (area : AreaState) (written : List ℕ) (at : ℕ) → Contains (promoted area written) at → Contains (starts_of area) at
 unfolding promoted
 promoted_start area written at has = reached_start area.made area written at has
@@ -122,7 +122,7 @@ led_promoted : (area : AreaState) (written : List ℕ) (at : ℕ) → Contains (
 led_promoted area written at start is =
     subst (λ (xs : List ℕ). Contains xs at) (promoted_again area written) (Contains-filter (is_led_to area written (promoted area written)) (starts_of area) at start is)
 
--- an object is, where a word that was written refers to it
+-- an object is promoted if a word that was written refers to it
 pub promoted_named : (area : AreaState) (written : List ℕ) (i w at : ℕ) → slice_get written i ≡ Some w → meaning w ≡ Some (Volatile at) → Contains (starts_of area) at
     → Contains (promoted area written) at
 promoted_named area written i w at is meant start =
@@ -130,7 +130,7 @@ promoted_named area written i w at is meant start =
     (or_left (some_refers at written) (list_any (λ from. some_refers at (field_words area.words from)) (promoted area written))
     (at_any (λ v. refers at (meaning v)) written i w is (meaning_refers at (meaning w) meant)))
 
--- and where a field of one that is promoted refers to it
+-- and if a field of one that is promoted refers to it
 pub promoted_along : (area : AreaState) (written : List ℕ) (from i w at : ℕ) → Contains (promoted area written) from → slice_get (field_words area.words from) i ≡ Some w
     → meaning w ≡ Some (Volatile at) → Contains (starts_of area) at → Contains (promoted area written) at
 promoted_along area written from i w at has is meant start =
@@ -151,18 +151,18 @@ unfolding reached_in
 reached_increase zero area written = λ k within. absurd (omega arith)
 reached_increase (suc steps) area written = IsStrictlyIncreasing-filter (is_led_to area written (reached_in steps area written)) (starts_of area) (starts_of_increase area)
 
--- they ascend, and none stands there twice
+-- they ascend, each once
 pub promoted_increase : (area : AreaState) (written : List ℕ) → IsStrictlyIncreasing (promoted area written)
 unfolding promoted
 promoted_increase area written = reached_increase area.made area written
 
--- nothing else is such
+-- nothing else is promoted
 pub promoted_one : (area : AreaState) (written xs : List ℕ) → IsStrictlyIncreasing xs → ((at : ℕ) → Contains xs at → IsReached area written at) → ((at : ℕ) → IsReached area written at → Contains xs at)
     → xs ≡ promoted area written
 promoted_one area written xs rises only all =
     same_rising xs (promoted area written) rises (promoted_increase area written) (λ at has. reached_promoted area written at (only at has)) (λ at has. all at (promoted_reached area written at has))
 
--- where no word that was written refers to an object, none is promoted
+-- if no word that was written refers to an object, none is promoted
 pub promoted_none : (area : AreaState) (written : List ℕ) → ((i w at : ℕ) → slice_get written i ≡ Some w → meaning w ≡ Some (Volatile at) → Contains (starts_of area) at → ⊥) → promoted area written ≡ []
 promoted_none area written no_word = sym (promoted_one area written [] (λ k within. absurd (omega arith)) (λ at has. absurd (Contains-none at has)) (λ at reached. absurd (none at reached)))
   where
@@ -179,7 +179,7 @@ reached_alike (suc steps) area written others same =
     let before = reached_alike steps area written others same in
     λ i. filter (λ at. same at i || list_any (λ from. some_refers at (field_words area.words from)) (before i)) (starts_of area)
 
--- where the words that were written refer to the same objects as others, the same objects are promoted
+-- if the words that were written refer to the same objects as others, the same objects are promoted
 pub promoted_alike : (area : AreaState) (written others : List ℕ) → ((at : ℕ) → some_refers at written ≡ some_refers at others) → promoted area written ≡ promoted area others
 unfolding promoted
 promoted_alike area written others same = reached_alike area.made area written others same

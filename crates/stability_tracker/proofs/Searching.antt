@@ -6,7 +6,7 @@ use Rattle.volatile_area.specs.Area.{AreaState}
 use Rattle.stability_tracker.proofs.Reached.{IsReached}
 use Rattle.stability_tracker.specs.Search.{IsNamed}
 
--- Where a search stands that began with the words that were written: what it found is reached, and what does not wait was followed.
+-- The state of a search that began with the words that were written: what it found is reached, and what is no longer waiting was followed.
 pub record IsSearching (area : AreaState) (written found waiting : List ℕ) : Type 0 where
   pub begun : (b : ℕ) → IsNamed area written b → Contains found b
   pub reached : (b : ℕ) → Contains found b → IsReached area written b

@@ -24,7 +24,7 @@ use Rattle.stability_tracker.proofs.PromotionLaws.{reached_promoted, promoted_on
 use Rattle.stability_tracker.specs.Search.{IsNamed, Meets, WereFollowed}
 use Rattle.stability_tracker.proofs.Searching.{IsSearching}
 
--- One key more.
+-- One more key.
 
 inserted_cases : (k y : ℕ) (ys : List ℕ) (x : ℕ) (o : Ordering) → (Contains (insert_key nat_cmp ys k) x → Contains ys x ⊎ (x ≡ k))
     → Contains (match_ordering o (k ∷ y ∷ ys) (y ∷ ys) (y ∷ insert_key nat_cmp ys k)) x → Contains (y ∷ ys) x ⊎ (x ≡ k)
@@ -61,7 +61,7 @@ inserted_there : (xs : List ℕ) (k : ℕ) → Contains (insert_key nat_cmp xs k
 inserted_there [] k = Contains-head k []
 inserted_there (y ∷ ys) k = there_cases k y ys (nat_cmp k y) refl (inserted_there ys k)
 
--- an object was met that was not found before
+-- an object was visited that was not found before
 pub meets_new : (at : ℕ) (found waiting new_found new_waiting : List ℕ) → new_found ≡ insert_key nat_cmp found at → length new_found ≡ length found + 1 → IsStrictlySortedBy nat_cmp new_found
     → new_waiting ≡ waiting ++ at ∷ [] → Meets at found waiting new_found new_waiting
 meets_new at found waiting new_found new_waiting keys more ordered pushed =
@@ -82,7 +82,7 @@ meets_new at found waiting new_found new_waiting keys more ordered pushed =
       rises = λ rises. IsStrictlyIncreasing-from_sorted new_found ordered;
     }
 
--- an object was met that was found before
+-- an object was visited that was found before
 pub meets_old : (at : ℕ) (found waiting new_found : List ℕ) → new_found ≡ found → Contains found at → Meets at found waiting new_found waiting
 meets_old at found waiting new_found same has = record {
   met = subst (λ (xs : List ℕ). Contains xs at) (sym same) has;
@@ -95,7 +95,7 @@ meets_old at found waiting new_found same has = record {
   rises = λ rises. subst IsStrictlyIncreasing (sym same) rises;
 }
 
--- One word more.
+-- One more word.
 
 got_push : (xs : List ℕ) (x i y : ℕ) → slice_get xs i ≡ Some y → slice_get (xs ++ x ∷ []) i ≡ Some y
 got_push [] x i y is = absurd (cc is)
@@ -182,7 +182,7 @@ searching_begins area written found waiting follows = record {
   rises = follows.rises (λ k within. absurd (omega arith));
 }
 
--- and goes on with the fields of an object that waited
+-- and continues with the fields of a waiting object
 pub searching_on : (area : AreaState) (written found waiting : List ℕ) (at : ℕ) (old_waiting new_found new_waiting : List ℕ) → IsSearching area written found old_waiting → old_waiting ≡ waiting ++ at ∷ []
     → WereFollowed area (field_words area.words at) found waiting new_found new_waiting → IsSearching area written new_found new_waiting
 searching_on area written found waiting at old_waiting new_found new_waiting so_far popped follows =
@@ -211,11 +211,11 @@ searching_on area written found waiting at old_waiting new_found new_waiting so_
       rises = follows.rises so_far.rises;
     }
 
--- an object that waited was found
+-- a waiting object was found
 pub popped_found : (area : AreaState) (written found waiting : List ℕ) (at : ℕ) (old_waiting : List ℕ) → IsSearching area written found old_waiting → old_waiting ≡ waiting ++ at ∷ [] → Contains found at
 popped_found area written found waiting at old_waiting so_far popped = so_far.known at (subst (λ (xs : List ℕ). Contains xs at) (sym popped) (Contains-push waiting at))
 
--- where nothing waits all that is reached was found
+-- if nothing is waiting, all that is reached was found
 pub searching_ends : (area : AreaState) (written found waiting : List ℕ) → IsSearching area written found waiting → length waiting ≡ 0 → found ≡ promoted area written
 searching_ends area written found waiting done none = promoted_one area written found done.rises done.reached all
   where
@@ -245,7 +245,7 @@ found_few area written found waiting searching =
     let few = length-filter_le test (starts_of area) in
     omega (arith, ap length same, length-starts_of area)
 
--- where an object was found something is promoted
+-- if an object was found something is promoted
 pub some_promoted : (area : AreaState) (written : List ℕ) (b : ℕ) → IsReached area written b → promoted area written ≡ [] → ⊥
 some_promoted area written b reached none = Contains-none b (subst (λ (xs : List ℕ). Contains xs b) none (reached_promoted area written b reached))
 

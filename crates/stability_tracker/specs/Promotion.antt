@@ -7,7 +7,7 @@ use Rattle.heap_words.specs.Word.{meaning}
 use Rattle.object_layout.specs.Layout.{field_words}
 use Rattle.volatile_area.specs.Area.{AreaState, length_at, starts_of}
 
--- whether a word of this meaning refers to the object of an area that has an index
+-- whether a word of this meaning refers to the object of an area that has that index
 abbrev pub refers : ℕ → Option Word → Bool
 refers at (Some (Volatile index)) = index == at
 refers at meant = false
@@ -20,7 +20,7 @@ some_refers at words = list_any (λ w. refers at (meaning w)) words
 abbrev pub is_led_to : AreaState → List ℕ → List ℕ → ℕ → Bool
 is_led_to area written objects at = some_refers at written || list_any (λ from. some_refers at (field_words area.words from)) objects
 
--- the objects of the area that are reached in at most so many steps, ascending
+-- the objects of the area that are reached in at most that many steps, ascending
 unfoldable pub reached_in : ℕ → AreaState → List ℕ → List ℕ
 reached_in zero area written = []
 reached_in (suc steps) area written = filter (is_led_to area written (reached_in steps area written)) (starts_of area)

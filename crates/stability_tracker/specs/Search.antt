@@ -1,4 +1,4 @@
--- A search for what is reached: what it has found, and of that what it has still to follow.
+-- A search for what is reached: what it has found, and which of that is still to be followed.
 use Rattle.std.specs.Prelude.{◌≡◌, ℕ, ◌+◌, ◌⊎◌, List, length, slice_get, Some, Contains}
 use Rattle.std.specs.List.Sorted.{IsStrictlyIncreasing}
 use Rattle.heap_words.specs.declared.Word.TheVariants.{Volatile}
@@ -9,7 +9,7 @@ use Rattle.volatile_area.specs.Area.{AreaState, starts_of}
 abbrev pub IsNamed : AreaState → List ℕ → ℕ → Type 0
 IsNamed area words at = (i : ℕ) × (w : ℕ) × (slice_get words i ≡ Some w) × (meaning w ≡ Some (Volatile at)) × Contains (starts_of area) at
 
--- An object was met: it is found, and it waits if it was not found before.
+-- An object was visited: it is found, and it is waiting if it was not found before.
 pub record Meets (at : ℕ) (found waiting new_found new_waiting : List ℕ) : Type 0 where
   pub met : Contains new_found at
   pub only : (b : ℕ) → Contains new_found b → Contains found b ⊎ (b ≡ at)
@@ -20,7 +20,7 @@ pub record Meets (at : ℕ) (found waiting new_found new_waiting : List ℕ) : T
   pub counted : length new_found + length waiting ≡ length found + length new_waiting
   pub rises : IsStrictlyIncreasing found → IsStrictlyIncreasing new_found
 
--- Words were followed: each object to which one of them refers was met, and no other.
+-- Words were followed: each object to which one of them refers was visited, and no other.
 pub record WereFollowed (area : AreaState) (words found waiting new_found new_waiting : List ℕ) : Type 0 where
   pub met : (b : ℕ) → IsNamed area words b → Contains new_found b
   pub only : (b : ℕ) → Contains new_found b → Contains found b ⊎ IsNamed area words b

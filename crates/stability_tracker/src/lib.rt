@@ -1,4 +1,4 @@
-//! Which of the objects that a transaction has made its seal promotes.
+//! Which objects of a transaction its seal promotes.
 #![tactic(auto)]
 
 mod search;

@@ -18,7 +18,7 @@ pub(crate) struct Search {
 }
 
 impl Search {
-    /// Nothing was found yet. It takes no memory.
+    /// Nothing was found yet. Does not allocate.
     pub(crate) fn new(alloc: Global) -> Search
         ensures found { result.found.keys ≡ [] }
         ensures waiting { result.waiting.items ≡ [] }
@@ -42,7 +42,7 @@ impl Search {
         Ok(())
     }
 
-    // Meets an object.
+    // Visits an object.
     fn meet(&mut self, at: u32) -> Result<(), AllocError>
         ensures { OnOk result (Meets at self.old.found.keys self.old.waiting.items self.new.found.keys self.new.waiting.items) }
     {

@@ -11,7 +11,7 @@ use volatile_area::Area;
 
 /// The objects that a seal promotes, by their indices, ascending, and how many words they take: those of the volatile area that are
 /// reached from the words of the stable fields that the transaction wrote, `written`, through fields of objects of the area.
-/// It takes memory only where one of these words refers to an object of the area.
+/// Allocates only if one of these words refers to an object of the area.
 pub fn promotion(
     alloc: Global,
     volatile: &Area,
@@ -41,7 +41,7 @@ fn measured(
     ensures need { IfOk result (λ measured. measured.1 ≡ need volatile.now objects.now.keys) }
     ensures free { objects.now.keys ≡ [] → IsOk result }
 {
-    // As many as were made at most, so the sum fits.
+    // At most as many as were made, so the sum fits.
     let made = volatile.made() as usize;
     prove!(objects.len() <= made);
     let mut indices = Vec::new(alloc);

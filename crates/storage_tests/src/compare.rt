@@ -1,4 +1,4 @@
-//! A comparison that tests call, since an assertion of their own takes their proofs longer.
+//! A comparison for tests, since an assertion of their own would make their proofs longer.
 use std::fmt::Debug;
 use std::process::Abort;
 

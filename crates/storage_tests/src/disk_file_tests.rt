@@ -1,4 +1,4 @@
-//! A real file: bytes that come back, zeros behind its end, and what can't be opened.
+//! A real file: bytes that come back, zeros past its end, and what can't be opened.
 ghost use Rattle.std.specs.Prelude.{◌+◌, ◌≤◌};
 
 use crate::compare::same;
@@ -47,7 +47,7 @@ fn asked(disk: &mut RealDisk) -> Asked {
     (disk.is_in_use(), bytes_at(disk, 9), disk.sync())
 }
 
-/// What a second disk of the file is answered, what this one is then, and what the second one is once this one is let go; and
+/// What a second disk of the file is answered, what this one is then, and what the second one is after this one is dropped; and
 /// whether the file is in use for a third one then.
 fn shared(rt: &HostRuntime, mut disk: RealDisk) -> Result<([Asked; 3], bool), Fail> {
     let mut other = disk_of(rt, PATH)?;

@@ -1,4 +1,4 @@
-//! Tries of the disk in memory and of the fuse, and a caller that is proved by the disk's clauses alone.
+//! Tests of the disk in memory and of the fuse, and a caller that is proved from the disk's clauses alone.
 ghost use Rattle.std.specs.Prelude.{◌≡◌, ℕ, ◌+◌, ◌<◌, ◌≤◌, List, length, IsTrue, OnOk, IfOk};
 ghost use Rattle.disk_model.specs.Disk.{Torn, Only};
 ghost use Rattle.disk_model.specs.Keeps.{KeepsDisk, OnlyReads};
@@ -43,7 +43,7 @@ fn byte_at<D: Disk>(disk: &mut D, at: u64) -> Result<u8, DiskError>
     Ok(byte[0])
 }
 
-/// A disk of six bytes whose record has room for so many bytes. The listed writes and syncs fail, and the listed reads.
+/// A disk of six bytes whose record has room for that many bytes. The listed writes and syncs fail, and the listed reads.
 fn disk_of_six(
     alloc: Global,
     pick: Pick,
@@ -134,7 +134,7 @@ static CASES: [Case; 13] = [
         [10, 21, 32, 33, 44, 15],
         [10, 21, 22, 13, 14, 15],
     ),
-    // A record that is full has writes alone fail.
+    // When the record is full only writes fail.
     (
         (Pick::Newest, 65, &[]),
         [FAILED, DONE, FAILED, DONE],
@@ -206,7 +206,7 @@ fn a_listed_read_fails(rt: HostRuntime) -> Result<(), Fail> {
     Ok(())
 }
 
-/// After how many calls a fuse stops, what is answered, what a read is answered behind a restart, and how many calls passed.
+/// After how many calls a fuse stops, what is answered, what a read is answered after a restart, and how many calls passed.
 type Fuse = (u64, [Result<(), DiskError>; 4], Result<u8, DiskError>, u64);
 
 const FUSES: [Fuse; 5] = [

@@ -8,7 +8,7 @@ use counts::Count;
 use disk_model::{Disk, DiskError};
 use gate_slot::{close_gate, fill_and_open};
 
-/// Eight bytes that tell nothing. They stop once `left` writes and syncs are done.
+/// Eight bytes that are not modelled. They stop once `left` writes and syncs are done.
 #[derive(Drop)]
 struct Stopping {
     bytes: [u8; 8],
@@ -86,7 +86,7 @@ impl Disk for Stopping {
     ghost same_size = { Prim.search rules };
 }
 
-/// A disk that stops after so many calls, and has this gate.
+/// A disk that stops after that many calls, and has this gate.
 fn make_stopping(left: u8, gate: u8) -> Stopping {
     Stopping {
         bytes: [9, gate, 9, 9, 9, 9, 9, 9],

@@ -41,7 +41,7 @@ fn make_disk(alloc: Global, bytes: Vec<u8>, fail_reads: &[u64]) -> Result<Memory
     )
 }
 
-/// Opens the log of so many bytes that lies behind four others.
+/// Opens the log of that many bytes, which follows four others.
 fn open(
     rt: &impl Abort,
     alloc: Global,
@@ -145,7 +145,7 @@ fn records_appended_together_are_one_batch(rt: HostRuntime) -> Result<(), Fail> 
 }
 
 /// The log of `FORCED` with one byte changed: the byte's place, what it is now, and how many records are found or where the
-/// batch rule fails. The gate behind the batch lies at offset 37 of the log, where no length fits any more.
+/// batch rule fails. The gate after the batch lies at offset 37 of the log, where no length fits any more.
 const CHANGED: [(usize, u8, Result<usize, LogError>); 7] = [
     (4, 2, Ok(0)),
     (41, 2, Ok(2)),

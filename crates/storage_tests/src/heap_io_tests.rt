@@ -7,7 +7,7 @@ use heap_io::{
 use std::alloc::{AllocError, Global};
 use std::test::Fail;
 
-// How many bytes come of a stream of `len`, of which one call fails.
+// How many bytes are read of a stream of `len`, of which one call fails.
 fn read_all(
     alloc: Global,
     len: usize,
@@ -22,7 +22,7 @@ fn read_all(
     }
 }
 
-/// How long a stream is, which of its calls fails, how many bytes are taken at most, and what comes of it. The third call of a
+/// How long a stream is, which of its calls fails, how many bytes are taken at most, and the result. The third call of a
 /// long one and the second of a short one find the end.
 type Read = (usize, u64, usize, Result<usize, TakeAllError>);
 
@@ -49,7 +49,7 @@ fn reads_a_stream_to_its_end(rt: HostRuntime) -> Result<(), Fail> {
     Ok(())
 }
 
-/// What each call answers, and the two bytes behind it.
+/// What each call answers, and the two bytes after it.
 const TAKEN: [(Result<usize, SourceFailed>, [u8; 2]); 6] = [
     (Ok(2), *b"ab"),
     (Err(SourceFailed), *b"ab"),
@@ -71,7 +71,7 @@ fn a_source_fails_in_mid_stream_and_goes_on(rt: HostRuntime) -> Result<(), Fail>
     Ok(())
 }
 
-/// What is put, the answer, and what the sink has then. Its second call fails, and it is full behind four bytes.
+/// What is put, the answer, and what the sink has then. Its second call fails, and it is full after four bytes.
 const PUT: [(&[u8], Result<(), SinkFailed>, &[u8]); 3] = [
     (b"ab", Ok(()), b"ab"),
     (b"cdef", Err(SinkFailed), b"ab"),

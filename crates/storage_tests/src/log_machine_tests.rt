@@ -13,11 +13,11 @@ use std::test::Fail;
 /// The greatest number that a transaction can have.
 const LAST: u32 = 4_294_967_294;
 
-/// What stands behind a record: how many writes of transactions 2 and 3 may be taken back, the commits, the next transaction's
+/// The state after a record: how many writes of transactions 2 and 3 may be taken back, the commits, the next transaction's
 /// number, and the bytes that are kept.
 type Behind = (usize, usize, u64, u32, u64);
 
-/// A record, whether it can follow those before it, and what stands behind it.
+/// A record, whether it can follow those before it, and the state after it.
 type Step = (Record, bool, Behind);
 
 fn steps() -> [Step; 18] {
@@ -74,7 +74,7 @@ fn undo(t: u32, field: u16, word: u64) -> Record {
     }
 }
 
-// Each test leaves what it looks at to functions of few lines, since a function's proof takes the square of its length.
+// Each test leaves its comparisons to functions of few lines, since a function's proof takes the square of its length.
 
 /// Takes the record if it can follow.
 fn take(rt: &impl Abort, alloc: Global, state: &mut LogState, record: &Record) -> bool {
@@ -125,12 +125,12 @@ fn nothing_is_kept_before_the_first_record(rt: HostRuntime) -> Result<(), Fail> 
 }
 
 /// A `Base` for the table below: its address, the two halves of its birth, how many fields it has and the word of each of them;
-/// whether it can follow those before it, as a record of transaction 3; and how many words are used behind it.
+/// whether it can follow those before it, as a record of transaction 3; and how many words are used after it.
 type Promotion = (u32, u32, u32, u32, u64, bool, u32);
 
-/// An object of two fields comes to stand in a space of one page, and one of 52, which takes all that is left. At an address
-/// beside the next free one, with another transaction's birth, with index 0, with references to volatile objects, and where no
-/// room is left, none can.
+/// An object of two fields is put into a space of one page, and one of 52, which takes all that is left. At an address
+/// other than the next free one, with another transaction's birth, with index 0, with references to volatile objects, and without
+/// room for it, none can be.
 static PROMOTIONS: [Promotion; 13] = [
     (7, 3, 1, 2, 2, false, 6),
     (5, 3, 1, 2, 2, false, 6),

@@ -50,7 +50,7 @@ const PLAIN: [(Record, &[u8]); 8] = [
     (Record::Collected, &[10]),
 ];
 
-/// An object's words, where it stood, if it did, and where it stands.
+/// An object's words, its old address, if it had one, and its address.
 type Object = (u32, u32, &'static [u64]);
 
 /// A record with words, as a table can have it.
@@ -62,7 +62,7 @@ enum Listed {
 }
 
 /// Records with words, and their bytes. The second object of transaction 1, of two fields, one null and one a reference to the
-/// root, comes to stand at address 262; an object without fields is of a number that no transaction has; the object of two
+/// root, is put at address 262; an object without fields is of a number that no transaction has; the object of two
 /// fields, the first of which refers to a transaction's own object, is copied from address 262 to 64; two words of page 1 are
 /// set, one to a reference to the object at address 68, the other to null; and an object without fields and one of a field are
 /// copied, to addresses 64 and 66. The bytes of the first `Base` stand in `docs/FORMATS.md` too.
@@ -218,7 +218,7 @@ fn refused(rt: &impl Abort, alloc: Global, bytes: &[u8]) -> Result<(), AllocErro
     Ok(())
 }
 
-/// Spells a record, compares the bytes, and spells it once more behind them.
+/// Spells a record, compares the bytes, and spells it once more after them.
 fn spell(
     rt: &impl Abort,
     alloc: Global,
@@ -233,7 +233,7 @@ fn spell(
     Ok(spelled)
 }
 
-/// Spells a record, alone and with bytes behind it, and reads it again.
+/// Spells a record, alone and followed by bytes, and reads it again.
 fn spell_and_read(
     rt: &impl Abort,
     alloc: Global,

@@ -1,4 +1,4 @@
-//! Records on pages some of which are stored as they go on: an opening and redo give what a plain replay gives.
+//! Records on pages some of which are stored in between: an opening and redo give what a plain replay gives.
 ghost use Rattle.std.specs.Prelude.{◌+◌, ◌<◌, length, IfOk};
 ghost use Rattle.log_machine.specs.Effect.{WritesBelow, EachWritesBelow};
 
@@ -137,7 +137,7 @@ fn check_clean(rt: &impl Abort, cache: &PageCache, p: u32) {
     same(rt, cache.dirty(p), false);
 }
 
-/// Puts a record behind so many others on pages that are not ahead of it.
+/// Puts a record on pages that are not ahead of it, after that many others.
 fn apply(rt: &impl Abort, cache: &mut PageCache, before: u64, rec: &Record)
     requires { WritesBelow 256 rec.now }
 {
@@ -155,7 +155,7 @@ fn redo(rt: &impl Abort, cache: &mut PageCache, records: &[Record])
     cache.redo_all(1, records);
 }
 
-/// Stores the pages that are flushed behind so many records.
+/// Stores the pages that are flushed after that many records.
 fn flush_due(
     rt: &impl Abort,
     cache: &mut PageCache,
@@ -171,7 +171,7 @@ fn flush_due(
     Ok(())
 }
 
-/// Puts the records on the pages of the disk one after another, and stores some of these pages as they go on.
+/// Puts the records on the pages of the disk one after another, and stores some of these pages in between.
 fn play(
     rt: &impl Abort,
     alloc: Global,
@@ -229,7 +229,7 @@ fn put(words: &mut [u64], at: usize, word: u64) {
     }
 }
 
-/// Puts a record's words, whatever the pages have.
+/// Puts a record's words, whatever the LSNs of the pages.
 fn replay_one(words: &mut [u64], rec: &Record) {
     match rec {
         Record::Update {
@@ -297,7 +297,7 @@ fn replayed(alloc: Global, records: &[Record]) -> Result<Vec<u64>, AllocError> {
     Ok(words)
 }
 
-/// Plays the records, starts the disk again, and compares what redo gives with the words of a plain replay.
+/// Plays the records, restarts the disk, and compares what redo gives with the words of a plain replay.
 fn check_row(
     rt: &impl Abort,
     alloc: Global,

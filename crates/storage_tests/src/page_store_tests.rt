@@ -7,7 +7,7 @@ use std::alloc::{AllocError, Global};
 use std::process::Abort;
 use std::test::Fail;
 
-/// One page a space, so two pages, behind a log of 64 bytes.
+/// One page a space, so two pages, after a log of 64 bytes.
 const PLAN: Plan = Plan {
     pages: 1,
     log_bytes: 64,
@@ -138,7 +138,7 @@ fn page_of((_, lsn, fill): Frame) -> StoredPage {
     }
 }
 
-/// Compares the pages behind two frames of page 0, and two of page 1 that are not open.
+/// Compares the pages of two frames of page 0, and of two of page 1 that are not open.
 fn check_frames(rt: &impl Abort, alloc: Global, frames: &[Frame; 3]) -> Result<(), Fail> {
     let [first, second, counts] = *frames;
     let bytes = image_of(alloc, [first, second, (0, 9, 51), (255, 9, 51)])?;
@@ -263,7 +263,7 @@ fn go_on(
 /// Where a disk stops, and what its restart leaves.
 type Stop = (u64, Pick);
 
-/// Compares the pages with a plain list, of which one may have been stored; then stores go on.
+/// Compares the pages with a plain list, of which one may have been stored; then more are stored.
 fn check_left(
     rt: &impl Abort,
     alloc: Global,
@@ -281,7 +281,7 @@ fn check_left(
     Ok(())
 }
 
-/// Plays the script on a disk that stops, starts it again, and looks at what is left.
+/// Plays the script on a disk that stops, restarts it, and compares what is left.
 fn check_stop(rt: &impl Abort, alloc: Global, (limit, pick): Stop) -> Result<(), Fail> {
     let mut disk = new_disk(alloc, pick, &[])?;
     let mut pages = pages_on(rt, alloc, &mut disk)?;

@@ -1,4 +1,4 @@
-//! Four threads move money between the accounts of a bank, beside a collector and a flusher. What the accounts have in all never changes.
+//! Four threads move money between the accounts of a bank, beside a collector and a flusher. The total of the accounts never changes.
 ghost use Rattle.std.specs.Prelude.{◌≡◌, ◌<◌, ℕ, All, length, slice_index_or};
 ghost use Rattle.graph_model.specs.History.{IsOfSession, IsSession};
 ghost use Rattle.shared_heap.specs.Shared.{IsPass, MaySend};
@@ -23,7 +23,7 @@ const ACCOUNTS: u64 = 4;
 
 const ROOT: u64 = ACCOUNTS;
 
-/// The fields of an account: what it has, and the session that wrote it last.
+/// The fields of an account: its balance, and the session that wrote it last.
 const MONEY: u64 = 0;
 
 const WRITER: u64 = 1;
@@ -38,10 +38,10 @@ const TRANSFERS: u64 = 25;
 
 const STEPS: u64 = 200;
 
-/// How often an event is made that is answered busy.
+/// How often an event is made while it is answered busy.
 const TRIES: u64 = 100_000;
 
-/// Makes an event, again while it is busy. `None` where it was refused, or memory was.
+/// Makes an event, again while it is busy. `None` if it was refused, or memory ran out.
 fn ask<D: Disk, R: Wait>(
     rt: &R,
     shared: &SharedHeap<D>,
@@ -63,7 +63,7 @@ fn ask<D: Disk, R: Wait>(
     None
 }
 
-/// Holds an account, and locks it by a write. Two sessions that only read it first would be in each other's way when they write.
+/// Holds an account, and locks it by a write. Two sessions that only read it first would conflict when they write.
 fn hold<D: Disk, R: Wait>(
     rt: &R,
     shared: &SharedHeap<D>,
@@ -80,7 +80,7 @@ fn hold<D: Disk, R: Wait>(
     ask(rt, shared, pass, Event::Put { s, h, i, v })
 }
 
-/// Begins a transaction that holds two accounts. All sessions lock them in ascending order, so that none waits for another in a circle.
+/// Begins a transaction that holds two accounts. All sessions lock them in ascending order, so there is no deadlock.
 fn hold_both<D: Disk, R: Wait>(
     rt: &R,
     shared: &SharedHeap<D>,
@@ -98,7 +98,7 @@ fn hold_both<D: Disk, R: Wait>(
     hold(rt, shared, pass, from.max(to))
 }
 
-/// What an account has that is held.
+/// The balance of an account that is held.
 fn money<D: Disk, R: Wait>(
     rt: &R,
     shared: &SharedHeap<D>,
@@ -115,7 +115,7 @@ fn money<D: Disk, R: Wait>(
     }
 }
 
-/// Moves money between accounts. `None` where an event was refused or too little is there: then the transaction is to be aborted.
+/// Moves money between accounts. `None` if an event was refused or the balance is too small: then the transaction is to be aborted.
 fn transfer<D: Disk, R: Wait>(
     rt: &R,
     shared: &SharedHeap<D>,
@@ -135,7 +135,7 @@ fn transfer<D: Disk, R: Wait>(
     ask(rt, shared, pass, Event::Seal { s })
 }
 
-/// A session makes its transfers. Of one that is aborted nothing stays.
+/// A session makes its transfers. One that is aborted leaves nothing.
 fn move_money<D: Disk, R: Wait>(rt: &R, shared: &SharedHeap<D>, pass: &mut Pass<D>)
     requires { IsPass shared.now pass.old × IsSession (label_of pass.old) }
     ensures { IsPass shared.now pass.new × (pass_numbers pass.new ≡ pass_numbers pass.old) }
@@ -150,7 +150,7 @@ fn move_money<D: Disk, R: Wait>(rt: &R, shared: &SharedHeap<D>, pass: &mut Pass<
     }
 }
 
-/// Scans, and begins a collection where none runs.
+/// Scans, and begins a collection if none runs.
 fn collect<D: Disk, R: Wait>(rt: &R, shared: &SharedHeap<D>, pass: &mut Pass<D>)
     requires { IsPass shared.now pass.old × (label_of pass.old ≡ 0) }
     ensures { IsPass shared.now pass.new × (pass_numbers pass.new ≡ pass_numbers pass.old) }
@@ -184,7 +184,7 @@ fn work<D: Disk, R: Wait>(rt: &R, shared: &SharedHeap<D>, pass: &mut Pass<D>)
     }
 }
 
-/// Each pass gets a thread, where one can be made.
+/// Each pass gets a thread, if one can be started.
 fn work_each<D: Disk + Send, R: Threads + Wait + Sync>(
     rt: &R,
     shared: &SharedHeap<D>,
@@ -196,7 +196,7 @@ fn work_each<D: Disk + Send, R: Threads + Wait + Sync>(
     thread::for_each_mut(rt, passes, LABELS.len(), &|_, pass| work(rt, shared, pass));
 }
 
-/// Six threads share a heap. It comes back when all have ended, or where memory was refused.
+/// Six threads share a heap. It comes back when all have ended, or if memory ran out.
 pub fn work_beside<D: Disk + Send, R: Threads + Wait + Sync>(
     rt: &R,
     alloc: Global,
@@ -207,7 +207,7 @@ pub fn work_beside<D: Disk + Send, R: Threads + Wait + Sync>(
     Ok(shared.close(passes))
 }
 
-/// Makes an event on a heap that nobody shares. `None` where it was refused, or memory was.
+/// Makes an event on a heap that nobody shares. `None` if it was refused, or memory ran out.
 fn make<D: Disk>(heap: &mut Heap<D>, event: Event) -> Option<Reply>
     requires { IsOfSession event }
 {
@@ -232,7 +232,7 @@ pub fn open_accounts<D: Disk>(heap: &mut Heap<D>) -> Option<Reply> {
     make(heap, Event::Seal { s })
 }
 
-/// What an account has, in a transaction that holds the root.
+/// The balance of an account, in a transaction that holds the root.
 fn balance<D: Disk>(heap: &mut Heap<D>, account: u64) -> Option<u64> {
     let (s, h, i, h2) = (FIRST_SESSION, ROOT, account, account);
     make(heap, Event::Get { s, h, i, h2 })?;
@@ -243,7 +243,7 @@ fn balance<D: Disk>(heap: &mut Heap<D>, account: u64) -> Option<u64> {
     }
 }
 
-/// What the accounts have in all, read in one transaction.
+/// The total of all balances, read in one transaction.
 pub fn audit<D: Disk>(heap: &mut Heap<D>) -> Option<u64> {
     let s = FIRST_SESSION;
     make(heap, Event::Begin { s })?;

@@ -23,7 +23,7 @@ fn is_collected(entry: &Entry) -> bool {
     matches!(entry.reply, Reply::Collected { .. })
 }
 
-/// Money was moved, a collection ended meanwhile, and the accounts have in all what they had at first.
+/// Money was moved, a collection ended meanwhile, and the total is what it was at first.
 fn expect_kept(rt: &impl Abort, heap: &mut Heap<MemoryDisk>) {
     let collected = heap.history().iter().any(|entry| is_collected(&entry));
     same(rt, (1 < heap.commits(), collected), (true, true));

@@ -10,11 +10,11 @@ use std::sync::Wait;
 use std::test::Fail;
 use std::thread::Threads;
 
-/// Two sessions that write into one object, of which the second one begins another transaction behind that.
+/// Two sessions that write into one object, of which the second one begins another transaction after that.
 const AT_ONCE: &str =
     "1 begin\n1 root 0\n1 put 0 0 5\n1 commit\n2 begin\n2 root 0\n2 put 0 0 6\n2 begin\n2 abort\n";
 
-/// Session 1 has its lock before session 2 begins, and keeps it until session 2 has gone on from its write.
+/// Session 1 has its lock before session 2 begins, and keeps it until session 2 has moved on from its write.
 #[derive(Drop)]
 struct Keeping {
     locked: Sign,
@@ -36,7 +36,7 @@ impl Gate for Keeping {
     }
 }
 
-/// Runs `AT_ONCE` with so many tries, and says whether the workers waited for each other as they have to.
+/// Runs `AT_ONCE` with that many tries, and returns whether the workers waited for each other as they have to.
 fn run_kept<R: Threads + Wait + Sync>(
     rt: &R,
     alloc: Global,

@@ -83,7 +83,7 @@ impl Drawn {
         Ok(())
     }
 
-    /// The lines of the collector: one flip, and at times another one behind its scans.
+    /// The lines of the collector: one flip, and at times another one after its scans.
     fn collector(&mut self) -> Result<(), AllocError> {
         for _ in 0..=self.draw(2) {
             self.script.push_str("flip\n")?;
@@ -121,7 +121,7 @@ pub fn draw_script(alloc: Global, seed: u64) -> Result<String, AllocError> {
     Ok(drawn.script)
 }
 
-/// A number from 1 to 24 of a seed, which the draws of its script don't tell.
+/// A number from 1 to 24 of a seed, which doesn't depend on the draws of its script.
 pub fn draw_call(seed: u64) -> u64 {
     let state = seed.wrapping_add(1).wrapping_mul(6_364_136_223_846_793_005);
     1 + (state >> 33) % 24

@@ -1,4 +1,4 @@
-//! Drawn scripts are played by threads, and what they made alone again: the same is written, and the same bytes are left.
+//! Drawn scripts are played by threads, and then what they made is played alone: the same is written, and the same bytes are left.
 use crate::drawn::{SESSIONS, SHARED, draw_script};
 use crate::playing::{Played, count_lines, expect_again, image_of, run_well, same};
 use heap_program::Status;
@@ -11,7 +11,7 @@ use std::thread::Threads;
 /// How many scripts a test draws: few enough for its minute. Code that is only tried is a hundred times slower.
 const SCRIPTS: u64 = 50;
 
-/// A session gives up soon where another one holds its object.
+/// A session soon gives up if another one holds its object.
 const LINE: &str = "heap threads --tries 3";
 
 /// The run of a seed's script is done, and each of its sessions had a transaction.
@@ -21,7 +21,7 @@ fn check_done(rt: &impl Abort, played: &Played, seed: u64) {
     same(rt, (seed, SESSIONS as usize <= begun), (seed, true));
 }
 
-/// Plays the scripts of as many seeds from this one on.
+/// Plays the scripts of that many seeds from this one on.
 fn check_scripts<R: Threads + Wait + Abort + Sync>(
     rt: &R,
     alloc: Global,

@@ -1,4 +1,4 @@
-//! Drawn scripts on a disk that fails at a drawn call: all lines are written and no graph, and the first commits come back, among them all that were
+//! Drawn scripts on a disk that fails at a drawn call: all lines are written and no graph, and a commit prefix comes back that has all that were
 //! acknowledged.
 use crate::drawn::{SHARED, draw_call, draw_script};
 use crate::playing::{
@@ -25,13 +25,13 @@ const BEFORE: u64 = 1;
 /// The workers of a drawn script but for the one that meets the fault.
 const OTHERS: usize = 9;
 
-/// The entry that a refusal names which comes behind a fault.
+/// The entry that a refusal after a fault names.
 fn failed_entry(line: &str) -> Option<usize> {
     let (_, entry) = line.split_once(" -> failed ")?;
     entry.parse::<usize>().ok()
 }
 
-/// Whether one event met the fault, and each one behind it was answered so.
+/// Whether one event met the fault, and each one after it was answered so.
 fn has_one_fault(text: &str) -> bool {
     let mut fault = None;
     for (place, line) in text.lines().enumerate() {
@@ -45,7 +45,7 @@ fn has_one_fault(text: &str) -> bool {
     fault.is_some()
 }
 
-/// What a run wrote whose disk failed: no graph, and behind the fault at most one line of each other worker.
+/// What a run whose disk failed wrote: no graph, and after the fault at most one line of each other worker.
 fn check_failed(rt: &impl Abort, played: &Played, seed: u64) {
     let text = played.text();
     same(rt, (seed, played.status), (seed, Status::DiskFault));
@@ -97,7 +97,7 @@ fn commits_of(rt: &impl Abort, alloc: Global, disk: MemoryDisk) -> (u64, MemoryD
     (commits, heap.close())
 }
 
-/// Whether the graph of what was left is the one behind so many commits, which a play of the events up to the last of them makes.
+/// Whether the graph of what was left is the one after that many commits, which a play of the events up to the last of them makes.
 fn is_graph_behind<R: Threads + Wait + Sync>(
     rt: &R,
     alloc: Global,
@@ -131,7 +131,7 @@ fn run_faulty<R: Threads + Wait + Sync>(
     run_on(rt, alloc, (LINE, script.as_str()), disk, none, &OpenGate)
 }
 
-/// Looks at what a crash behind a run leaves.
+/// Compares what a crash after a run leaves.
 fn check_left<R: Threads + Wait + Abort + Sync>(
     rt: &R,
     alloc: Global,
@@ -148,7 +148,7 @@ fn check_left<R: Threads + Wait + Abort + Sync>(
     Ok(())
 }
 
-/// Runs a seed's script on a disk that fails at a call, and says whether that call was made.
+/// Runs a seed's script on a disk that fails at a call, and returns whether that call was made.
 fn check_script<R: Threads + Wait + Abort + Sync>(
     rt: &R,
     alloc: Global,
@@ -166,7 +166,7 @@ fn check_script<R: Threads + Wait + Abort + Sync>(
     Ok(failed)
 }
 
-/// Runs the scripts of as many seeds from this one on. Each of them flips, so in the first one the first call is made whatever the order.
+/// Runs the scripts of that many seeds from this one on. Each of them flips, so in the first one the first call is made whatever the order.
 fn check_scripts<R: Threads + Wait + Abort + Sync>(
     rt: &R,
     alloc: Global,

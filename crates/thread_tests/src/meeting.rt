@@ -2,7 +2,7 @@
 use crossbeam_utils::Backoff;
 use std::sync::atomic::{AtomicU64, Ordering};
 
-/// How often a worker looks for a sign before it goes on without it.
+/// How often a worker looks for a sign before it continues without it.
 const LOOKS: u32 = 1_000_000;
 
 /// A sign that one worker gives and another one waits for.
@@ -24,7 +24,7 @@ impl Sign {
         self.given.store(1, Ordering::SeqCst);
     }
 
-    /// Waits until it is given, or goes on without it, so that each test ends.
+    /// Waits until it is given, or continues without it, so that each test ends.
     pub fn wait(&self) {
         let backoff = Backoff::new();
         for _ in 0..LOOKS {
@@ -36,7 +36,7 @@ impl Sign {
         self.missed.store(1, Ordering::SeqCst);
     }
 
-    /// Whether it was given, and nobody went on without it.
+    /// Whether it was given, and nobody continued without it.
     pub fn came(&self) -> bool {
         self.given.load(Ordering::SeqCst) == 1 && self.missed.load(Ordering::SeqCst) == 0
     }

@@ -1,4 +1,4 @@
-//! How the tests run the program on disks in memory, and play again what was printed.
+//! How the tests run the program on disks in memory, and replay what was printed.
 use disk_model::{MemoryDisk, Pick};
 use heap_core::{Heap, OpenError};
 use heap_io::{MemorySink, MemorySource};
@@ -62,7 +62,7 @@ pub fn disk_of(
     MemoryDisk::of(alloc, bytes, pick, RECORD_BYTES, fails, Vec::new(alloc))
 }
 
-/// Runs the program. It has no clause, so that what follows a run has nothing of what is promised of it to prove with.
+/// Runs the program. It has no clause, so that the proofs of its callers don't see what is promised of a run.
 fn run_words<R: Threads + Wait + Sync, G: Gate + Sync>(
     rt: &R,
     alloc: Global,
@@ -79,7 +79,7 @@ fn open(alloc: Global, disk: MemoryDisk) -> Result<Heap<MemoryDisk>, (OpenError,
     Heap::open(alloc, disk)
 }
 
-/// Opens a heap that is there.
+/// Opens the heap on a disk.
 pub fn opened(rt: &impl Abort, alloc: Global, disk: MemoryDisk) -> Heap<MemoryDisk> {
     match open(alloc, disk) {
         Ok(heap) => heap,

@@ -1,4 +1,4 @@
-//! Scripts that are played by threads: sessions run beside each other and a collection, and what they made is played again.
+//! Scripts that are played by threads: sessions and a collection run at the same time, and what they made is replayed.
 use crate::meeting::Sign;
 use crate::playing::{
     FRESH_BYTES, Played, TWO_OBJECTS, count_lines, disk_of, events_of, expect_again, image_of,
@@ -29,7 +29,7 @@ fn script_with_scans(alloc: Global) -> Result<String, AllocError> {
     Ok(script)
 }
 
-/// Whether all was answered as it has to be in each order of the workers' events.
+/// Whether all was answered as it has to be in any order of the workers' events.
 fn check_each(rt: &impl Abort, played: &Played) {
     let text = played.text();
     same(rt, played.status, Status::Done);
@@ -91,7 +91,7 @@ fn run_at<R: Threads + Wait + Sync, G: Gate + Sync>(
 const APART: &str =
     "1 begin\n2 begin\n1 new 0 1\n2 new 0 1\n1 put 0 0 5\n2 put 0 0 6\nflip\nscan\n1 commit\n2 commit\nscan\nforce\n";
 
-/// Where the workers 1 and 2 meet: at turn 2 each waits until the other one has come there.
+/// Where the workers 1 and 2 meet: at turn 2 each waits for the other.
 #[derive(Drop)]
 struct Meeting {
     one: Sign,
@@ -136,7 +136,7 @@ fn two_sessions_meet_and_what_they_made_is_played_again(rt: HostRuntime) -> Resu
     Ok(())
 }
 
-/// Counts how often each worker passes, and how often with another turn than its next one.
+/// Counts how often each worker passes, and how often with a turn other than its next.
 #[derive(Drop)]
 struct Counting {
     turns: Vec<AtomicU64>,
@@ -187,7 +187,7 @@ impl Gate for Counting {
 /// Each worker of `APART` and how many events its lines have.
 const TURNS: [(u32, u64); 4] = [(1, 5), (2, 5), (COLLECTOR, 3), (FLUSHER, 1)];
 
-/// Each worker passed as often, always with its next turn, and no other one passed.
+/// Each worker passed that often, always with its next turn, and no other one passed.
 fn check_turns(rt: &impl Abort, gate: &Counting) {
     for (worker, turns) in &TURNS {
         same(rt, (*worker, gate.turns_of(*worker)), (*worker, *turns));

@@ -1,4 +1,4 @@
-//! Two callers of one heap: what one commits the other is told of, and the history has the events of both.
+//! Two callers of one heap: what one commits the other learns of, and the history has the events of both.
 ghost use Rattle.std.specs.Prelude.{◌≡◌, [], ◌∷◌, IfOk, Some, slice_get, vec_len};
 ghost use Rattle.graph_model.specs.History.{IsSession};
 ghost use Rattle.shared_heap.specs.Callers.{whose};
@@ -171,7 +171,7 @@ fn station<'a>(
     })
 }
 
-// Two sessions in two threads, and whether memory was refused to neither.
+// Two sessions in two threads, and whether neither ran out of memory.
 fn work_beside<R: Threads + Wait + Sync>(
     rt: &R,
     alloc: Global,
@@ -189,7 +189,7 @@ fn work_beside<R: Threads + Wait + Sync>(
     Ok(stations.iter().all(|station| station.end.is_ok()))
 }
 
-// What both have committed is told to a caller that made no call.
+// A caller that made no call learns what both have committed.
 #[test]
 fn two_workers_commit_beside_each_other(rt: HostRuntime) -> Result<(), Fail> {
     let alloc = rt.alloc();

@@ -70,7 +70,7 @@ const LINES_OF_THREADS: [&str; 3] = [
 ];
 
 /// Scripts, the call of their source that fails, and how a run ends that can't read them. The first call gives the script, and the second one says that
-/// it has ended. Of a bad script the first bad line is told.
+/// it has ended. For a bad script the first bad line is reported.
 const UNREAD: [(&str, Option<u64>, Status); 8] = [
     (ONE_EACH, Some(1), Status::ReadFault),
     (ONE_EACH, Some(2), Status::ReadFault),
@@ -164,7 +164,7 @@ fn expect_made<R: Threads + Wait + Abort + Sync>(
     Ok(())
 }
 
-/// A run whose sink failed was refused and wrote no whole graph, and another one is done and did. Says whether it was refused.
+/// A run whose sink failed was refused and wrote no whole graph, and another one is done and did. Returns whether it was refused.
 fn was_refused(rt: &impl Abort, piece: u64, played: &Played) -> bool {
     let text = played.text();
     let refused = played.status == Status::WriteFault;
@@ -178,7 +178,7 @@ fn was_refused(rt: &impl Abort, piece: u64, played: &Played) -> bool {
     refused
 }
 
-/// Runs a script whose output is refused at one piece, and says whether it was.
+/// Runs a script whose output is refused at one piece, and returns whether it was.
 fn check_refused<R: Threads + Wait + Abort + Sync>(
     rt: &R,
     alloc: Global,
@@ -195,7 +195,7 @@ fn check_refused<R: Threads + Wait + Abort + Sync>(
 /// More pieces than the output has.
 const MOST_PIECES: u64 = 100;
 
-/// The same sessions, which seal alone: what they have sealed is forced by the event that ends the run.
+/// The same sessions, which only seal: what they have sealed is forced by the event that ends the run.
 const SEALED: &str =
     "1 begin\n1 root 0\n1 get 0 0 1\n1 put 1 0 5\n1 seal\n2 begin\n2 root 0\n2 get 0 1 1\n2 put 1 0 6\n2 seal\n";
 

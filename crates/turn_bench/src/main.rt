@@ -1,4 +1,4 @@
-//! Times the turns of `turn_lock` beside those of std's `Mutex`, round the same ledger, in one run.
+//! Times the turns of `turn_lock` and those of std's `Mutex`, around the same ledger, in one run.
 #![tactic(auto)]
 
 ghost use Rattle.std.specs.Prelude.{◌≡◌, ◌<◌, ◌≤◌, [], All, length};
@@ -13,10 +13,10 @@ use std::{env, thread};
 use turn_lock::ledger::{Ledger, post_all};
 use turn_lock::{Pass, TurnLock};
 
-// A label for each thread, which nothing looks at.
+// A label for each thread, which nothing reads.
 const LABELS: [u32; 34] = [0; 34];
 
-// How often each is timed, in turn. The sum counts, so that a round in which the threads hardly met is one of several.
+// How often each is timed, alternately. The sum counts, so that a round in which the threads hardly met is one of several.
 const ROUNDS: u32 = 5;
 
 // The numbers that a thread posts.
@@ -28,7 +28,7 @@ fn numbers(alloc: Global, turns: u32) -> Result<Vec<u64>, Error> {
     Ok(all)
 }
 
-// Each pass gets a thread, which posts by it.
+// Each pass gets a thread, which posts with it.
 fn post_each<R: Threads + Wait + Sync>(
     rt: &R,
     lock: &TurnLock<Ledger>,
@@ -41,7 +41,7 @@ fn post_each<R: Threads + Wait + Sync>(
     Ok(())
 }
 
-// Each thread posts by a pass of its own.
+// Each thread posts with a pass of its own.
 fn lock_turns<R: Threads + Wait + Sync>(
     rt: &R,
     alloc: Global,

@@ -50,7 +50,7 @@ module _ {A : Type 0} (g : A → ℕ) where
   total_none [] h = refl
   total_none (x ∷ xs) h = omega (arith, h 0 x refl, total_none xs (λ j v e. h (suc j) v e))
 
-  -- where all others weigh nothing, one weighs all
+  -- if all others count nothing, one counts for all
   pub total_alone : (l : List A) (j : ℕ) (v : A) → get_elem? l j ≡ some v → ((k : ℕ) (u : A) → k ≢ j → get_elem? l k ≡ some u → g u ≡ 0) → total g l ≡ g v
   total_alone [] j v e h = absurd (some-ne-none v (sym e))
   total_alone (x ∷ xs) zero v e h = omega (arith, ap g (some-injective x v e), total_none xs (λ k u at. h (suc k) u (λ d. omega arith) at))

@@ -155,7 +155,7 @@ module _ {T E : Type 0} (entries : T → List E) (stood : T → ℕ) (front : E 
   unchanged : (s : St) → Rule s → (ws : List ℕ) (vs : List V) → ws ≡ s.words → vs ≡ s.views → Rule record { words = ws; homes = s.homes; views = vs }
   unchanged s r ws vs a b = subst (λ (x : List ℕ × List V). Rule record { words = x.0; homes = s.homes; views = x.1 }) (λ i. (sym a i, sym b i)) r
 
-  -- who has the value out is the one whose view says so
+  -- the pass that has the value out is the one whose view says so
   holder : (s : St) (r : Rule s) (id : ℕ) (v : V) → get_elem? s.views id ≡ some v → is_held v.stage ≡ true → (o : Out r.served r.log r.home s.views) × (o.seat ≡ id) × (o.view ≡ v)
   holder s r id v at held = ⊎_elim (λ h. absurd (no_bool (is_held v.stage) held (h.nobody id v at)))
       (λ o. let k = r.knows in let mine = (k.each id v at).turn_is held in let its = (k.each o.seat o.view o.seat_is).turn_is o.held in
@@ -171,7 +171,7 @@ module _ {T E : Type 0} (entries : T → List E) (stood : T → ℕ) (front : E 
   ticket_le : (u : V) → (u.numbers ≡ [] → is_queued u.stage ≡ false) → tickets u ≤ length u.numbers
   ticket_le u h = ⊎_elim (λ none. omega (arith, ap {B = ℕ} (λ b. cond b 1 0) (h none))) (λ some_number. omega (arith, cond_le (is_queued u.stage))) (empty_or u.numbers)
 
-  -- the ticket of a pass that waits is served where its word is the word of turns
+  -- the ticket of a waiting pass is served if its remainder is the word of turns
   served_is : (s : St) (r : Rule s) (id : ℕ) (v : V) → get_elem? s.views id ≡ some v → is_queued v.stage ≡ true → get_or s.words 1 0 ≡ v.ticket % W → v.ticket ≡ r.served
   served_is s r id v at qv hit = let k = r.knows in
       let one_of : tickets_of v.ticket v ≡ 1 = ap (λ b. cond b (one v.ticket v.ticket) 0) qv ∙ one_same v.ticket v.ticket refl in
@@ -270,7 +270,7 @@ module _ {T E : Type 0} (entries : T → List E) (stood : T → ℕ) (front : E 
     idle = f.idle;
   }
 
-  -- what goes back: the history log' is the one that was taken and `more`
+  -- what is put back: the history log' is the one that was taken and `more`
   raises_with : (s : St) (r : Rule s) (id : ℕ) (me : M) (log' more : List E) (empty' k : ℕ) → get_elem? s.views id ≡ some me.0 → me.0.stage ≡ Turn → me.0.first ≡ Some first → log' ≡ r.log ++ more
       → max (fr r.log) k ≡ fr log' → added me.0.seen log' ≡ added r.log log' → StandIn log' (added r.log log')
       → EachOnce (λ n. total (times_at n) s.views + times n (places (added r.log log'))) (stood first) (length log')
@@ -628,7 +628,7 @@ module _ {T E : Type 0} (entries : T → List E) (stood : T → ℕ) (front : E 
         };
       }
 
-  -- What is known of the value once the lock is closed with a pass that has the number of every other.
+  -- What is known of the value once the lock is closed with a pass that has the numbers of all others.
   pub record Ends (v : V) (value : T) : Type 0 where
     pub stood_is : stood value ≡ stood first
     pub follows_is : follows first value

@@ -10,7 +10,7 @@ module _ {E : Type 0} where
   pub begins_longer : (xs ys zs : List E) → IsBeginning xs zs → IsBeginning ys zs → IsBeginning (longer xs ys) zs
   begins_longer xs ys zs a b = elim (Rattle.std.specs.Prelude.nat_lt (length xs) (length ys)) as (λ c. IsBeginning (cond c ys xs) zs) [ true ↦ b | false ↦ a ]
 
-  -- histories that are beginnings of one history are beginnings of one that goes on from it
+  -- prefixes of one history are prefixes of any that continues it
   pub begin_more : (log more log' : List E) → log' ≡ log ++ more → (parts : List (List E)) → AllByRecursion (λ seen. IsBeginning seen log) parts → AllByRecursion (λ seen. IsBeginning seen log') parts
   begin_more log more log' is [] all = tt
   begin_more log more log' is (x ∷ xs) all = (subst (IsBeginning x) (sym is) (begins_more x log more all.0), begin_more log more log' is xs all.1)

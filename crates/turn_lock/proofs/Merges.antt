@@ -1,4 +1,4 @@
--- The turns of two passes, whose places are those of a history, each once, are that history.
+-- The turns of two passes whose places are those of a history, each once, are that history.
 use Rattle.std.proofs.Common.{◌≡◌, ℕ, zero, suc, ◌+◌, ◌-◌, ◌<◌, ◌≤◌, ◌⊎◌, List, [], ◌∷◌, ◌++◌, length, drop, sym, refl, ap, ◌∙◌, subst, inl, inr, ⊎_elim, arith, length-drop, Some, slice_get}
 use mathlib.Core.Logic.{dite}
 use native.Mathlib.Decide.{ℕ_discrete}
@@ -9,12 +9,12 @@ use Rattle.turn_lock.proofs.Lists.{value_or}
 use Rattle.turn_lock.proofs.TurnLaws.{places_append}
 
 module _ {E : Type 0} where
-  -- no place of a list that rises lies below its start
+  -- no place of an ascending list lies below its start
   none_below : (low k : ℕ) (ps : List (ℕ × E)) → Rise low ps → k < low → times k (places ps) ≡ 0
   none_below low k [] r h = refl
   none_below low k (p ∷ ps) r h = omega (arith, one_other k p.0 (λ e. omega (arith, r.0)), none_below (p.0 + 1) k ps r.1 (omega (arith, r.0)))
 
-  -- a list that rises and doesn't begin at its start begins behind it
+  -- an ascending list that doesn't begin at its start begins later
   starts_later : (low : ℕ) (ps : List (ℕ × E)) → Rise low ps → times low (places ps) ≡ 0 → Rise (low + 1) ps
   starts_later low [] r h = tt
   starts_later low (p ∷ ps) r h = (dite (ℕ_discrete low p.0) (λ e. absurd (omega (arith, one_same low p.0 e))) (λ n. omega (arith, r.0)), r.1)
@@ -39,7 +39,7 @@ module _ {E : Type 0} where
     later low z zs ps (weaker (low + 1) (p.0 + 1) ps (omega (arith, r.0)) r.1) h.1,
   )
 
-  -- a list that rises from `low` has no entry there, or begins with it
+  -- a list that ascends from `low` has no entry there, or begins with it
   heads : (low : ℕ) (z : E) (zs : List E) (ps : List (ℕ × E)) → Rise low ps → StandFrom low (z ∷ zs) ps
       → (times low (places ps) ≡ 0)
       ⊎ ((ps' : List (ℕ × E)) × (entries_of ps ≡ z ∷ entries_of ps') × ((k : ℕ) → times k (places ps) ≡ one k low + times k (places ps')) × Rise (low + 1) ps' × StandFrom (low + 1) zs ps')

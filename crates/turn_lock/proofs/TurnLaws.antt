@@ -1,4 +1,4 @@
--- Laws of histories and of the turns that stand in them, for callers that make something of the turns of several passes.
+-- Laws of histories and of the turns that stand in them, for callers that combine the turns of several passes.
 use Rattle.std.proofs.Common.{◌≡◌, ℕ, zero, suc, ◌+◌, ◌<◌, ◌≤◌, List, [], ◌∷◌, ◌++◌, length, drop, sym, refl, ap, ◌∙◌, subst, arith, append_assoc, append-nil, length-append, Some, slice_get}
 use Rattle.std.proofs.lemmas.Option.{none-some}
 use Rattle.turn_lock.specs.Turning.{times, IsBeginning, places, StandIn, placed, added}
@@ -50,7 +50,7 @@ module _ {E : Type 0} where
   within (x ∷ xs) zero e at = omega arith
   within (x ∷ xs) (suc k) e at = omega (arith, within xs k e at)
 
-  -- one turn more, behind all that stand in the history
+  -- one more turn, after all that stand in the history
   pub rise_more : (low : ℕ) (log : List E) (ps : List (ℕ × E)) (e : E) → low ≤ length log → Rise low ps → StandIn log ps → Rise low (ps ++ (length log, e) ∷ [])
   rise_more low log [] e le r h = (le, tt)
   rise_more low log (p ∷ ps) e le r h = (r.0, rise_more (p.0 + 1) log ps e (omega (arith, within log p.0 p.1 h.0)) r.1 h.1)

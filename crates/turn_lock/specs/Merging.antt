@@ -1,4 +1,4 @@
--- What callers make of the turns of several passes.
+-- How callers combine the turns of several passes.
 use Rattle.std.specs.Prelude.{◌≡◌, ℕ, ◌+◌, ◌≤◌, ◌⊎◌, List, [], ◌∷◌, map}
 
 module _ {E : Type 0} where
@@ -6,7 +6,7 @@ module _ {E : Type 0} where
   abbrev pub entries_of : List (ℕ × E) → List E
   entries_of placed = map (λ p. p.1) placed
 
-  -- the places rise, from this one on
+  -- the places ascend, from this one on
   abbrev pub Rise : ℕ → List (ℕ × E) → Type 0
   Rise low [] = Unit {0}
   Rise low (p ∷ ps) = (low ≤ p.0) × Rise (p.0 + 1) ps

@@ -39,7 +39,7 @@ module _ {T E : Type 0} where
   abbrev pub turns_of : Pass T E → ℕ
   turns_of pass = pass.seat.me.0.turns
 
-  -- the greatest front that it knows
+  -- the greatest front that it has seen
   abbrev pub front_of : Pass T E → ℕ
   front_of pass = pass.seat.me.0.front
 
@@ -90,7 +90,7 @@ module _ {T E : Type 0} where
     pub first_is : pass.seat.me.0.first ≡ Some (first_of lock)
     pub number : pass_numbers pass ≢ []
 
-  -- It is the pass with this number and label of a lock that was just made round a value.
+  -- It is the pass with this number and label of a lock that was just made around a value.
   pub record IsNew (lock : TurnLock T E) (number label : ℕ) (log : List E) (pass : Pass T E) : Type 0 where
     pub of_lock : IsPassOf lock pass
     pub resting : IsResting pass

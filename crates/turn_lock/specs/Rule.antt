@@ -1,5 +1,5 @@
 -- The rule of the lock, over the words, the slot and what each pass knows.
--- Word 0 is the number of tickets that were taken, word 1 the number of turns that were passed, both by remainder of 2^64, and word 2 is the front.
+-- Word 0 is the number of tickets that were taken, word 1 the number of turns that were passed, both modulo 2^64, and word 2 is the front.
 use Rattle.std.specs.Prelude.{◌≡◌, ℕ, ◌+◌, ◌-◌, ◌%◌, ◌^◌, ◌<◌, ◌≤◌, ◌⊎◌, Bool, true, false, List, [], ◌∷◌, length, drop, cond, Option, Some}
 use Rattle.std.specs.List.{AllByRecursion}
 use mathlib.Core.Option.{some, none}
@@ -25,7 +25,7 @@ is_held Waiting = false
 is_held Turn = true
 is_held Raised = true
 
--- how many turns the value that goes back has more than the one that was taken
+-- how many more turns the value that is put back has than the one that was taken
 abbrev pub ahead : Stage → ℕ
 ahead Resting = 0
 ahead Waiting = 0
@@ -50,7 +50,7 @@ module _ {T E : Type 0} (entries : T → List E) (stood : T → ℕ) (front : E 
   abbrev pub front_of : List E → ℕ
   front_of log = greatest front (drop (stood first) log)
 
-  -- A value with this history and this count of empty turns has had so many turns, by remainder.
+  -- A value with this history and this count of empty turns has had this many turns, modulo 2^64.
   abbrev pub HasTurns : List E → ℕ → ℕ → Type 0
   HasTurns log empty turns = (length log - stood first + empty) % 2 ^ 64 ≡ turns % 2 ^ 64
 

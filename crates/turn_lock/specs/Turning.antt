@@ -1,11 +1,11 @@
--- Numbers that stand once each, and lists of turns.
+-- Numbers that occur once each, and lists of turns.
 use Rattle.std.specs.Prelude.{◌≡◌, ℕ, zero, suc, ◌+◌, ◌%◌, ◌^◌, ◌<◌, ◌≤◌, ◌⊎◌, ◌==◌, List, [], ◌∷◌, ◌++◌, map, length, max, drop, cond, nat_lt, Some, slice_get}
 
--- 1 where both are the same number, and else 0
+-- 1 if both are the same number, and otherwise 0
 abbrev pub one : ℕ → ℕ → ℕ
 one x y = cond (x == y) 1 0
 
--- how often a number stands in a list
+-- how often a number occurs in a list
 abbrev pub times : ℕ → List ℕ → ℕ
 times x [] = 0
 times x (y ∷ ys) = one x y + times x ys
@@ -50,7 +50,7 @@ module _ {E : Type 0} where
   placed k [] = []
   placed k (e ∷ es) = (k, e) ∷ placed (suc k) es
 
-  -- what a history has behind another one, with its places
+  -- what a history has after another one, with its places
   abbrev pub added : List E → List E → List (ℕ × E)
   added old new = placed (length old) (drop (length old) new)
 
@@ -58,7 +58,7 @@ module _ {E : Type 0} where
   abbrev pub longer : List E → List E → List E
   longer xs ys = cond (nat_lt (length xs) (length ys)) ys xs
 
-  -- One turn made this of a history and a count of empty turns: one entry more, which acknowledges this number, or one empty turn more and 0.
+  -- One turn made this of a history and a count of empty turns: one more entry, which acknowledges this number, or one more empty turn and 0.
   abbrev pub IsOneTurn : (E → ℕ) → List E → ℕ → List E → ℕ → ℕ → Type 0
   IsOneTurn front log empty log' empty' number =
       ((e : E) × (log' ≡ log ++ e ∷ []) × (empty' ≡ empty) × (number ≡ front e))

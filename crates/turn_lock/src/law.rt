@@ -1,4 +1,4 @@
-//! The rule of the lock's table, and what each step on it tells.
+//! The rule of the lock's table, and what each step on it returns.
 ghost use Rattle.std.specs.Prelude.{◌≡◌, ℕ, List, []};
 
 use crate::turns::Turns;
@@ -8,7 +8,7 @@ use std::alloc::Global;
 use std::marker::{Brand, PhantomData};
 use std::snapshot::Snapshot;
 
-/// What the table is told when it is made: the value, and how many passes there are.
+/// What the table is given when it is made: the value, and the number of passes.
 #[derive(Drop)]
 pub struct Opening<T> {
     pub first: Snapshot<T>,
@@ -26,7 +26,7 @@ impl<T: Turns> TableRule<Option<T>, View<T, T::Entry>, Opening<T>> for TicketOrd
     ghost first = { λ key. newcomer T.entries key.first.value key.passes };
 }
 
-/// What a turn leaves, which only proofs see: the history and the count of empty turns of the value that goes back.
+/// What a turn leaves, which only proofs see: the history and the count of empty turns of the value that is put back.
 pub trait Left<E> {
     ghost log: { List E };
 
@@ -52,7 +52,7 @@ impl<T, E> Play<Option<T>, View<T, E>> for Queue {
     ghost then = { λ _ m r n. queued m r n };
 }
 
-/// The turn was looked at, and begins where the ticket is served.
+/// The turn was checked, and begins if the ticket is served.
 pub struct Look;
 
 impl<T: Turns> Play<Option<T>, View<T, T::Entry>> for Look {
@@ -72,7 +72,7 @@ impl<T: Turns, J: Left<T::Entry>> Play<Option<T>, View<T, T::Entry>> for Raise<T
     ghost then = { λ _ m _ n. raised T.stood T.front J.log J.empty m n };
 }
 
-/// The turn was passed, and the slot went home.
+/// The turn was passed, and the slot was put back.
 pub struct PassOn;
 
 impl<T, E> Play<Option<T>, View<T, E>> for PassOn {

@@ -1,4 +1,4 @@
-//! A second use of the lock: a ledger that threads share. What it ends with follows from the public clauses of the lock alone.
+//! A second use of the lock: a ledger that threads share. What it holds at the end follows from the public clauses of the lock alone.
 ghost use Rattle.std.specs.Prelude.{◌≡◌, ℕ, ◌+◌, ◌%◌, ◌^◌, ◌<◌, ◌≤◌, ◌++◌, [], ◌∷◌, length, take, drop, IfOk, IfErr, MatchBool, Some, slice_get, vec_len};
 ghost use Rattle.turn_lock.specs.Merging.{entries_of, Rise, IsMerge};
 ghost use Rattle.turn_lock.specs.Passes.{first_of, pass_numbers, seen_of, mine_of, IsPassOf, IsResting};
@@ -17,7 +17,7 @@ pub struct Ledger {
     pub posts: Vec<u64>,
     /// How many posts there were when it was shared.
     pub before: usize,
-    /// How many posts were refused for want of memory, by remainder of 2^64.
+    /// How many posts failed for lack of memory, modulo 2^64.
     pub refused: u64,
 }
 
@@ -49,7 +49,7 @@ impl Ledger {
         }
     }
 
-    /// Posts a number, or counts that memory was refused.
+    /// Posts a number, or counts that memory ran out.
     pub fn post(&mut self, number: u64) -> bool
         ensures posted { MatchBool result ((self.new.posts.items ≡ self.old.posts.items ++ number ∷ []) × (self.new.refused ≡ self.old.refused)) ((self.new.posts.items ≡ self.old.posts.items) × (self.new.refused ≡ (self.old.refused + 1) % 2 ^ 64)) }
         ensures same { (self.new.before ≡ self.old.before) × (self.new.name ≡ self.old.name) }
@@ -62,7 +62,7 @@ impl Ledger {
     }
 }
 
-/// Posts a number in a turn of its own, or makes an empty turn where memory is refused.
+/// Posts a number in a turn of its own, or makes an empty turn if memory runs out.
 pub fn post_one<R: Wait>(
     rt: &R,
     lock: &TurnLock<Ledger>,
@@ -85,7 +85,7 @@ pub fn post_one<R: Wait>(
     }
 }
 
-/// Posts numbers, one a turn, until memory is refused, and answers how many it posted.
+/// Posts numbers, one a turn, until memory runs out, and returns how many it posted.
 pub fn post_all<R: Wait>(
     rt: &R,
     lock: &TurnLock<Ledger>,
@@ -117,7 +117,7 @@ pub fn both(mut passes: Vec<Pass<Ledger>>) -> (Pass<Ledger>, Pass<Ledger>)
     (one, two)
 }
 
-/// Two threads post to one ledger. What it has then, behind what it had, are the posts of both, each once and in their order.
+/// Two threads post to one ledger. After what it had, it then has the posts of both, each once and in their order.
 pub fn post_two<R: Threads + Wait + Sync>(
     rt: &R,
     alloc: Global,

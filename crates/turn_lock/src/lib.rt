@@ -1,4 +1,4 @@
-//! A fair ticket lock round one value, whose turns are a history.
+//! A fair ticket lock around one value, whose turns are a history.
 #![tactic(auto)]
 
 mod law;

@@ -25,7 +25,7 @@ const FRONT: usize = 2;
 
 const SLOT: usize = 0;
 
-/// A lock round a value, which serves the passes that wait for it in the order in which they came.
+/// A lock around a value, which serves the waiting passes in the order in which they took their tickets.
 #[derive(Drop)]
 pub struct TurnLock<T: Turns> {
     table: Board<T, T::Entry>,
@@ -35,7 +35,7 @@ pub struct TurnLock<T: Turns> {
 // What a turn owes: to be passed. It has no `Drop`, so it ends in `TurnLock::give`.
 struct Debt(());
 
-/// The value, out with the pass whose turn it is. It can't be let go but by `TurnLock::give`.
+/// The value, out with the pass whose turn it is. It can be given up only by `TurnLock::give`.
 pub struct Held<T> {
     /// The value.
     pub value: T,
@@ -51,7 +51,7 @@ impl<T: Turns> TurnLock<T> {
     ghost use Rattle.turn_lock.specs.Rule.{newcomer};
     ghost use Rattle.turn_lock.specs.Steps.{Gets, GoesBack, passed, queued, raised};
 
-    /// A lock round `value`, with one pass for each label, in their order. Where memory is refused the value comes back.
+    /// A lock around `value`, with one pass for each label, in their order. If memory runs out the value is returned.
     pub fn new(
         alloc: Global,
         value: T,
@@ -108,7 +108,7 @@ impl<T: Turns> TurnLock<T> {
         passes
     }
 
-    /// Waits for a turn, and gives the value for as long as it lasts. Nobody else has the value until it is given back.
+    /// Waits for a turn, and hands out the value for as long as it lasts. Nobody else has the value until it is given back.
     pub fn hold<R: Wait>(&self, rt: &R, pass: &mut Pass<T>) -> Held<T>
         requires pass { IsPassOf self.now pass.old }
         requires resting { IsResting pass.old }
@@ -138,7 +138,7 @@ impl<T: Turns> TurnLock<T> {
             .fetch_add::<Queue>(&mut pass.seat, TICKET, 1)
     }
 
-    // Looks at the turn until the ticket is served.
+    // Checks the turn until the ticket is served.
     fn wait<R: Wait>(&self, rt: &R, pass: &mut Pass<T>, ticket: u64)
         requires pass { IsPassOf self.now pass.old }
         requires ticket { (pass.old.seat.me.0.stage ≡ Waiting) × (ticket ≡ pass.old.seat.me.0.ticket % 2 ^ 64) }
@@ -168,8 +168,8 @@ impl<T: Turns> TurnLock<T> {
             .unwrap()
     }
 
-    /// Puts the value back, with one entry or one empty turn more than it had, and passes the turn. `front` is the number
-    /// that the new entry acknowledges, 0 where it acknowledges none or where there is no new entry.
+    /// Puts the value back, with one more entry or one more empty turn than it had, and passes the turn. `front` is the number
+    /// that the new entry acknowledges, 0 if it acknowledges none or there is no new entry.
     pub fn give(&self, pass: &mut Pass<T>, held: Held<T>, front: u64)
         requires pass { IsPassOf self.now pass.old }
         requires turn { HasTurn pass.old }
@@ -190,7 +190,7 @@ impl<T: Turns> TurnLock<T> {
         self.pass_on(pass);
     }
 
-    // Raises the front to the new entry's, and takes that entry among the pass's own.
+    // Raises the front to the new entry's, and adds that entry to the pass's own.
     fn raise<J: Left<T::Entry>>(&self, pass: &mut Pass<T>, _value: &T, front: u64)
         requires pass { IsPassOf self.now pass.old × HasTurn pass.old }
         requires left { (J.log ≡ T.entries _value.now) × (J.empty ≡ T.empty_turns _value.now) }
@@ -220,7 +220,7 @@ impl<T: Turns> TurnLock<T> {
         }
     }
 
-    // Passes the turn, and the slot goes home with the value.
+    // Passes the turn, and puts the slot back with the value.
     fn pass_on(&self, pass: &mut Pass<T>)
         requires pass { (pass.old.seat.table_id ≡ self.now.table.shared.table_id) × (pass.old.seat.me.0.stage ≡ Raised) }
         requires value { (value : T) × (pass.old.seat.me.1 ≡ (0, Some value) ∷ []) × GoesBack T.entries T.stood T.empty_turns T.follows (first_of self.now) pass.old.seat.me.0 value }
@@ -244,7 +244,7 @@ impl<T: Turns> TurnLock<T> {
         self.table.shared.load::<Read>(&mut pass.seat, FRONT)
     }
 
-    /// Two passes become one, which has the numbers and the entries of both.
+    /// Joins two passes into one, which has the numbers and the entries of both.
     pub fn join(&self, pass: &mut Pass<T>, other: Pass<T>)
         requires pass { IsPassOf self.now pass.old × IsPassOf self.now other }
         requires resting { IsResting pass.old × IsResting other }
@@ -256,7 +256,7 @@ impl<T: Turns> TurnLock<T> {
             .join_seat::<Merge>(&mut pass.seat, other.seat);
     }
 
-    /// Ends the lock, and gives the value with all its turns. It waits for nobody.
+    /// Ends the lock, and returns the value with all its turns. It does not wait.
     pub fn close(self, pass: Pass<T>) -> T
         requires pass { IsPassOf self pass × IsResting pass }
         requires all { (number : ℕ) → number < passes_of self → 0 < times number (pass_numbers pass) }
@@ -275,13 +275,13 @@ impl<T: Turns> TurnLock<T> {
     }
 }
 
-/// In each state of the words, the slot and the passes that the rule allows, one pass at most has its turn.
+/// In each state of the words, the slot and the passes that the rule allows, at most one pass has its turn.
 pub fn one_at_a_time<T: Turns>()
     ensures { (first : T) (passes : ℕ) (s : State (Option T) (View T T.Entry)) → Kept T.entries T.stood T.front T.empty_turns T.follows first passes s
         → (i j : ℕ) (v w : View T T.Entry) → get_elem? s.views i ≡ some v → get_elem? s.views j ≡ some w → is_held v.stage ≡ true → is_held w.stage ≡ true → i ≡ j }
 {}
 
-/// A lock is shared by threads, and a pass goes from one to another, wherever the value may.
+/// Threads may share a lock, and a pass may be sent from one to another, if the value may.
 pub fn cross_threads<T: Turns + Send>() {
     is_sync::<TurnLock<T>>();
     is_send::<TurnLock<T>>();

@@ -5,7 +5,7 @@ use crate::law::Place;
 use crate::turns::Turns;
 
 /// One caller's part of a lock, and what it knows of the turns: what it saw of the history, the entries of its own turns, the
-/// greatest front. It crosses threads where the value may.
+/// greatest front. It may be sent between threads if the value may.
 #[derive(Drop)]
 pub struct Pass<T: Turns> {
     pub(crate) label: u32,

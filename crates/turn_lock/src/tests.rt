@@ -1,4 +1,4 @@
-//! Turns in threads, and what a caller makes of the clauses alone.
+//! Turns in threads, and what follows from the clauses alone.
 use crate::TurnLock;
 use crate::ledger::{Ledger, both, post_four, post_two};
 use std::alloc::Global;
@@ -61,7 +61,7 @@ fn four_threads_post_each_number_once(rt: HostRuntime) -> Result<(), Fail> {
     Ok(())
 }
 
-// Posts in turns of one pass, and looks at the front with another that never has a turn.
+// Posts in turns of one pass, and reads the front with another that never has a turn.
 #[test]
 fn a_front_shows_at_once(rt: HostRuntime) -> Result<(), Fail> {
     let Ok((lock, passes)) = TurnLock::new(rt.alloc(), Ledger::new(rt.alloc(), 1), &[7, 0]) else {

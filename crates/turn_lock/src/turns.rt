@@ -1,4 +1,4 @@
-//! What a value under the lock tells of the turns that were made on it.
+//! What a value under the lock models of the turns that were made on it.
 ghost use Rattle.std.specs.Prelude.{ℕ, List};
 
 /// A value that keeps a history of the turns that were made on it.
@@ -14,12 +14,12 @@ pub trait Turns {
     /// How many entries stood in the history when the lock was made.
     ghost stood: { Self → ℕ };
 
-    /// The number that an entry acknowledges, 0 where it acknowledges none. It is below 2^64.
+    /// The number that an entry acknowledges, 0 if it acknowledges none. It is below 2^64.
     ghost front: { Self.Entry → ℕ };
 
-    /// How many turns added no entry, by remainder of 2^64.
+    /// How many turns added no entry, modulo 2^64.
     ghost empty_turns: { Self → ℕ };
 
-    /// What a value that was handed to the lock may become. Each turn keeps it, of the value as it was then and the one that goes back.
+    /// What a value that was handed to the lock may become. Each turn keeps it, between that value and the one that is put back.
     ghost follows: { Self → Self → Type 0 };
 }

@@ -1,7 +1,7 @@
 //! What a pass knows: plain data that exists in proofs alone.
 use std::collections::LinkedList;
 
-/// How far a pass is with its turn.
+/// The stage of a pass in its turn.
 pub enum Stage {
     /// It has no ticket.
     Resting,
@@ -9,18 +9,18 @@ pub enum Stage {
     Waiting,
     /// Its ticket is served, and the value is out with it.
     Turn,
-    /// The same, and the front is raised to what the value says that goes back.
+    /// The same, and the front is raised to that of the value that is put back.
     Raised,
 }
 
-/// What a pass knows. No value of it is made.
+/// What a pass knows. No value of this type is ever made.
 pub struct View<T, E> {
     /// The value that was handed to the lock, as it was then. `None` in the view that a joined pass leaves behind.
     pub first: Option<T>,
     /// Its number and those of the passes that were joined into it.
     pub numbers: LinkedList<u64>,
     pub stage: Stage,
-    /// The whole number of its ticket, where it has one.
+    /// The whole number of its ticket, if it has one.
     pub ticket: u64,
     /// The history as far as it was seen.
     pub seen: LinkedList<E>,

@@ -1,4 +1,4 @@
--- Sessions whose transactions go along with objects that move, one after another.
+-- How the sessions' transactions are updated when objects move, one session after another.
 use Rattle.std.proofs.Common.{◌≡◌, ℕ, ◌+◌, ◌-◌, ◌<◌, ◌≤◌, inl, inr, List, [], ◌∷◌, ◌++◌, length, map, reverse, Option, None, Some, refl, sym, ap, ◌∙◌, subst, arith}
 use Rattle.std.specs.Prelude.{slice_set}
 use Rattle.std.proofs.lemmas.Bool.{cases_eq, cases_lt}
@@ -10,11 +10,11 @@ use Rattle.txn_table.specs.Slots.{table_of}
 use Rattle.txn_table.specs.Translation.{HasGoneAlong, GoesAlong, HaveGoneAlong, HasGoneAlongAt}
 use Rattle.txn_table.proofs.SlotLaws.{slot_past, no_session, taken, left}
 
--- a session without a transaction has none then
+-- a session without a transaction has none afterwards
 none_goes : (pairs : List (ℕ × ℕ)) (o n : Option TransactionState) → o ≡ None → n ≡ None → GoesAlong pairs o n
 none_goes pairs o n old new = subst (λ (x : Option TransactionState). GoesAlong pairs x n) (sym old) (subst (λ (x : Option TransactionState). GoesAlong pairs None x) (sym new) tt)
 
--- the session's slot got the transaction as it is then
+-- the session's slot got the updated transaction
 pub gone_at : (pairs : List (ℕ × ℕ)) (next : ℕ) (slots : List (Option TransactionState)) (now : TableState) (s i : ℕ) (t u : TransactionState) → table_of next slots ≡ now → i + 1 ≡ s → i < length slots
     → transaction_of now s ≡ Some t → HasGoneAlong pairs t u → HasGoneAlongAt pairs s now (table_of next (slice_set slots i (Some u)))
 gone_at pairs next slots now s i t u same place within there gone =
@@ -40,7 +40,7 @@ idle_at pairs next slots now s i same place within none =
       others = λ other differs. ap (λ (table : TableState). transaction_of table other) new ∙ get_kept now.active s other differs;
     }
 
--- Those of the first sessions have gone along.
+-- Those of the first sessions are updated.
 pub record GoneUpto (pairs : List (ℕ × ℕ)) (k : ℕ) (old now : TableState) : Type 0 where
   pub next : now.next ≡ old.next
   pub done : (s : ℕ) → 1 ≤ s → s ≤ k → GoesAlong pairs (transaction_of old s) (transaction_of now s)
@@ -63,7 +63,7 @@ gone_all pairs k next slots old now same all upto = record {
   ];
 }
 
--- a list that is turned round is mapped as it was
+-- reversing a list before mapping it is mapping it before reversing it
 pub reverse_mapped : {X : Type 0} (f : X → X) (xs : List X) → reverse (map f xs) ≡ map f (reverse xs)
 reverse_mapped f [] = refl
 reverse_mapped f (x ∷ xs) =

@@ -1,4 +1,4 @@
--- What the slots say of each session, and what a change of one is to the map that contracts see.
+-- What the slots say of each session, and what a change of one does to the map that contracts see.
 use Rattle.std.proofs.Common.{◌≡◌, ◌≢◌, ℕ, zero, suc, ◌+◌, ◌<◌, ◌≤◌, inl, inr, List, [], ◌∷◌, length, true, Option, None, Some, Result, Ok, Err, refl, sym, ap, ◌∙◌, subst, arith, get_or}
 use Rattle.std.specs.Prelude.{slice_get, slice_set, replicate, unwrap_or, is_some, IsSome, IfSome, IsSomeAnd, IfOk, OnOk}
 use Rattle.std.specs.Ordering.{nat_cmp}
@@ -74,7 +74,7 @@ slot_taken slots i t within = same_map nat_cmp_total nat_cmp-IsAntisymmetric _ _
               ∙ sym (get_beside (by_session 1 slots) (1 + i) t (suc j) (λ clash. other (omega arith)) ∙ ap (get (by_session 1 slots)) next ∙ at_slot 1 slots j)
         ]
 
--- the map when a slot is given up
+-- the map when a slot is emptied
 slot_left : (slots : List (Option TransactionState)) (i : ℕ) → i < length slots → by_session 1 (slice_set slots i None) ≡ remove (by_session 1 slots) (1 + i)
 slot_left slots i within = same_map nat_cmp_total nat_cmp-IsAntisymmetric _ _ each
   where
@@ -96,7 +96,7 @@ slot_left slots i within = same_map nat_cmp_total nat_cmp-IsAntisymmetric _ _ ea
               ∙ sym (get_kept (by_session 1 slots) (1 + i) (suc j) (λ clash. other (omega arith)) ∙ ap (get (by_session 1 slots)) next ∙ at_slot 1 slots j)
         ]
 
--- no session has a transaction where no slot has one
+-- no session has a transaction if no slot has one
 pub all_idle : (from n : ℕ) → by_session from (replicate n None) ≡ empty
 all_idle from zero = refl
 all_idle from (suc n) = all_idle (from + 1) n
@@ -123,7 +123,7 @@ slot_says next slots now s i same place =
     let session : s ≡ 1 + i = omega arith in
     ap (λ (table : TableState). transaction_of table s) (sym same) ∙ ap (get (by_session 1 slots)) session ∙ at_slot 1 slots i ∙ unwrap_or-slice_get slots i None
 
--- a session behind the slots has none
+-- a session after the last slot has none
 pub slot_past : (next : ℕ) (slots : List (Option TransactionState)) (now : TableState) (s i : ℕ) → table_of next slots ≡ now → i + 1 ≡ s → length slots ≤ i → transaction_of now s ≡ None
 slot_past next slots now s i same place past = slot_says next slots now s i same place ∙ get_or_past slots i None past
 
@@ -140,7 +140,7 @@ taken next slots now s i later t same place within =
     ap (λ m. let table : TableState = record { next = later; active = m } in table) (slot_taken slots i t within ∙ ap (λ k. insert (by_session 1 slots) k t) session)
     ∙ ap (λ (table : TableState). let new : TableState = record { next = later; active = insert table.active s t } in new) same
 
--- and when it is given up
+-- and when it is emptied
 pub left : (next : ℕ) (slots : List (Option TransactionState)) (now : TableState) (s i : ℕ) → table_of next slots ≡ now → i + 1 ≡ s → i < length slots
     → table_of next (slice_set slots i None) ≡ with_ended now s
 left next slots now s i same place within =
@@ -154,13 +154,13 @@ pub read_slot : (next : ℕ) (slots : List (Option TransactionState)) (now : Tab
 read_slot next slots now s i read o same place within got is =
     slot_says next slots now s i same place ∙ sym (get_or_read slots i read within got None) ∙ is
 
--- so it isn't empty where the session has one
+-- so it isn't empty if the session has one
 pub not_empty : (next : ℕ) (slots : List (Option TransactionState)) (now : TableState) (s i : ℕ) (read : Option TransactionState) → table_of next slots ≡ now → i + 1 ≡ s → i < length slots
     → read ≡ get_or slots i read → read ≡ None → IsSome (transaction_of now s) → ⊥
 not_empty next slots now s i read same place within got none active =
     let clash = sym active ∙ ap is_some (read_slot next slots now s i read None same place within got none) in cc
 
--- what holds of a session's transaction
+-- what is true of a session's transaction
 pub of_transaction : (now : TableState) (s : ℕ) (t : TransactionState) (P : TransactionState → Type 0) → transaction_of now s ≡ Some t → P t → IfSome (transaction_of now s) P
 of_transaction now s t P is holds = subst (λ (o : Option TransactionState). IfSome o P) (sym is) holds
 

@@ -39,10 +39,10 @@ pub changes_same : (old new : TableState) (s : ℕ) (change : TransactionState �
 changes_same old new s change t changed is =
     ap (λ (table : TableState). transaction_of table s) (changes_is old new s change t changed is) ∙ with_transaction_same old s (change t)
 
--- a second change hides the first
+-- a second change overrides the first
 pub with_transaction_twice : (table : TableState) (s : ℕ) (t u : TransactionState) → with_transaction (with_transaction table s t) s u ≡ with_transaction table s u
 with_transaction_twice table s t u = ap (λ m. let new : TableState = record { next = table.next; active = m } in new) (insert_insert table.active s t u)
 
--- what a session has changes nothing
+-- setting what a session already has changes nothing
 pub with_transaction_known : (table : TableState) (s : ℕ) (t : TransactionState) → transaction_of table s ≡ Some t → with_transaction table s t ≡ table
 with_transaction_known table s t is = ap (λ m. let new : TableState = record { next = table.next; active = m } in new) (insert_known table.active s t is)

@@ -1,4 +1,4 @@
--- Which stable objects the transactions of the sessions and their locks name: what a collector keeps, beside the root object.
+-- Which stable objects the sessions' transactions and their locks name: what a collector keeps, besides the root object.
 use Rattle.std.specs.Prelude.{◌≡◌, ℕ, ◌↔◌, ◌⊎◌, List, [], ◌∷◌, Contains, Option, None, Some}
 use Rattle.std.specs.List.{flat_map}
 use Rattle.std.specs.List.Sorted.{IsStrictlyIncreasing}
@@ -13,7 +13,7 @@ use Rattle.txn_table.specs.declared.place.Place.{Place}
 use Rattle.txn_table.specs.declared.place.Place.TheVariants.{Stable, Volatile}
 use Rattle.txn_table.specs.Table.{TransactionState, TableState, transaction_of}
 
--- A transaction names the stable object at an address: a handle holds it, a field of an object that it made refers to it, also of one that nothing
+-- A transaction names the stable object at an address: a handle holds it, a field of an object that it made refers to it, even of one that nothing
 -- names any more, it is an object whose field it wrote, or a word that a write of it replaced refers to it.
 pub data Names (t : TransactionState) (address : ℕ) : Type 0 where
   held : Contains t.handles (Some (Stable address)) → Names t address
@@ -31,7 +31,7 @@ pub record AreRoots (table : TableState) (held : Holdings) (roots : List ℕ) : 
   pub ascending : IsStrictlyIncreasing roots
   pub each : (address : ℕ) → Contains roots address ↔ IsRoot table held address
 
--- to these were added the addresses of the stable objects that a transaction names
+-- the addresses of the stable objects that a transaction names were added to these
 abbrev pub AddsNamed : TransactionState → List ℕ → List ℕ → Type 0
 AddsNamed t old new = (address : ℕ) → Contains new address ↔ (Contains old address ⊎ Names t address)
 

@@ -12,7 +12,7 @@ use Rattle.txn_table.specs.declared.place.Place.{Place}
 use Rattle.txn_table.specs.declared.place.Place.TheVariants.{Stable, Volatile}
 use Rattle.txn_table.specs.Table.{TransactionState, TableState}
 
--- whether a place is in a volatile area, and the number that it has
+-- whether a place is in a volatile area, and its number
 abbrev pub from_place : Place → Bool × ℕ
 from_place (Stable address) = (false, address)
 from_place (Volatile index) = (true, index)

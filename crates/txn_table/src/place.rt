@@ -1,6 +1,6 @@
-//! Where the object of a handle stands.
+//! Where a handle's object stands.
 
-/// Where the object stands that a handle holds.
+/// Where the object that a handle holds stands.
 #[derive(Clone, Copy, Debug, PartialEq, Eq)]
 pub enum Place {
     /// At that word address of the heap.

@@ -1,4 +1,4 @@
-//! Which stable objects a transaction names, and what it keeps of them when they move.
+//! Which stable objects a transaction names, and how it is updated when they move.
 ghost use Rattle.std.specs.Prelude.{◌≡◌, ◌++◌, map, OnOk};
 ghost use Rattle.std.specs.List.{flat_map};
 ghost use Rattle.object_layout.specs.Layout.{field_words};
@@ -67,7 +67,7 @@ pub(crate) fn add_written(roots: &mut Vec<u32>, entries: &[UndoEntry]) -> Result
     Ok(())
 }
 
-/// Objects have moved, as the pairs say: each handle holds what it held, where that stands then.
+/// Objects have moved, as the pairs say: each handle holds the same object, at its new place.
 pub(crate) fn translate_handles(handles: &mut [Option<Place>], pairs: &[(u32, u32)])
     requires { IsRelocation pairs.now }
     ensures { handles.new ≡ map (translated_handle pairs.now) handles.old }
@@ -77,7 +77,7 @@ pub(crate) fn translate_handles(handles: &mut [Option<Place>], pairs: &[(u32, u3
     }
 }
 
-// What the handle holds then.
+// What the handle holds after the move.
 fn translated_handle(handle: Option<Place>, pairs: &[(u32, u32)]) -> Option<Place>
     requires { IsRelocation pairs.now }
     ensures { result ≡ translated_handle pairs.now handle }

@@ -40,7 +40,7 @@ impl Model for Transaction {
 }
 
 impl Transaction {
-    /// A transaction that has done nothing. It takes no memory.
+    /// A transaction that has done nothing. Does not allocate.
     pub(crate) fn new(alloc: Global, number: u32) -> Transaction
         ensures { result ≡ new_transaction number }
     {
@@ -126,7 +126,7 @@ impl Transaction {
         add_written(roots, &self.undo)
     }
 
-    /// Objects have moved, as the pairs say: what the transaction keeps goes along.
+    /// Objects have moved, as the pairs say: what the transaction keeps is updated.
     pub(crate) fn translate(&mut self, pairs: &[(u32, u32)])
         requires { IsRelocation pairs.now }
         ensures { HasGoneAlong pairs.now self.old self.new }
@@ -134,7 +134,7 @@ impl Transaction {
         translate_handles(&mut self.handles, pairs);
         translate(&mut self.undo, pairs);
         self.area.translate(pairs);
-        // That the area is one still is said of its words.
+        // That the area is still one is known from its words.
         let _words = self.area.words();
     }
 }

@@ -64,7 +64,7 @@ impl TxnTable {
         self.next
     }
 
-    /// Lets the next transaction have this number.
+    /// Sets the number of the next transaction.
     pub fn set_next(&mut self, next: u32)
         ensures { self.new ≡ record self.old { next = next } }
     {
@@ -108,7 +108,7 @@ impl TxnTable {
         self.slot(s).unwrap()
     }
 
-    /// Begins a transaction of the session, and tells its number. It takes no memory.
+    /// Begins a transaction of the session, and returns its number. Does not allocate.
     pub fn begin(&mut self, s: u32) -> u32
         requires first { 1 ≤ s }
         requires last { s ≤ 32 }
@@ -140,7 +140,7 @@ impl TxnTable {
         self.transaction(s).handle(h)
     }
 
-    /// Lets a handle of the session's transaction hold the object at a place, or nothing.
+    /// Sets what a handle of the session's transaction holds: the object at a place, or nothing.
     pub fn set_handle(&mut self, s: u32, h: u32, to: Option<Place>)
         requires active { IsSome (transaction_of self.old s) }
         requires within { h < 64 }
@@ -152,7 +152,7 @@ impl TxnTable {
         }
     }
 
-    /// What the writes of the session's transaction replaced. The newest stands last.
+    /// The words that writes of the session's transaction replaced. The newest stands last.
     pub fn undo(&self, s: u32) -> &[UndoEntry]
         requires { IsSome (transaction_of self.now s) }
         ensures { IfSome (transaction_of self.now s) (λ t. reverse result.now ≡ t.undo) }
@@ -173,7 +173,7 @@ impl TxnTable {
         Ok(())
     }
 
-    /// Takes off what the newest write of the session's transaction replaced, if it has written.
+    /// Removes and returns what the newest write of the session's transaction replaced, if there is one.
     pub fn pop_undo(&mut self, s: u32) -> Option<UndoEntry>
         requires { IsSome (transaction_of self.old s) }
         ensures newest { IfSome (transaction_of self.old s) (λ t. result ≡ slice_get t.undo 0) }
@@ -194,7 +194,7 @@ impl TxnTable {
         self.transaction(s).area()
     }
 
-    /// Makes an object of so many fields, at most 510, in the area of the session's transaction, and tells its index. An error changes
+    /// Makes an object with `fields` fields, at most 510, in the area of the session's transaction, and returns its index. An error changes
     /// nothing.
     pub fn new_object(&mut self, s: u32, fields: u32) -> Result<u32, AreaError>
         requires active { IsSome (transaction_of self.old s) }
@@ -233,7 +233,7 @@ impl TxnTable {
     }
 
     /// The word addresses of the stable objects that are locked or that a transaction names, ascending, each once: what a collector keeps
-    /// beside the root object.
+    /// besides the root object.
     pub fn roots(&self, locks: &LockTable) -> Result<Vec<u32>, AllocError>
         ensures { IfOk result (λ roots. AreRoots self.now locks.now roots.items) }
     {
@@ -248,7 +248,7 @@ impl TxnTable {
         Ok(roots)
     }
 
-    /// Objects have moved, as the pairs say: what the transactions keep goes along, and nothing else changes. It takes no memory.
+    /// Objects have moved, as the pairs say: what the transactions keep is updated, and nothing else changes. Does not allocate.
     pub fn translate(&mut self, pairs: &[(u32, u32)])
         requires { IsRelocation pairs.now }
         ensures { HaveGoneAlong pairs.now self.old self.new }
@@ -258,7 +258,7 @@ impl TxnTable {
         }
     }
 
-    // The same of one session.
+    // The same for one session.
     fn translate_slot(&mut self, place: usize, pairs: &[(u32, u32)])
         requires within { place < 32 }
         requires moves { IsRelocation pairs.now }

@@ -1,4 +1,4 @@
-//! What is kept of writes that may be taken back, when objects move.
+//! Translates undo entries when objects move.
 #![tactic(auto)]
 
 ghost use Rattle.std.specs.Prelude.{◌≡◌};
@@ -8,8 +8,8 @@ ghost use Rattle.relocation.specs.Relocation.{IsRelocation};
 use log_machine::UndoEntry;
 use relocation::{moved_to, translated_word};
 
-/// Objects have moved, as the pairs say: each entry names its object where that stands then, and a reference that it would put back leads to
-/// where its object stands then. All else and the order stay. It takes no memory.
+/// Objects have moved, as the pairs say: each entry names its object by its new address, and a reference in its before-image leads to the
+/// object's new address. All else, and the order, stay. Does not allocate.
 pub fn translate(entries: &mut [UndoEntry], pairs: &[(u32, u32)])
     requires { IsRelocation pairs.now }
     ensures { entries.new ≡ translated_list pairs.now entries.old }
@@ -19,7 +19,7 @@ pub fn translate(entries: &mut [UndoEntry], pairs: &[(u32, u32)])
     }
 }
 
-// The entry then.
+// The entry after the move.
 fn translated(entry: UndoEntry, pairs: &[(u32, u32)]) -> UndoEntry
     requires { IsRelocation pairs.now }
     ensures { result ≡ translated_entry pairs.now entry }

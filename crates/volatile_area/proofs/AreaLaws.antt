@@ -1,4 +1,4 @@
--- Laws of volatile areas: where their objects stand, and what making one and writing into one changes.
+-- Laws of volatile areas: where their objects stand, and what changes when one is made or written.
 use Rattle.std.proofs.Common.{◌≡◌, ◌≢◌, ℕ, zero, suc, ◌+◌, ◌*◌, ◌<◌, ◌≤◌, ◌⊎◌, inl, inr, List, [], ◌∷◌, ◌++◌, length, Some, refl, sym, ap, ◌∙◌, subst, arith}
 use Rattle.std.specs.Prelude.{slice_get, slice_set, slice_index, replicate, Contains}
 use Rattle.std.specs.List.Sorted.{IsStrictlyIncreasing}
@@ -36,7 +36,7 @@ starts_increase (suc (suc more)) words at (suc k) within =
 pub starts_of_increase : (area : AreaState) → IsStrictlyIncreasing (starts_of area)
 starts_of_increase area = starts_increase area.made area.words 0
 
--- An object of an area, with so many fields.
+-- An object of an area, with that many fields.
 pub record HasObject (area : AreaState) (at fields : ℕ) : Type 0 where
   pub object : object_at area.words at ≡ Some fields
   pub within : at + 2 + fields ≤ length area.words
@@ -55,9 +55,9 @@ made_few area is =
 
 -- The area of a transaction that has made no object.
 
--- One object more.
+-- One more object.
 
--- its words are so many
+-- the words that it takes
 pub length-with_object : (area : AreaState) (n : ℕ) → length (with_object area n).words ≡ length area.words + 2 + n
 length-with_object area n = omega (arith, length-append area.words (new_words area.transaction (area.made + 1) n), length-replicate {A = ℕ} n 0)
 
@@ -69,7 +69,7 @@ objects_with_object area n is small =
     (end_to_end_append area.words new 0 (starts_of area) (length area.words) is.objects)
     (object_behind area.words (birth_bits area.transaction (area.made + 1)) n small)
 
--- it starts behind the words
+-- it starts after the words
 pub starts_of-with_object : (area : AreaState) (n : ℕ) → IsArea area → n < 511 → starts_of (with_object area n) ≡ starts_of area ++ length area.words ∷ []
 starts_of-with_object area n is small =
     let new = new_words area.transaction (area.made + 1) n in
@@ -87,7 +87,7 @@ field_words-with_object_old area n at is has =
     let object = area_object area at is has in
     field_words_append area.words (new_words area.transaction (area.made + 1) n) at object.0 object.1.object
 
--- and their births
+-- and so do their births
 pub birth_at-with_object_old : (area : AreaState) (n at : ℕ) → IsArea area → Contains (starts_of area) at → birth_at (with_object area n).words at ≡ birth_at area.words at
 birth_at-with_object_old area n at is has =
     let object = area_object area at is has in
@@ -111,7 +111,7 @@ all_null (suc n) (suc i) w is = all_null n i w is
 null_word : (w : ℕ) → w ≡ 0 → IsFieldWord w
 null_word w is = (Null, tt, is)
 
--- an area with one object more is an area, where its words are few enough
+-- an area with one more object is an area, if its words are few enough
 pub with_object_is : (area : AreaState) (n : ℕ) → IsArea area → n < 511 → length area.words + 2 + n ≤ 4096 → IsArea (with_object area n)
 with_object_is area n is small few =
     let new = new_words area.transaction (area.made + 1) n in
@@ -208,7 +208,7 @@ slice_get_set (z ∷ xs) zero x (suc i) y is = inr is
 slice_get_set (z ∷ xs) (suc j) x zero y is = inr is
 slice_get_set (z ∷ xs) (suc j) x (suc i) y is = slice_get_set xs j x i y is
 
--- an area with a field's word in a field is an area
+-- an area is still one after a field's word is put into a field
 pub with_field_is : (area : AreaState) (object field word : ℕ) → IsArea area → HasField area object field → IsFieldWord word → IsArea (with_field area object field word)
 with_field_is area object field word is there meant =
     let words = slice_set area.words (object + 2 + field) word in

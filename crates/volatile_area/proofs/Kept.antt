@@ -1,4 +1,4 @@
--- What the fields of an area say of what contracts see.
+-- What the fields of an area say about its view in contracts.
 use Rattle.std.proofs.Common.{◌≡◌, ℕ, suc, ◌+◌, ◌-◌, ◌/◌, ◌<◌, ◌≤◌, ◌↔◌, List, [], ◌∷◌, ◌++◌, length, get_or, Result, Ok, Err, is_ok, Some, inl, inr, refl, sym, ap, ◌∙◌, subst, arith}
 use Rattle.std.specs.Prelude.{slice_set, slice_index, replicate, Contains, IsTrue, All}
 use Rattle.std.specs.Ordering.{nat_cmp}
@@ -23,7 +23,7 @@ kept_rise kept area is i j order within =
     let Rise : List ℕ → Type 0 = λ xs. (i j : ℕ) → i ≤ j → j < length xs → get_or xs i 0 ≤ get_or xs j 0 in
     subst Rise (sym is.own) (λ i j order within. non_decreasing_from_sorted (starts_of area) (sorted_from_strictly_increasing (starts_of area) (starts_of_increase area)) i j 0 order within) i j order within
 
--- what lies on neither side of a place is not there
+-- what is in neither part of the starts is not there
 nowhere : (xs : List ℕ) (i x : ℕ) → ((k : ℕ) → k < i → get_or xs k 0 < x) → ((k : ℕ) → i ≤ k → k < length xs → x < get_or xs k 0) → Contains xs x → ⊥
 nowhere xs i x before behind (k, within, same) =
     let there = sym (get_or_default_zero xs k x within) ∙ same in
@@ -32,7 +32,7 @@ nowhere xs i x before behind (k, within, same) =
       | inr high ↦ let more = behind k high within in omega arith
     ]
 
--- a search of the starts finds just what is one
+-- a search of the starts finds exactly the starts
 pub found_start : (kept : List ℕ) (inside now : AreaState) (found : List ℕ) (at : ℕ) (r : Result ℕ ℕ) → AreItsStarts kept inside → inside ≡ now → found ≡ kept
     → IsBinarySearchResult (λ y. nat_cmp y at) found r → IsTrue (is_ok r) ↔ Contains (starts_of now) at
 found_start kept inside now found at r is same all answer = by_answer r (subst (λ xs. IsBinarySearchResult (λ y. nat_cmp y at) xs r) all answer)
@@ -50,7 +50,7 @@ found_start kept inside now found at r is same all answer = by_answer r (subst (
           λ has. absurd (nowhere kept i at around.1 around.2 (subst (λ (xs : List ℕ). Contains xs at) (sym (is.own ∙ ap starts_of same)) has)),
         )
 
--- An object where contracts see one, as it stands in the fields.
+-- An object of the contracts' view, as it stands in the fields.
 pub record StandsAt (inside now : AreaState) (at : ℕ) : Type 0 where
   pub object : object_at now.words at ≡ Some (slice_index inside.words at / 4)
   pub small : slice_index inside.words at / 4 < 511
@@ -92,7 +92,7 @@ kept_with_field kept inside now object field word is same there meant =
       sound = with_field_is inside object field word is.sound has meant;
     }
 
--- the words of a new object, put into words that are there
+-- the words of a new object, put in place of existing words
 pub object_put : (words more : List ℕ) (at header birth n : ℕ) → at ≡ length words → more ≡ words ++ replicate (2 + n) 0
     → slice_set (slice_set more at header) (at + 1) birth ≡ words ++ header ∷ birth ∷ replicate n 0
 object_put words more at header birth n place grown =

@@ -1,4 +1,4 @@
--- Objects that stand end to end, behind which more words are put, or of which a word is changed.
+-- Objects that stand end to end, when words are appended or one word is changed.
 use Rattle.std.proofs.Common.{◌≡◌, ◌≢◌, ℕ, zero, suc, ◌+◌, ◌-◌, ◌*◌, ◌<◌, ◌≤◌, ◌⊎◌, inl, inr, List, [], ◌∷◌, ◌++◌, length, take, drop, Some, None, refl, sym, ap, ◌∙◌, arith}
 use Rattle.std.specs.Prelude.{slice_set, slice_index, replicate, Contains, if◌then◌else◌}
 use Rattle.std.proofs.lemmas.Bool.{le-leb}
@@ -19,11 +19,11 @@ object_same words others at n is same within =
     ∙ ap (whole_length others at) (object_header words at n is).0
     ∙ ap (λ b. if b then Some n else None) (le-leb (at + 2 + n) (length others) within)
 
--- its field words are the words behind header and birth
+-- its field words are the words after header and birth
 pub field_words_at : (words : List ℕ) (at n : ℕ) → object_at words at ≡ Some n → field_words words at ≡ take n (drop (at + 2) words)
 field_words_at words at n is = ap (words_of words at) is
 
--- an object stays when words are put behind
+-- an object stays when words are appended
 pub object_append : (words more : List ℕ) (at n : ℕ) → object_at words at ≡ Some n → object_at (words ++ more) at ≡ Some n
 object_append words more at n is =
     let within = (object_header words at n is).1 in
@@ -51,7 +51,7 @@ object_set words place word at n other is =
     object_same words (slice_set words place word) at n is (get_or-set_other words place at word 0 (λ same. other (sym same)))
     (omega (arith, length-set words place word))
 
--- its fields stay where none of them is changed
+-- its fields stay if none of them is changed
 pub field_words_beside : (words : List ℕ) (place word at n : ℕ) → object_at words at ≡ Some n → (place < at) ⊎ (at + 2 + n ≤ place)
     → field_words (slice_set words place word) at ≡ field_words words at
 field_words_beside words place word at n is (inl before) =
@@ -80,11 +80,11 @@ field_words_set words at field word n is =
     ∙ take_set n (drop (at + 2) words) field word
     ∙ ap (λ ws. slice_set ws field word) (sym (field_words_at words at n is))
 
--- a birth stays where another word is changed
+-- a birth stays if another word is changed
 pub birth_at_set : (words : List ℕ) (place word at : ℕ) → place ≢ at + 1 → birth_at (slice_set words place word) at ≡ birth_at words at
 birth_at_set words place word at other = get_or-set_other words place (at + 1) word 0 (λ same. other (sym same))
 
--- an object behind all words
+-- an object after all words
 pub object_behind : (words : List ℕ) (birth n : ℕ) → n < 511 → object_at (words ++ (4 * n + 1) ∷ birth ∷ replicate n 0) (length words) ≡ Some n
 object_behind words birth n small =
     let new = (4 * n + 1) ∷ birth ∷ replicate n 0 in
@@ -105,12 +105,12 @@ birth_at_behind words head birth rest = get_or-append-add words (head ∷ birth 
 
 -- Objects end to end.
 
--- they stay when words are put behind
+-- they stay when words are appended
 pub end_to_end_append : (words more : List ℕ) (from : ℕ) (starts : List ℕ) (end : ℕ) → AreEndToEnd words from starts end → AreEndToEnd (words ++ more) from starts end
 end_to_end_append words more from [] end objects = objects
 end_to_end_append words more from (a ∷ rest) end (n, same, first, later) = (n, same, object_append words more a n first, end_to_end_append words more (a + 2 + n) rest end later)
 
--- one object more
+-- one more object
 pub end_to_end_push : (words : List ℕ) (from : ℕ) (starts : List ℕ) (at n : ℕ) → AreEndToEnd words from starts at → object_at words at ≡ Some n
     → AreEndToEnd words from (starts ++ at ∷ []) (at + 2 + n)
 end_to_end_push words from [] at n objects object = (n, sym objects, object, refl)

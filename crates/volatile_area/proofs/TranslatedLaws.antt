@@ -1,4 +1,4 @@
--- How the area goes along with objects of the heap that move, one field after another.
+-- How the area is updated when objects of the heap move, one field after another.
 use Rattle.std.proofs.Common.{◌≡◌, ◌≢◌, ℕ, zero, suc, ◌+◌, ◌<◌, ◌≤◌, inl, inr, List, [], ◌∷◌, ◌++◌, length, map, take, drop, get_or, Some, refl, sym, ap, ◌∙◌, subst, arith, add-one}
 use Rattle.std.specs.Prelude.{Contains, slice_get, slice_set}
 use Rattle.std.proofs.lemmas.Bool.{cases_eq, cases_lt}
@@ -53,7 +53,7 @@ length_mapped f (w ∷ ws) (suc k) = ap suc (length_mapped f ws k)
 all_mapped : (f : ℕ → ℕ) (ws : List ℕ) (n : ℕ) → length ws ≤ n → map f (take n ws) ++ drop n ws ≡ map f ws
 all_mapped f ws n all = ap (λ xs. map f xs ++ drop n ws) (take_all n ws all) ∙ ap (λ xs. map f ws ++ xs) (drop_all n ws all) ∙ append-nil (map f ws)
 
--- The first fields of an object have gone along.
+-- The first fields of an object are translated.
 pub record IsUpto (pairs : List (ℕ × ℕ)) (object k : ℕ) (old now : AreaState) : Type 0 where
   pub sound : IsArea now
   pub objects : HasSameObjects old now
@@ -63,7 +63,7 @@ pub record IsUpto (pairs : List (ℕ × ℕ)) (object k : ℕ) (old now : AreaSt
 pub upto_none : (pairs : List (ℕ × ℕ)) (object : ℕ) (area : AreaState) → IsArea area → IsUpto pairs object 0 area area
 upto_none pairs object area is = record { sound = is; objects = same_objects area; fields = refl; others = λ other has differs. refl }
 
--- the field that is next is there
+-- the next field is there
 pub upto_has : (pairs : List (ℕ × ℕ)) (object k : ℕ) (old now : AreaState) → IsUpto pairs object k old now → Contains (starts_of old) object → k < length_at old.words object → HasField now object k
 upto_has pairs object k old now upto has within = record {
   starts = subst (λ (xs : List ℕ). Contains xs object) (sym upto.objects.starts) has;
@@ -100,7 +100,7 @@ upto_all pairs object n old now upto all =
 
 -- One object after another.
 
--- The first objects have gone along.
+-- The first objects are translated.
 pub record AreUpto (pairs : List (ℕ × ℕ)) (k : ℕ) (old now : AreaState) : Type 0 where
   pub sound : IsArea now
   pub objects : HasSameObjects old now

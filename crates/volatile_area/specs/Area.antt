@@ -22,20 +22,20 @@ new_area t = record { transaction = t; made = 0; words = [] }
 abbrev pub length_at : List ℕ → ℕ → ℕ
 length_at words at = length (field_words words at)
 
--- the first words of so many objects that stand end to end from a word on
+-- the first words of that many objects that stand end to end from a word on
 abbrev pub starts_from : ℕ → List ℕ → ℕ → List ℕ
 starts_from zero words at = []
 starts_from (suc more) words at = at ∷ starts_from more words (at + 2 + length_at words at)
 
--- the first word of each object, in the order of making: by it an object is named
+-- the first word of each object, in the order of making, which is also the object's name
 abbrev pub starts_of : AreaState → List ℕ
 starts_of area = starts_from area.made area.words 0
 
--- the words of the kth object that transaction t makes, of so many fields, each null
+-- the words of the kth object that transaction t makes, of that many fields, each null
 abbrev pub new_words : ℕ → ℕ → ℕ → List ℕ
 new_words t k fields = header_bits (Length fields) ∷ birth_bits t k ∷ replicate fields 0
 
--- the area with one object more
+-- the area with one more object
 abbrev pub with_object : AreaState → ℕ → AreaState
 with_object area fields = record area { made = area.made + 1; words = area.words ++ new_words area.transaction (area.made + 1) fields }
 
@@ -48,7 +48,7 @@ pub record HasField (area : AreaState) (object field : ℕ) : Type 0 where
   pub starts : Contains (starts_of area) object
   pub within : field < length_at area.words object
 
--- What holds of each area: objects fill its words end to end, the kth has the birth of the kth, and in each field stands a field's word.
+-- What holds of each area: objects fill its words end to end, the kth has the birth of the kth, and each field holds a field's word.
 pub record IsArea (area : AreaState) : Type 0 where
   pub few : length area.words ≤ VOLATILE_WORDS
   pub objects : AreEndToEnd area.words 0 (starts_of area) (length area.words)
@@ -63,13 +63,13 @@ pub record HasSameObjects (old new : AreaState) : Type 0 where
   pub starts : starts_of new ≡ starts_of old
   pub births : (object : ℕ) → Contains (starts_of old) object → birth_at new.words object ≡ birth_at old.words object
 
--- The area when objects of the heap have moved: in each field of each of its objects a reference to one that moved leads to where it went, and
+-- The area after objects of the heap have moved: in each field of each of its objects a reference to one that moved leads to where it went, and
 -- every other word is as it was.
 pub record IsTranslated (pairs : List (ℕ × ℕ)) (old new : AreaState) : Type 0 where
   pub objects : HasSameObjects old new
   pub fields : (object : ℕ) → Contains (starts_of old) object → field_words new.words object ≡ map (translated_word pairs) (field_words old.words object)
 
--- The same of the fields of one object alone.
+-- The same for the fields of one object alone.
 pub record IsTranslatedIn (pairs : List (ℕ × ℕ)) (object : ℕ) (old new : AreaState) : Type 0 where
   pub objects : HasSameObjects old new
   pub fields : field_words new.words object ≡ map (translated_word pairs) (field_words old.words object)
@@ -81,7 +81,7 @@ pub record IsTranslatedIn (pairs : List (ℕ × ℕ)) (object : ℕ) (old new : 
 abbrev pub area_of : ℕ → List ℕ → List ℕ → AreaState
 area_of t starts words = record { transaction = t; made = length starts; words = words }
 
--- The starts that are kept beside the words of an area are its own.
+-- The starts that are kept with the words of an area are its own.
 pub record AreItsStarts (starts : List ℕ) (area : AreaState) : Type 0 where
   pub own : starts ≡ starts_of area
   pub sound : IsArea area

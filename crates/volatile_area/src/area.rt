@@ -37,7 +37,7 @@ impl Model for Area {
 }
 
 impl Area {
-    /// The area of transaction `t`, which has made no object. It takes no memory.
+    /// The area of transaction `t`, which has made no object. Does not allocate.
     pub fn new(alloc: Global, t: u32) -> Area
         ensures { result ≡ new_area t }
     {
@@ -84,7 +84,7 @@ impl Area {
         &self.starts
     }
 
-    /// Makes an object of so many fields, at most 510, each null, and tells its index. An error changes nothing.
+    /// Makes an object with `fields` fields, at most 510, each null, and returns its index. An error changes nothing.
     pub fn new_object(&mut self, fields: u32) -> Result<u32, AreaError>
         requires { fields ≤ 510 }
         ensures index { IfOk result (λ object. object ≡ length self.old.words) }
@@ -151,8 +151,8 @@ impl Area {
         self.words[(object + FIELDS_AT + field) as usize] = word;
     }
 
-    /// Objects of the heap have moved, as the pairs say: in each field of each object a reference to one of them leads to where it went. It
-    /// takes no memory.
+    /// Objects of the heap have moved, as the pairs say: in each field of each object a reference to one of them leads to where it went. Does
+    /// not allocate.
     pub fn translate(&mut self, pairs: &[(u32, u32)])
         requires { IsRelocation pairs.now }
         ensures { IsTranslated pairs.now self.old self.new }
@@ -178,7 +178,7 @@ impl Area {
     }
 }
 
-// Puts the words of an object of that birth with so many null fields behind these words. An error changes nothing.
+// Appends the words of an object of that birth, with that many null fields, to these words. An error changes nothing.
 fn add_object(words: &mut Vec<u64>, birth: u64, fields: u32) -> Result<(), AllocError>
     requires few { fields ≤ 510 }
     requires fits { vec_len words.old + 2 + fields ≤ 4096 }

@@ -4,9 +4,9 @@ use std::alloc::AllocError;
 /// Why no object was made.
 #[derive(Clone, Copy, Debug, PartialEq, Eq)]
 pub enum AreaError {
-    /// So many words of the area are taken, and the rest is too few.
+    /// That many words of the area are in use, and the rest is too few.
     VolatileFull { used: u32 },
-    /// Memory was refused.
+    /// Out of memory.
     NoMemory,
 }
 

@@ -15,7 +15,7 @@ use Rattle.collection_words.specs.LaidOut.{AreOldEndToEnd}
 abbrev pub is_uncopied : Collection → ℕ → Bool
 is_uncopied k at = not (contains k.moved at)
 
--- The from-space still tells the births of its objects, copied or not: they differ, a copy has that of its original, and no other places are
+-- The from-space still gives the births of its objects, copied or not: they differ, a copy has that of its original, and no other places are
 -- taken for those of copied objects.
 pub record AreOriginals (k : Collection) (words olds : List ℕ) : Type 0 where
   pub own_births : HaveOwnBirths words olds

@@ -64,7 +64,7 @@ pub record HoldsWhole (s : State) (places remaining : Places) (words : List ℕ)
   pub placed : ArePlaced (places ++ remaining) g
   pub placed_in_completed : ArePlaced (places ++ future s words remaining) g
 
--- The births in the words of a state name the objects of both spaces, and the from-space still tells those of its own.
+-- The births in the words of a state name the objects of both spaces, and the from-space still gives those of its own.
 pub record TellsBirths (s : State) (places remaining : Places) (words : List ℕ) : Type 0 where
   pub names : AreNamedByBirth (places ++ remaining) words
   pub originals : HasOriginals s words s.collection
@@ -90,6 +90,6 @@ abbrev pub distance : State → ℕ → Bool → ℕ
 distance s at true = space_words s.pages + (at - other_base s)
 distance s at false = at - s.base
 
--- a name that tells this: the root stands at the base of the current space
+-- a name that says this: the root stands at the base of the current space
 abbrev pub address_name_beside : State → ℕ → Id
 address_name_beside s at = made_by 0 (distance s at (in_other_space s at))

@@ -10,7 +10,7 @@ ghost use Rattle.collection_words.specs.Writes.{AreBacked};
 ghost use Rattle.walk_laws.specs.Births.{AreBornBeside};
 ghost use Rattle.walk_laws.specs.Heap.{AreSpaces, HoldsBorn, HoldsWhole, IsStateWalked, TellsBirths, current_of, from_space, left_of, places_by};
 
-/// Where objects are named by births that are told, the births of both spaces are legal.
+/// Where objects are named by births that are known, the births of both spaces are legal.
 pub fn named_heaps_have_legal_births()
     ensures { (s : State) (next : ℕ) (places remaining : Places) (words : List ℕ) (g : Graph) → AreSpaces s words → HoldsBorn s next places remaining words g → (walked : IsStateWalked s words) → AreBornBeside next words s.base s.used (from_space s) walked }
 {}

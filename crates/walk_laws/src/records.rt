@@ -17,7 +17,7 @@ ghost use Rattle.collection_words.specs.Placed.{HaveOwnNames};
 ghost use Rattle.collection_words.specs.Writes.{IsScanWrite};
 ghost use Rattle.walk_laws.specs.Heap.{TellsBirths};
 
-/// A flip leaves words that tell births, where births named the objects of a heap and only these count as copied.
+/// A flip leaves words that give births, where births named the objects of a heap and only these count as copied.
 pub fn flips_tell_births()
     ensures { (s n : State) (k : Collection) (places chosen remaining : Places) (words : List ℕ) → IsFlipping s places chosen remaining words → HasBegun s n k places chosen remaining words → AreAmong k.moved (addresses places) → HaveOwnNames places → AreNamedByBirth places words → AreNamedByBirth (chosen ++ remaining) words → TellsBirths n (places_from words chosen (other_base s)) remaining (flipped_words s words (addresses chosen)) }
 {}

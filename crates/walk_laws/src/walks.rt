@@ -24,7 +24,7 @@ pub fn underway_heaps_pass_the_walk()
     ensures { (s : State) (k : Collection) (places remaining : Places) (words : List ℕ) (g : Graph) → IsUnderway s k places remaining words → StandsCompleted 0 0 places remaining g [] words s → IsCollectionWalked words s.base s.used (record { base = other_base s; collection = k }) }
 {}
 
-/// A graph that stands where writes are taken back stands in the words behind them: so these pass the walk.
+/// A graph that stands where writes are taken back stands in the words after them: so these pass the walk.
 pub fn taken_back_heaps_hold_graphs()
     ensures { (s : State) (places remaining : Places) (words : List ℕ) (us : List UndoEntry) (g : Graph) → AreSpaces s words → IsLaidOut s places remaining words → AreBacked places words us → StandsCompleted 0 0 places remaining g us words s → AreSpaces s (taken_back us words) × HoldsGraph s places remaining (taken_back us words) g }
 {}

@@ -1,4 +1,4 @@
--- The words behind a copy are laid out.
+-- The words after a copy are laid out.
 use Rattle.std.proofs.Common.{◌≡◌, ◌≢◌, ◌⊎◌, ℕ, ◌+◌, ◌<◌, ◌≤◌, ◌&&◌, inl, inr, Bool, true, false, not, List, [], ◌∷◌, ◌++◌, length, Option, None, Some, refl, sym, ap, ◌∙◌, subst, arith}
 use Rattle.std.specs.Prelude.{Contains, filter, slice_index, if◌then◌else◌}
 use Rattle.std.specs.FinSet.{contains, insert}
@@ -36,7 +36,7 @@ use Rattle.collection_words.proofs.Moves.Ends.{addresses-append, taken_object, t
 use Rattle.collection_words.proofs.Steps.Addresses.{contains-new, contains-other}
 use Rattle.stability_tracker.proofs.ListLaws.{Contains-from_filter}
 
--- the collection and the state behind the copy of an object
+-- the collection and the state after the copy of an object
 abbrev pub copied_collection : State → Collection → List ℕ → ℕ → Collection
 copied_collection s k words from = with_moved k from (s.base + s.used) (words_to_copy words from)
 
@@ -99,7 +99,7 @@ ends_kept words others from [] end each ends = ends
 ends_kept words others from (a ∷ rest) end each (n, same, object, more) =
     (n, same, each a n (Contains-head a rest) object, ends_kept words others (a + 2 + n) rest end (λ at m has. each at m (Contains-rest a rest at has)) more)
 
--- an address of the places behind the copy is one from before, or the copy's
+-- an address of the places after the copy is one from before, or the copy's
 pub place_cases : (s : State) (places : Places) (id : Id) (at : ℕ) → Contains (addresses (with_place s places id)) at → Contains (addresses places) at ⊎ (at ≡ s.base + s.used)
 place_cases s places id at has = elim (Contains-append_cases (addresses places) ((s.base + s.used) ∷ []) at (subst (λ xs. Contains xs at) (addresses-append places ((id, s.base + s.used) ∷ [])) has)) [
   | inl here ↦ inl here
@@ -274,7 +274,7 @@ copied_from {s} {k} {places} {remaining} {words} {id} {from} copying small =
           (λ was. is.from.inside at still.0 n i was below);
     }
 
--- The words behind a copy are laid out, with the object among the current ones.
+-- The words after a copy are laid out, with the object among the current ones.
 pub copied_laid : {s : State} {k : Collection} {places remaining : Places} {words : List ℕ} {id : Id} {from : ℕ} → IsCopying s k places remaining words id from → words_in s.pages ≤ 2097152
     → IsCollecting (copied_state s k words from) (copied_collection s k words from) (with_place s places id) (without remaining from) (copied_words s words from)
 copied_laid {s} {k} {places} {remaining} {words} {id} {from} copying limit =

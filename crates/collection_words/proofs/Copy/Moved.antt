@@ -21,11 +21,11 @@ none_behind : (b : Bool) (at : ℕ) (o : Option ℕ) → (if b then Some at else
 none_behind true at o none = absurd (cc none)
 none_behind false at o none = none
 
--- what is not among places is not among those behind the first
+-- what is not among places is not among those after the first
 pub none_in_rest : (p : Id × ℕ) (ps : Places) (id : Id) → address_of (p ∷ ps) id ≡ None → address_of ps id ≡ None
 none_in_rest p ps id none = none_behind (is_same_id p.0 id) p.1 (address_of ps id) none
 
--- it has not the first one's name
+-- it does not have the first one's name
 pub not_first : (p : Id × ℕ) (ps : Places) (id : Id) (at : ℕ) → address_of ps p.0 ≡ None → address_of ps id ≡ Some at → p.0 ≢ id
 not_first p ps id at none is same = let clash = sym none ∙ ap (address_of ps) same ∙ is in cc
 

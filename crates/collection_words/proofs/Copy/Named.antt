@@ -47,7 +47,7 @@ own_front (p ∷ ps) qs own = (front_none ps qs p.0 own.0, own_front ps qs own.1
       | inr there ↦ let clash = sym none ∙ address_of-append_left ps qs id there.0 there.1 in cc
     ]
 
--- and those behind
+-- and those after it
 pub own_behind : (ps qs : Places) → HaveOwnNames (ps ++ qs) → HaveOwnNames qs
 own_behind [] qs own = own
 own_behind (p ∷ ps) qs own = own_behind ps qs own.1

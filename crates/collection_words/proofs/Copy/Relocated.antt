@@ -1,4 +1,4 @@
--- The completed words behind a copy are those before, with their objects relocated.
+-- The completed words after a copy are those before, with their objects relocated.
 use Rattle.std.proofs.Common.{◌≡◌, ◌≢◌, ℕ, ◌+◌, ◌<◌, ◌≤◌, inl, inr, List, [], ◌∷◌, ◌++◌, Some, is_some, refl, sym, ap, ◌∙◌, subst, arith}
 use Rattle.std.specs.Prelude.{slice_index}
 use Rattle.std.specs.List.{AllByRecursion}
@@ -38,7 +38,7 @@ use Rattle.collection_words.proofs.Relocated.Writes.{IsRelocation}
 pub copying_only : {s : State} {k : Collection} {places remaining : Places} {words : List ℕ} {id : Id} {from : ℕ} → IsCopying s k places remaining words id from → AllByRecursion (λ p. p.1 ≡ from → p.0 ≡ id) remaining
 copying_only {s} {remaining = remaining} {id = id} {from = from} copying = only_at remaining (other_base s) id from (left_ascend copying.is) copying.left
 
--- names are their own behind the copy
+-- names are their own after the copy
 pub copied_own : {s : State} {k : Collection} {places remaining : Places} {words : List ℕ} {id : Id} {from : ℕ} → IsCopying s k places remaining words id from
     → HaveOwnNames (with_place s places id ++ without remaining from)
 copied_own {s} {places = places} {remaining = remaining} {id = id} {from = from} copying = gone_own places remaining id from (s.base + s.used) copying.own (copying_only copying) copying.left
@@ -59,7 +59,7 @@ forward_new {s} {words = words} copying limit =
     let small : s.base + s.used < 2097152 = omega arith in
     ap header (copied_forward copying room) ∙ header-header_bits (Forward (s.base + s.used)) small
 
--- a word refers to the same object behind the copy
+-- a word refers to the same object after the copy
 copied_refers : {s : State} {k : Collection} {places remaining : Places} {words : List ℕ} {id : Id} {from : ℕ} → IsCopying s k places remaining words id from → words_in s.pages ≤ 2097152 → (w : ℕ) (q : Id)
     → RefersTo s places remaining words w q → RefersTo (copied_state s k words from) (with_place s places id) (without remaining from) (copied_words s words from) w q
 copied_refers {s} {places = places} {id = id} copying limit w q (current at means there) = current at means (address_of-append_left places ((id, s.base + s.used) ∷ []) q at there)

@@ -1,4 +1,4 @@
--- A graph that stands in the completed words stands there behind a copy.
+-- A graph that stands in the completed words stands there after a copy.
 use Rattle.std.proofs.Common.{◌≡◌, ℕ, ◌+◌, ◌≤◌, inl, inr, List, [], ◌∷◌, ◌++◌, Some, sym, ◌∙◌, subst, arith}
 use Rattle.std.specs.List.{AllByRecursion}
 use Rattle.heap_spaces.specs.Collection.{Collection}
@@ -71,7 +71,7 @@ copied_back {s} {k} {places} {remaining} {words} {id} {from} us copying limit ba
     (λ q at there. address_of-append_left places (future s words remaining) q at there) (λ q at there. to_copied s places rest id q at there) backed in
     relocated_taken_back us us (copy_relocates copying limit) entries (backed_fields copying.is own us backed)
 
--- A graph that stands in the completed words stands there behind the copy of an object that remains: the writes that may be taken back are the same.
+-- A graph that stands in the completed words stands there after the copy of an object that remains: the writes that may be taken back are the same.
 pub copy_stands : {s : State} {k : Collection} {places remaining : Places} {words : List ℕ} {id : Id} {from t made : ℕ} {g : Graph} (us : List UndoEntry) → (copying : IsCopying s k places remaining words id from)
     → words_in s.pages ≤ 2097152 → AreBacked places words us → StandsCompleted t made places remaining g us words s
     → StandsCompleted t made (with_place s places id) (without remaining from) g us (copied_words s words from) (copied_state s k words from)

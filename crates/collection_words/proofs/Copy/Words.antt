@@ -1,4 +1,4 @@
--- The words behind a copy: the copy has the object's words, where that stood is a forwarding word, and all else is as before.
+-- The words after a copy: the copy has the object's words, where that stood is a forwarding word, and all else is as before.
 use Rattle.std.proofs.Common.{◌≡◌, ◌≢◌, ◌⊎◌, ℕ, suc, ◌+◌, ◌<◌, ◌≤◌, inl, inr, List, [], ◌∷◌, ◌++◌, length, get_or, Some, sym, ap, ◌∙◌, subst, arith}
 use Rattle.std.specs.Prelude.{Contains, slice_index, slice_set}
 use Rattle.std.specs.List.{enumerate_from}

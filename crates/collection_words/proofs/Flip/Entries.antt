@@ -1,4 +1,4 @@
--- A graph stands in the completed words behind a flip, where translated writes are taken back.
+-- A graph stands in the completed words after a flip, where translated writes are taken back.
 use Rattle.std.proofs.Common.{◌≡◌, ℕ, ◌+◌, ◌≤◌, inl, inr, List, [], ◌∷◌, ◌++◌, Option, None, Some, refl, ap, arith}
 use Rattle.heap_words.specs.declared.Word.{Word}
 use Rattle.heap_words.specs.declared.Word.TheVariants as word
@@ -53,7 +53,7 @@ translated_entries pairs places currents rest (u ∷ us) all =
       translated_entries pairs places currents rest us all.1,
     )
 
--- A graph that stands in the words stands in the completed words behind a flip, where translated writes are taken back.
+-- A graph that stands in the words stands in the completed words after a flip, where translated writes are taken back.
 pub flip_stands : {s n : State} {k : Collection} {places currents remaining : Places} {words moved : List ℕ} {t made : ℕ} {g : Graph} (pairs : List (ℕ × ℕ)) (us : List UndoEntry)
     → (flip : IsFlip s n k places currents remaining words moved) → words_in n.pages ≤ 2097152 → address_of currents root ≡ Some n.base → WereTranslated pairs places currents us → AreFields words (addresses places) us
     → Stands t made places g (taken_back us words) s.base s.used → StandsCompleted t made currents remaining g (translated_list pairs us) moved n

@@ -1,4 +1,4 @@
--- The words behind a flip are laid out: all copies are gray, and the others remain.
+-- The words after a flip are laid out: all copies are gray, and the others remain.
 use Rattle.std.proofs.Common.{◌≡◌, ℕ, ◌+◌, ◌*◌, ◌<◌, inl, inr, Bool, true, false, not, List, [], ◌∷◌, Option, None, Some, refl, sym, ap, ◌∙◌, subst, arith}
 use Rattle.std.specs.Prelude.{Contains, MatchOption, filter, slice_index, if◌then◌else◌}
 use Rattle.std.specs.FinSet.{contains}
@@ -170,7 +170,7 @@ flip_from {s} {n} {k} {places} {chosen} {remaining} {words} none flip begun =
     unmoved true is = absurd (cc is)
     unmoved false is = refl
 
--- The words behind a flip are laid out.
+-- The words after a flip are laid out.
 pub flip_laid : {s n : State} {k : Collection} {places chosen remaining : Places} {words : List ℕ} → s.collection ≡ None → IsFlipping s places chosen remaining words → HasBegun s n k places chosen remaining words
     → IsUnderway n k (places_from words chosen (other_base s)) remaining (flipped_words s words (addresses chosen))
 flip_laid {s} {n} {k} {places} {chosen} {remaining} {words} none flip begun =

@@ -24,7 +24,7 @@ use Rattle.collection_words.proofs.Moves.Sources.{put_same}
 use Rattle.collection_words.proofs.Relocated.Writes.{IsRelocation}
 use Rattle.graph_words.proofs.Seal.Places.{address_of-append_left}
 
--- Words of a heap without a collection, and those behind a flip.
+-- Words of a heap without a collection, and those after a flip.
 pub record IsFlip (s n : State) (k : Collection) (places currents remaining : Places) (words moved : List ℕ) : Type 0 where
   pub none : s.collection ≡ None
   pub laid : IsLaidOut s places [] words
@@ -33,7 +33,7 @@ pub record IsFlip (s n : State) (k : Collection) (places currents remaining : Pl
   pub own_there : HaveOwnNames (currents ++ remaining)
   pub parted : HaveParted n places currents remaining words moved
 
--- An object of the words, where it stands in the words behind the flip.
+-- An object of the words, where it stands in the words after the flip.
 record IsParted (currents remaining : Places) (words moved : List ℕ) (id : Id) (at : ℕ) : Type 0 where
   to : ℕ
   fields : ℕ
@@ -47,7 +47,7 @@ parted_object {currents = currents} {remaining = remaining} flip id at (inl copy
 parted_object {currents = currents} {remaining = remaining} flip id at (inr stay) =
     record { to = at; fields = stay.fields; there = behind_there currents remaining id at flip.own_there stay.left; same = stay.same }
 
--- a reference to an object refers to it behind the flip
+-- a reference to an object refers to it after the flip
 parted_refers : {n : State} {currents remaining : Places} {words moved : List ℕ} (w : ℕ) (id : Id) (at : ℕ) → meaning w ≡ Some (word.Stable at)
     → WasCopied n currents words moved id at ⊎ HasStayed remaining words moved id at → RefersTo n currents remaining moved w id
 parted_refers w id at means (inl copy) = forwarded at copy.to means copy.old copy.forward copy.current
@@ -95,7 +95,7 @@ flipped_same {n = n} {currents = currents} {remaining = remaining} {moved = move
     ∙ sym (put_same moved (currents ++ remaining) n.base id)
     ∙ sym (ap (λ (ps : Places). is_some (address_of ps id)) (all_places flip.is.laid))
 
--- The objects of the words are relocated in the completed words behind a flip, from end to end.
+-- The objects of the words are relocated in the completed words after a flip, from end to end.
 pub flip_relocates : {s n : State} {k : Collection} {places currents remaining : Places} {words moved : List ℕ} → IsFlip s n k places currents remaining words moved
     → IsRelocation places (currents ++ future n moved remaining) words (completed n currents remaining moved) s.base (s.base + s.used) n.base (n.base + (n.used + owed n))
 flip_relocates flip = record { here = here_ends flip.laid; there = completed_ends flip.is; is = record { same = flipped_same flip; each = flipped_object flip } }

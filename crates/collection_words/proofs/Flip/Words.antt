@@ -1,4 +1,4 @@
--- The words behind the copies of a flip: each copy has its object's words, where that stood is a forwarding word, and all else is as before.
+-- The words after the copies of a flip: each copy has its object's words, where that stood is a forwarding word, and all else is as before.
 use Rattle.std.proofs.Common.{◌≡◌, ◌≢◌, ◌⊎◌, ℕ, suc, ◌+◌, ◌<◌, ◌≤◌, inl, inr, List, [], ◌∷◌, length, get_or, refl, sym, ap, ◌∙◌, subst, arith}
 use Rattle.std.specs.Prelude.{Contains, slice_index, slice_set}
 use Rattle.std.specs.List.{enumerate_from, flat_map}

@@ -1,4 +1,4 @@
--- Places with more behind them: what holds of the objects of the first ones.
+-- Places with more after them: what holds of the objects of the first ones.
 use Rattle.std.proofs.Common.{◌≡◌, ℕ, zero, suc, inl, inr, Bool, true, false, cond, List, [], ◌∷◌, ◌++◌, length, Option, None, Some, is_some, refl, sym, ap, ◌∙◌, subst}
 use Rattle.std.specs.Prelude.{◌+◌, Contains, slice_index_or}
 use Rattle.std.specs.List.{AllByRecursion}
@@ -43,7 +43,7 @@ visible_front places more t made Null seen = tt
 visible_front places more t made (Int n) seen = seen
 visible_front places more t made (Ref id) seen = at_hand_front places more t made id seen
 
--- what it has made is so where none of it stands behind
+-- what it has made is so where none of it is among the places after
 pub has_front : {places : Places} {g : Graph} {t made : ℕ} (more : Places) → HasMade places g t made → ((k : ℕ) → address_of more (made_by t k) ≡ None) → HasMade (places ++ more) g t made
 has_front {places} {g} {t} {made} more has apart = record {
   each = λ k first last.
@@ -78,7 +78,7 @@ module _ (places more : Places) (t made : ℕ) (none : (k : ℕ) → address_of 
 
 -- Names.
 
--- what holds of all of them holds of the first ones, and of those behind
+-- what holds of all of them holds of the first ones, and of those after
 pub all_front : {X : Type 0} (P : X → Type 0) (xs ys : List X) → AllByRecursion P (xs ++ ys) → AllByRecursion P xs × AllByRecursion P ys
 all_front P [] ys all = (tt, all)
 all_front P (x ∷ xs) ys all = let rest = all_front P xs ys all.1 in ((all.0, rest.0), rest.1)

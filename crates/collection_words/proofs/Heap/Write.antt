@@ -60,7 +60,7 @@ heap_write {s} {places} {remaining} {words} {object} {field} {word} heap write =
 
 -- Writes that may be taken back.
 
--- they put back such words behind a write too
+-- they put back such words after a write too
 pub backed_write : {s : State} {places remaining : Places} {words : List ℕ} {object field word : ℕ} → AreHeapWords s places remaining words → IsHereWrite places words object field word
     → (us : List UndoEntry) → AreBacked places words us → AreBacked places (with_word words object field word) us
 backed_write {s} {places} {words = words} {object = object} {field = field} {word = word} heap write us all =
@@ -104,7 +104,7 @@ heap_turned {s} {places} {remaining} {words} t undo more heap = record {
   laid = record { filled = heap.laid.filled; here = heap.laid.here; from = from_turned s t undo more places remaining words s.collection heap.laid.from };
 }
 
--- other writes put back such words behind these that are taken back
+-- other writes put back such words after these are taken back
 pub backed_taken_back : (us : List UndoEntry) {s : State} {places remaining : Places} {words : List ℕ} → AreHeapWords s places remaining words → AreBacked places words us
     → (vs : List UndoEntry) → AreBacked places words vs → AreBacked places (taken_back us words) vs
 backed_taken_back [] heap all vs others = others

@@ -49,7 +49,7 @@ completed-before {s} {places = places} {remaining = remaining} {words = words} i
     ap (λ (ws : List ℕ). slice_index ws i) (completed_put is)
     ∙ putting-before (followed s words remaining) words (addresses (places ++ remaining)) words s.base i before
 
--- and those behind what is used and owed
+-- and those past what is used and owed
 pub completed-behind : {s : State} {k : Collection} {places remaining : Places} {words : List ℕ} → IsCollecting s k places remaining words → (i : ℕ) → s.base + (s.used + owed s) ≤ i
     → slice_index (completed s places remaining words) i ≡ slice_index words i
 completed-behind {s} {places = places} {remaining = remaining} {words = words} is i behind =

@@ -1,4 +1,4 @@
--- A space that is filled, told of all words in place of the used ones.
+-- A space that is filled, stated for all words instead of the used ones.
 use Rattle.std.proofs.Common.{◌≡◌, ℕ, ◌+◌, List, [], ◌∷◌, Some, sym, ◌∙◌, subst, arith}
 use Rattle.std.specs.Prelude.{Contains}
 use Rattle.object_layout.specs.Layout.{birth_at, object_at}

@@ -75,7 +75,7 @@ move_placed {s} {places} {remaining} {words} laid at has =
     subst (λ m. Contains m (at, at)) (sym (ap (λ xs. moves_from words xs s.base) (addresses-append places remaining) ∙ moves-append words (addresses places) (addresses remaining) s.base))
     (Contains-append_left (moves_from words (addresses places) s.base) _ (at, at) (move_here words s.base (addresses places) (s.base + s.used) at (here_ends laid) has))
 
--- an object goes where it is, or remains and goes behind the used words
+-- an object goes where it is, or remains and goes after the used words
 pub move_kind : {s : State} {places remaining : Places} {words : List ℕ} → IsLaidOut s places remaining words → (at there : ℕ) → Contains (moves_from words (addresses (places ++ remaining)) s.base) (at, there)
     → (Contains (addresses places) at × (at ≡ there)) ⊎ Contains (moves_from words (addresses remaining) (s.base + s.used)) (at, there)
 move_kind {s} {places} {remaining} {words} laid at there has =

@@ -85,7 +85,7 @@ all_taken {places = places} {remaining = remaining} {words = words} is =
 pub all_fit : {s : State} {k : Collection} {places remaining : Places} {words : List ℕ} → IsCollecting s k places remaining words → s.base + taken_by words (addresses (places ++ remaining)) ≤ length words
 all_fit {s} is = let room = spaced_more s (owed s) is.spaced is.spaced.room in omega (arith, all_taken is, is.long)
 
--- their places are those of the current objects, and behind them those to come
+-- their places are those of the current objects, and after them those to come
 pub all_places : {s : State} {places remaining : Places} {words : List ℕ} → IsLaidOut s places remaining words → places ++ future s words remaining ≡ places_from words (places ++ remaining) s.base
 all_places {s} {places} {remaining} {words} laid =
     let here = places-same words s.base places (s.base + s.used) (here_ends laid) in

@@ -12,7 +12,7 @@ use Rattle.graph_words.specs.Places.{Places, address_of, addresses}
 use Rattle.graph_words.proofs.Places.Addresses.{address_of-Contains}
 use Rattle.collection_words.specs.LaidOut.{IsLaidOut}
 
--- An object stands in the used words, with so many fields.
+-- An object stands in the used words, with `fields` fields.
 pub record StandsWithin (s : State) (words : List ℕ) (at : ℕ) : Type 0 where
   pub fields : ℕ
   pub object : object_at words at ≡ Some fields

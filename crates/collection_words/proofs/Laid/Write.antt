@@ -124,7 +124,7 @@ write_filled {s} {places} {words = words} {object = object} {field = field} {wor
       birth = birth_with_word words s.base (addresses places) (s.base + s.used) object field word s.base all.ends (as_field write.is) all.first ∙ all.birth;
     })
 
--- what holds of the words of an object's fields holds of them behind the write, if it holds of the word that is written
+-- what holds of the words of an object's fields holds of them after the write, if it holds of the word that is written
 pub write_fields : {s : State} {places remaining : Places} {words : List ℕ} {object field word : ℕ} (P : ℕ → Type 0) → IsLaidOut s places remaining words → IsHereWrite places words object field word
     → (at n i : ℕ) → object_at words at ≡ Some n → i < n → P (slice_index words (field_at at i)) → P word → P (slice_index (with_word words object field word) (field_at at i))
 write_fields {words = words} {object = object} {field = field} {word = word} P laid write at n i there below was new =
@@ -151,7 +151,7 @@ old_ends_same words others from [] end same ends = ends
 old_ends_same words others from (a ∷ rest) end same (n, equal, long, more) =
     (n, equal, same a (Contains-head a rest) ∙ long, old_ends_same words others (a + 2 + n) rest end (λ at has. same at (Contains-rest a rest at has)) more)
 
--- an object of the from-space that is forwarded to one of places, or that is whole, is so behind the write
+-- an object of the from-space that is forwarded to one of places, or that is whole, is so after the write
 write_forwarded : {s : State} {k : Collection} {places remaining : Places} {words : List ℕ} {object field word : ℕ} → IsCollecting s k places remaining words → IsHereWrite places words object field word
     → (at : ℕ) → in_other_space s at ≡ true → (b : Bool) → (b ≡ false → Contains (addresses remaining) at) → StandsOrForwards words (addresses places) at b
     → StandsOrForwards (with_word words object field word) (addresses places) at b × (old_length (with_word words object field word) at ≡ old_length words at)
@@ -221,7 +221,7 @@ write_laid {s} {k} {places} {remaining} {words} {object} {field} {word} is write
 
 -- The completed words.
 
--- the word of an object that goes somewhere, behind the write
+-- the word of an object that goes somewhere, after the write
 written_word : {s : State} {k : Collection} {places remaining : Places} {words : List ℕ} {object field word : ℕ} → IsCollecting s k places remaining words → IsHereWrite places words object field word
     → (at there j : ℕ) → Contains (moves_from words (addresses (places ++ remaining)) s.base) (at, there) → j < taken_at words at
     → slice_index (with_word (completed s places remaining words) object field word) (there + j)

@@ -1,4 +1,4 @@
--- Objects stay relocated when a field is written in the one words, and the field that it has become in the others: so they do when writes
+-- Objects stay relocated when a field is written in one list of words, and the field that it has become in the other: so they do when writes
 -- are taken back.
 use Rattle.std.proofs.Common.{◌≡◌, ◌≢◌, ◌⊎◌, ℕ, ◌<◌, inl, inr, List, [], ◌∷◌, Some, sym, ap, ◌∙◌, subst, arith}
 use Rattle.std.specs.Prelude.{slice_index, slice_set}

@@ -42,7 +42,7 @@ use Rattle.collection_words.proofs.Laid.TakenBack.{completed_taken_back}
 use Rattle.collection_words.proofs.Laid.Within.{start_within}
 use Rattle.collection_words.proofs.Relocated.Fronts.{ends_front}
 
--- the state behind the end of a collection
+-- the state after the end of a collection
 abbrev pub collected_state : State → State
 collected_state s = record s { collection = None }
 

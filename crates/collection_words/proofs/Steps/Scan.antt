@@ -72,7 +72,7 @@ scan_step {s} {k} {places} {remaining} {words} is small write w =
     } in
     subst (λ (x : ℕ). IsAsComplete s k places remaining words (slice_set words x write.1)) (sym w.at) step
 
--- a write that is still to come is one behind the first
+-- a write that is still to come is one after the first
 scan_later : {s : State} {k : Collection} {places remaining : Places} {words : List ℕ} → IsCollecting s k places remaining words → words_in s.pages ≤ 2097152 → (write : ℕ × ℕ)
     → IsScanWrite s places remaining words write → (y : ℕ × ℕ) → IsScanWrite s places remaining words y → IsScanWrite s places remaining (slice_set words write.0 write.1) y
 scan_later {s} {k} {places} {remaining} {words} is small write w y v =
@@ -139,7 +139,7 @@ scan_can_all : (writes : List (ℕ × ℕ)) {s : State} {k : Collection} {places
 scan_can_all [] is small all = refl
 scan_can_all (w ∷ ws) is small all = and_from _ _ (scan_can is small w all.0) (scan_can_all ws is small all.1)
 
--- the state behind the scan of a page
+-- the state after the scan of a page
 abbrev pub scanned_state : State → Collection → ℕ → State
 scanned_state s k page = record s { collection = Some (with_scanned k page) }
 
@@ -178,7 +178,7 @@ gray_before : (b c : Bool) → (b && c) ≡ true → b ≡ true
 gray_before true c is = refl
 gray_before false c is = absurd (cc is)
 
--- The words stay laid out behind the scan of a page, if the fields of its gray objects lead here.
+-- The words stay laid out after the scan of a page, if the fields of its gray objects lead here.
 pub scan_laid : {s : State} {k : Collection} {places remaining : Places} {words : List ℕ} → IsCollecting s k places remaining words → (page : ℕ)
     → ((at : ℕ) → contains k.gray at ≡ true → (page_of at == page) ≡ true → EachField words at (λ i w. LeadsHere (addresses places) (meaning w)))
     → IsCollecting (scanned_state s k page) (with_scanned k page) places remaining words
@@ -218,7 +218,7 @@ scan_completed is page = sym (completed_put is)
 scan_owed : {s : State} {k : Collection} {places remaining : Places} {words : List ℕ} → IsCollecting s k places remaining words → (page : ℕ) → owed s ≡ owed (scanned_state s k page)
 scan_owed is page = ap owed_by is.run
 
--- A graph that stood in the completed words stands there behind the scan of a page.
+-- A graph that stood in the completed words stands there after the scan of a page.
 pub scan_stands : {s : State} {k : Collection} {places remaining : Places} {words : List ℕ} → IsCollecting s k places remaining words → words_in s.pages ≤ 2097152 → (page : ℕ) (writes : List (ℕ × ℕ))
     → AllByRecursion (IsScanWrite s places remaining words) writes → (t made : ℕ) (g : Graph) (us : List UndoEntry)
     → StandsCompleted t made places remaining g us words s → StandsCompleted t made places remaining g us (put_all words writes) (scanned_state s k page)

@@ -32,7 +32,7 @@ putting-before follow words (a ∷ rest) now to i before =
     ∙ putting-before follow words rest (put_all now block) (to + taken_at words a) i (omega arith)
     ∙ put_from-before now to i (followed_words follow words a) before
 
--- and those behind
+-- and those after
 pub putting-behind : (follow : ℕ → ℕ) (words starts now : List ℕ) (to i : ℕ) → to + taken_by words starts ≤ i → get_or (put_all now (putting follow words starts to)) i 0 ≡ get_or now i 0
 putting-behind follow words [] now to i behind = refl
 putting-behind follow words (a ∷ rest) now to i behind =

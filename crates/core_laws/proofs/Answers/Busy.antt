@@ -1,4 +1,4 @@
--- When a core answers with `busy`, and whom it names: the least of the transactions that stand in the way, and just where one does.
+-- When a core answers `busy`, and whom it names: exactly where other transactions hold conflicting locks, and then the least of these.
 use Rattle.std.proofs.Common.{◌≡◌, ℕ, ◌-◌, ◌*◌, Bool, true, false, length, Option, Some, None, is_some, refl, ap, ◌∙◌, subst}
 use Rattle.std.specs.Prelude.{◌==◌, nat_lt, nat_le, if◌then◌else◌}
 use Rattle.graph_model.specs.declared.id.Id.{Id}
@@ -72,7 +72,7 @@ other_call : (g0 : Graph) (a : Account) (t : Option Transaction) (event : Event)
 other_call g0 a None event = tt
 other_call g0 a (Some t) event = other_view (view g0 a t) event
 
--- what an event asks is no reason to answer so
+-- what an event asks for is never a reason to answer so
 other_event : (next : ℕ) (g0 : Graph) (a : Account) (event : Event) → IsOther (event_refusal next g0 a event)
 other_event next g0 a (Begin s) =
     other_if (is_some (a.active s)) AlreadyActive (if next == no_number then Some NumbersSpent else None) tt (other_if (next == no_number) NumbersSpent None tt tt)
@@ -86,7 +86,7 @@ other_space : (o : Option State) (need : ℕ) → IsOther (space_refusal o need)
 other_space None need = tt
 other_space (Some s) need = other_if (nat_lt (64 * s.pages - s.used - owed s) need) (Exhausted need (64 * s.pages - s.used) (owed s)) None tt tt
 
--- nor is want of room
+-- nor is a lack of room
 other_room : (g : Ground) (g0 : Graph) (a : Account) (o : Option Transaction) (event : Event) → IsOther (room_refusal g g0 a o event)
 other_room g g0 a (Some t) (New s h len) = other_if _ (VolatileFull _) None tt tt
 other_room g g0 a (Some t) (Seal s) = other_space g.state (seal_need g t.number (view g0 a t))
@@ -140,7 +140,7 @@ module _ (g0 : Graph) (a : Account) (event : Event) (holder : ℕ) (within : Are
       let lock = lock_of (view g0 a t).registers event in
       on_lock t lock active refl (holder_told (busy_holder g0 a t.number lock) holder is)
 
--- A core answers `busy` only to a call that has to give way, and names the least of those in its way.
+-- A core answers `busy` only to a call that has to give way, and names the least of the transactions with a conflicting lock.
 pub busy_told : (c : Core) (event : Event) (holder : ℕ) → AreInSessions (account c.history) → core_refusal c event ≡ Some (Busy holder) → GivesWay c.g0 (account c.history) event holder
 busy_told c event holder within is =
     let a = account c.history in
@@ -162,8 +162,8 @@ busy_now None None conflict room holder unfailed asked is = ap (λ (o : Option R
 busy_now None (Some why) conflict room holder unfailed asked is = cc
 busy_now (Some entry) asks conflict room holder unfailed asked is = cc
 
--- Where the heap has not failed, and an event is not refused for what it asks, a call that has to give way is answered `busy`, with the least
--- of those in its way. It comes before all refusals for want of room.
+-- Where the heap has not failed, and an event is not refused for what it asks for, a call that has to give way is answered `busy`, with the least
+-- of the transactions with a conflicting lock. That comes before all refusals for lack of room.
 pub busy_back : (c : Core) (event : Event) (holder : ℕ) → AreInSessions (account c.history) → (account c.history).failed ≡ None → event_refusal (next_number c) c.g0 (account c.history) event ≡ None
     → GivesWay c.g0 (account c.history) event holder → core_refusal c event ≡ Some (Busy holder)
 busy_back c event holder within unfailed asks gives =
@@ -175,7 +175,7 @@ busy_back c event holder within unfailed asks gives =
     ∙ ap busy_with (busy_found c.g0 a t.number gives.lock holder within gives.busy) in
     busy_now a.failed (event_refusal (next_number c) c.g0 a event) (conflict_refusal c.g0 a event) (first_of_two (words_refusal c event) (log_refusal c event)) holder unfailed asks conflict
 
--- Of those in the way of a call one is the least: it gives way to that one.
+-- Of the transactions whose locks conflict with a call one is the least: the call gives way to that one.
 pub hindered_gives_way : (g0 : Graph) (a : Account) (event : Event) → AreInSessions a → IsHindered g0 a event → (holder : ℕ) × GivesWay g0 a event holder
 hindered_gives_way g0 a event within h = by_found (busy_holder g0 a h.transaction.number (Some h.lock)) refl where
   by_found : (o : Option ℕ) → busy_holder g0 a h.transaction.number (Some h.lock) ≡ o → (holder : ℕ) × GivesWay g0 a event holder

@@ -29,16 +29,16 @@ use Rattle.core_laws.specs.Unseen.{is_of_collection, is_flush, without_collectio
 
 -- Refusals.
 
--- a reason that is one for want of room, if it is any
+-- a refusal that is for lack of room, if there is one
 abbrev IsForRoom : Option Refusal → Type 0
 IsForRoom o = MatchOption o (Unit {0}) (λ why. IsUnhindered (Refused why) → ⊥)
 
--- a transaction's own reason for want of room: its area is full
+-- a transaction's own lack of room: its area is full
 abbrev area_of : Graph → Account → Option Transaction → Event → Option Refusal
 area_of g0 a (Some t) (New s h len) = area_refusal (view g0 a t) t.number len
 area_of g0 a t event = None
 
--- the reasons of memory's spaces are that of the area, or none but for want of room
+-- refusals of memory's spaces are that of the area, or only for lack of room
 abbrev IsAreaOrRoom : Option Refusal → Option Refusal → Type 0
 IsAreaOrRoom words area = (words ≡ area) ⊎ ((area ≡ None) × IsForRoom words)
 
@@ -95,7 +95,7 @@ only_model None None words log area reply (inr room) for_room un = by words log 
     by None (Some why) none for_room un = absurd (for_room un)
     by (Some why) log never for_room un = absurd (never un)
 
--- What an event is answered by the history alone, where room is not wanting.
+-- What the history alone answers to an event, where room is not lacking.
 abbrev free_reply : ℕ → Graph → Account → Event → Reply
 free_reply first g0 a event =
     let next = first + a.begun in
@@ -154,7 +154,7 @@ bare_flush a p (Some why) dirty un = bare_refused a (Flush p) why un
 bare_flush a p None true un = refl
 bare_flush a p None false un = refl
 
--- an event that tells nothing of transactions
+-- an event that says nothing about transactions
 abbrev is_aside : Event → Bool
 is_aside event = is_of_collection event || is_flush event
 
@@ -177,7 +177,7 @@ no_fault (Refused DiskFault) un = absurd un
 no_fault (Refused Stopped) un = absurd un
 no_fault reply un = tt
 
--- what tells nothing of transactions went without a fault
+-- what says nothing about transactions went without a fault
 aside_free : (event : Event) (reply : Reply) → is_aside event ≡ true → WentFreely event reply → IsFaultless reply
 aside_free Flip reply aside free = free
 aside_free Scan reply aside free = free
@@ -200,7 +200,7 @@ record AreAlike (d e : Core) : Type 0 where
 after_step : (c d : Core) (event : Event) (reply : Reply) → IsStep c event reply d → account d.history ≡ account_after (account c.history) (record { event = event; reply = reply })
 after_step c d event reply step = ap account (step_history c d event reply step) ∙ account-append c.history (record { event = event; reply = reply })
 
--- one goes on by an event that tells nothing
+-- one continues by an event that says nothing about them
 aside_left : (d e mid : Core) (event : Event) (reply : Reply) → AreAlike d e → is_aside event ≡ true → IsStep d event reply mid → IsFaultless reply → AreAlike mid e
 aside_left d e mid event reply alike aside step un =
     let is = whole_reply d mid event reply step un in
@@ -229,7 +229,7 @@ same_answer d e m n event reply other alike not_one flush step beside un un_too 
     ∙ sym (free_answer e event not_one flush (subst IsUnhindered is_too un_too))
     ∙ sym is_too
 
--- and go on alike
+-- and continue alike
 both_on : (d e m n : Core) (event : Event) (reply other : Reply) → AreAlike d e → is_of_collection event ≡ false → is_flush event ≡ false → IsStep d event reply m → IsStep e event other n
     → IsUnhindered reply → IsUnhindered other → AreAlike m n
 both_on d e m n event reply other alike not_one flush step beside un un_too =
@@ -339,7 +339,7 @@ runs_alike (event ∷ events) d e m n alike run beside un un_too =
         record { replies = left_aside (told event run.0) (run_entries run.1 m events run.3) aside ∙ more.replies; alike = more.alike }
     by false not_one beside un_too goes = both (is_flush event) not_one refl beside un_too goes
 
--- Events with those of collections among them, at any places, tell the same of transactions as without them.
+-- Events with those of collections among them, at any places, say the same about transactions as without them.
 pub unseen_law : UnseenTheorem
 unseen_law c b d e events like run beside un un_too =
     let here = since_run c d events run in

@@ -1,4 +1,4 @@
--- An event behind the scan that comes before it. The log has room for the scan's records and the event's own together; that it has room for
+-- An event after the scan that precedes it. The log has room for the scan's records and the event's own together; that it has room for
 -- the scan's alone follows once both were appended, so they are appended to a larger log first.
 use Rattle.std.proofs.Common.{◌≡◌, ℕ, ◌+◌, ◌≤◌, false, List, ◌++◌, Option, Some, None, sym, ap, ◌∙◌, subst, arith, append_assoc}
 use Rattle.graph_model.specs.declared.id.Id.{Id}
@@ -22,7 +22,7 @@ use Rattle.core_laws.specs.Valid.{Agrees, DiskAgrees}
 
 -- A larger log.
 
--- a core whose log has so many bytes more
+-- a core whose log has that many more bytes
 abbrev pub roomy : Core → ℕ → Core
 roomy c more = record c { room = c.room + more }
 
@@ -77,15 +77,15 @@ agrees_fitting a c more h disk fits = record {
 
 -- The barrier and the event.
 
--- the core with these records of a collection behind all that wait, and its objects where they move them
+-- the core with these records of a collection after all pending ones, and its objects where they move them
 abbrev pub behind : Core → List Record → Core
 behind c rs = appended c rs (moved_by_all (placing c) rs).places (moved_by_all (placing c) rs).remaining
 
--- and with these behind them
+-- and with these after them
 abbrev pub behind_both : Core → List Record → List Record → Core
 behind_both c rs own = record (behind c rs) { pending = (c.pending ++ rs) ++ own }
 
--- where the records of a barrier leave a core that agrees with its history, and an event behind it does so too, the log has room for both
+-- where the records of a barrier leave a core that agrees with its history, and an event after it does so too, the log has room for both
 pub call_behind : (a b : Account) (c : Core) (rs own : List Record) → Agrees a c
     → ((more : ℕ) → Agrees a (roomy c more) → HasRoom (roomy c more) rs a → Agrees a (moved (roomy c more) rs))
     → ((more : ℕ) → Agrees a (roomy c more) → Agrees a (behind (roomy c more) rs) → HasRoom (behind (roomy c more) rs) own b → Agrees b (behind_both (roomy c more) rs own))
@@ -105,7 +105,7 @@ call_behind a b c rs own h kept go room disk =
     let known = ap (λ (l : List Record). reserved (undo_behind c l) b) (sym all) ∙ ap (λ (o : Option State). reserved (undo_with o) b) done.told.reached in
     agrees_fitting b (behind_both c rs own) more done disk (omega (arith, room, front, after, parts, known))
 
--- What a call reads or writes is not gray behind its barrier.
+-- What a call reads or writes is not gray after its barrier.
 pub black_call : (a : Account) (c : Core) (h : Agrees a c) (s : ℕ) (t : Transaction) → a.active s ≡ Some t → (hd i : ℕ) (id : Id) → held (view c.g0 a t).registers hd ≡ Some id
     → (b : Agrees a (behind c (call_barrier (ground c) c.g0 a (a.active s) hd i))) → (at : ℕ) → address_of (behind c (call_barrier (ground c) c.g0 a (a.active s) hd i)).places id ≡ Some at
     → is_gray_field b.behind.collection at i ≡ false

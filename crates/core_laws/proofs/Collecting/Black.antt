@@ -1,4 +1,4 @@
--- What is not gray any more behind the barrier: the object whose field is read or written.
+-- What is no longer gray after the barrier: the object whose field is read or written.
 use Rattle.std.proofs.Common.{◌≡◌, ℕ, ◌+◌, ◌*◌, ◌<◌, ◌≤◌, inl, inr, true, false, Bool, List, [], ◌++◌, Option, Some, None, refl, sym, ap, ◌∙◌, subst, arith, append_assoc}
 use Rattle.std.specs.Prelude.{◌&&◌, ◌/◌, nat_le, nat_lt, if◌then◌else◌, unwrap_or}
 use Rattle.std.specs.List.{list_any, range_with_len}
@@ -60,7 +60,7 @@ scan_black a c h k run page records planned rows b at i here =
     let kept = keep a c h k run page records planned in
     ap (λ (n : State). is_gray_field n.collection at i) (scan_behind a c h k run page records planned rows b) ∙ ap (λ o. is_gray_field o at i) kept.underway.run ∙ kept.black at here
 
--- Behind the barrier.
+-- After the barrier.
 
 both_true : (b d : Bool) → b ≡ true → d ≡ true → (b && d) ≡ true
 both_true true d first second = second
@@ -86,11 +86,11 @@ starts_here a c h id at is = current_page a c h at (placed_within h.told.heap.la
 no_gray : (page : ℕ) → is_gray_in None page ≡ true → ⊥
 no_gray page is = cc is
 
--- cores that agree with one history by the same records say the same of the state behind these
+-- cores that agree with one history by the same records say the same of the state after these
 one_behind : (a : Account) (c : Core) (h b : Agrees a c) → h.behind ≡ b.behind
 one_behind a c h b = same_Some h.behind b.behind (sym h.told.reached ∙ b.told.reached)
 
--- an object whose page was scanned, if it was gray, is not gray behind the scan
+-- an object whose page was scanned, if it was gray, is not gray after the scan
 black_scanned : (a : Account) (c : Core) (h : Agrees a c) (id : Id) (at0 i : ℕ) → address_of c.places id ≡ Some at0 → (o : Option Collection) → h.behind.collection ≡ o → is_gray_in o (page_of at0) ≡ true
     → (p : Option (List Record)) → page_records_of (spaces_of h.behind) (all_words c) (page_of at0) o ≡ p → (b : Agrees a (moved c (unwrap_or p [])))
     → (at : ℕ) → address_of (moved c (unwrap_or p [])).places id ≡ Some at → is_gray_field b.behind.collection at i ≡ false
@@ -121,7 +121,7 @@ black_at : (a : Account) (c : Core) (h : Agrees a c) (id : Id) (i : ℕ) (o : Op
 black_at a c h id i None is b at there = let never = sym is ∙ there in absurd (cc never)
 black_at a c h id i (Some at0) is b at there = black_page a c h id at0 i is (is_gray_in h.behind.collection (page_of at0)) refl b at there
 
--- behind its barrier an object is not gray
+-- after its barrier an object is not gray
 pub black_held : (a : Account) (c : Core) (h : Agrees a c) (id : Id) (i : ℕ) → (b : Agrees a (moved c (held_barrier (ground c) (Some id) i)))
     → (at : ℕ) → address_of (moved c (held_barrier (ground c) (Some id) i)).places id ≡ Some at → is_gray_field b.behind.collection at i ≡ false
 black_held a c h id i =

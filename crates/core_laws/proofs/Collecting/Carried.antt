@@ -1,4 +1,4 @@
--- What a step of a collection carries along: the same objects are there behind it, and what transactions see, hold and wrote leads to them.
+-- What a step of a collection carries along: the same objects are there after it, and what transactions see, hold and wrote leads to them.
 use Rattle.std.proofs.Common.{◌≡◌, ◌⊎◌, ℕ, suc, ◌+◌, ◌<◌, ◌≤◌, inl, inr, true, false, List, [], ◌∷◌, ◌++◌, length, Option, None, Some, is_some, refl, sym, ap, ◌∙◌, subst}
 use Rattle.std.specs.Prelude.{MatchOption, Any, slice_get, unwrap_or}
 use Rattle.std.specs.List.{AllByRecursion}
@@ -34,7 +34,7 @@ none_of : (o : Option ℕ) → is_some o ≡ false → o ≡ None
 none_of None is = refl
 none_of (Some at) is = absurd (cc is)
 
--- an object in neither list is in none of both
+-- an object in neither list is not in their concatenation
 pub none_joined : (ps qs : Places) (id : Id) → address_of ps id ≡ None → address_of qs id ≡ None → address_of (ps ++ qs) id ≡ None
 none_joined ps qs id one other = address_of-append_right ps qs id one ∙ other
 
@@ -149,7 +149,7 @@ carried_written places currents g us vs all of at i written =
 
 -- A step.
 
--- No other objects are there behind a step of a collection, and the writes that may be taken back went along.
+-- No other objects are there after a step of a collection, and the writes that may be taken back went along.
 pub record IsCarried (s n : State) (places remaining currents rest : Places) : Type 0 where
   pub fewer : HasFewer (places ++ remaining) (currents ++ rest)
   pub keys : (q : ℕ) (vs : List UndoEntry) → get n.undo q ≡ Some vs → (us : List UndoEntry) × (get s.undo q ≡ Some us)
@@ -217,7 +217,7 @@ own_rest words ps qs to own id there =
     let none = own_apart ps (places_from words qs to) own id at.0 at.1 in
     none_of (address_of qs id) (sym (put_same words qs to id) ∙ ap is_some none)
 
--- so no locked object remains behind a step
+-- so no locked object remains after a step
 still_unlocked : (currents rest : Places) → AreDisjoint currents rest → (places remaining : Places) → HasFewer (places ++ remaining) (currents ++ rest) → (locks : List Lock)
     → AllByRecursion (λ (lock : Lock). IsStillThere places currents lock.0) locks → AreUnlocked remaining locks → AreUnlocked rest locks
 still_unlocked currents rest apart places remaining fewer [] stay none = tt
@@ -234,7 +234,7 @@ made_here : (there : Places) (t made : ℕ) (id : Id) → IsAtHand there t made 
 made_here there t made id (inl is) none = let clash = sym is ∙ ap is_some none in absurd (cc clash)
 made_here there t made id (inr own) none = own_made t made id own
 
--- A transaction sees behind a step what it saw before, if that stands there.
+-- A transaction sees after a step what it saw before, if that stands there.
 pub carried_writing : {s n : State} {places remaining currents rest : Places} {v : View} {t : ℕ} {locks : List Lock} {words others : List ℕ} → (w : IsWriting places remaining v t locks words s)
     → IsCarried s n places remaining currents rest → KeepsCurrent places currents v t locks
     → Stands t v.made (completed_places n currents rest others) v.graph (others_taken_back n t (completed n currents rest others)) n.base (n.used + owed n)

@@ -90,7 +90,7 @@ module _ (a : Account) (c : Core) (h : Agrees a c) (k : Collection) (run : h.beh
   pub seen : (r : ℕ) → IsSeen last c.places [] behind c.g0 a c.places (a.active r)
   seen r = seen_by (a.active r) (h.writers r)
 
--- A collection with nothing gray can end. Behind its record a core agrees with its history as before, and nothing remains, if the record
+-- A collection with nothing gray can end. After its record a core agrees with its history as before, and nothing remains, if the record
 -- machine lets the record follow as one of a collection, and the log has room for it.
 pub collected_agrees : (a : Account) (c : Core) (h : Agrees a c) (k : Collection) → h.behind.collection ≡ Some k → len k.gray ≡ 0
     → after_all h.behind (Collected ∷ []) ≡ collecting_after h.behind Collected → HasRoom c (Collected ∷ []) a → Agrees a (moved c (Collected ∷ []))

@@ -98,7 +98,7 @@ call_kept : (a : Account) (c : Core) (h : Agrees a c) (o : Option Transaction) (
 call_kept a c h None hd i = λ room. h
 call_kept a c h (Some t) hd i = held_kept a c h (held (view c.g0 a t).registers hd) i
 
--- Behind the scan that comes before an event a core agrees with its history as before.
+-- After the scan that comes before an event a core agrees with its history as before.
 pub barrier_kept : (a : Account) (c : Core) (h : Agrees a c) (event : Event) → IsKept a c (barrier_for (ground c) c.g0 a event)
 barrier_kept a c h (Get s hd i h2) = call_kept a c h (a.active s) hd i
 barrier_kept a c h (Put s hd i v) = call_kept a c h (a.active s) hd i
@@ -115,7 +115,7 @@ flip_step a c h None none room =
     flip_agrees a c h none (flip_spelled a c h none) (one_row h.behind (flip.last a c h none) r (flip.follows a c h none)) room
 flip_step a c h (Some k) run room = h
 
--- Behind a flip a core agrees with its history as before.
+-- After a flip a core agrees with its history as before.
 pub flip_kept : (a : Account) (c : Core) (h : Agrees a c) → IsKept a c (flip_records (ground c).state (all_words c) (roots_of c.places (undo_with (ground c).state) c.g0 a))
 flip_kept a c h =
     subst (λ (o : Option State). IsKept a c (flip_records o (all_words c) (roots_of c.places (undo_with o) c.g0 a))) (sym h.told.reached) (flip_step a c h h.behind.collection refl)
@@ -140,7 +140,7 @@ scan_step a c h (Some k) None run next room =
     collected_agrees a c h k run black (one_row h.behind (ended.last a c h k run black) Collected (ended.follows a c h k run black)) room
 scan_step a c h (Some k) (Some page) run next room = page_kept a c h page room
 
--- Behind a scan a core agrees with its history as before.
+-- After a scan a core agrees with its history as before.
 pub scan_kept : (a : Account) (c : Core) (h : Agrees a c) → IsKept a c (scan_event_records (ground c).state (all_words c))
 scan_kept a c h =
     subst (λ (o : Option State). IsKept a c (scan_event_records o (all_words c))) (sym h.told.reached)

@@ -75,7 +75,7 @@ module _ (a : Account) (c : Core) (h : Agrees a c) (none : h.behind.collection �
   abbrev pub roots : List ℕ
   roots = roots_of c.places (undo_of s) c.g0 a
 
-  -- its record, and the state behind it
+  -- its record, and the state after it
   abbrev pub rec : Record
   rec = flip_record (spaces_of s) (all_words c) roots
 
@@ -191,7 +191,7 @@ module _ (a : Account) (c : Core) (h : Agrees a c) (none : h.behind.collection �
     commits = refl;
   }
 
-  -- What stands behind it.
+  -- What stands after it.
 
   abbrev behind : List ℕ
   behind = words_with c (rec ∷ [])
@@ -249,7 +249,7 @@ module _ (a : Account) (c : Core) (h : Agrees a c) (none : h.behind.collection �
   pub placed : moved_by_all (placing_of c.places c.remaining) (rec ∷ []) ≡ placing_of currents rest
   placed = ap (λ (ps : Places). moved_by (placing_of c.places ps) rec) empty ∙ flip_placed can own
 
-  -- The record of a flip can follow. Behind it a core agrees with its history as before, whose objects are where the record moves them, if the
+  -- The record of a flip can follow. After it a core agrees with its history as before, whose objects are where the record moves them, if the
   -- record machine lets the record follow as one of a collection, it has a spelling, and the log has room for it.
   pub flip_agrees : IsRecord rec → after_all s (rec ∷ []) ≡ collecting_after s rec → HasRoom c (rec ∷ []) a → Agrees a (moved c (rec ∷ []))
   flip_agrees good row room =

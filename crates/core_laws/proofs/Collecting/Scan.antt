@@ -1,4 +1,4 @@
--- A scan of a page: objects are copied and references led to the copies, and the core agrees with its history.
+-- A scan of a page: objects are copied and references updated to the copies, and the core agrees with its history.
 use Rattle.std.proofs.Common.{◌≡◌, ℕ, ◌+◌, ◌≤◌, true, false, Bool, cond, List, [], ◌∷◌, ◌++◌, Option, Some, None, is_some, refl, sym, ap, ◌∙◌, subst}
 use Rattle.std.specs.List.{AllByRecursion}
 use Rattle.std.specs.FinMap.{FinMap, entries, find, get, get-entries, remove}
@@ -139,7 +139,7 @@ module _ (a : Account) (c : Core) (h : Agrees a c) (k : Collection) (run : h.beh
   pub seen : (r : ℕ) → IsSeen keep.next keep.currents keep.rest behind c.g0 a c.places (a.active r)
   seen r = seen_by (a.active r) (h.writers r)
 
--- The records of the scan of a page can follow. Behind them a core agrees with its history as before, whose objects are where the records move
+-- The records of the scan of a page can follow. After them a core agrees with its history as before, whose objects are where the records move
 -- them, if the record machine lets them follow as records of a collection, they have spellings, and the log has room for them.
 pub scan_agrees : (a : Account) (c : Core) (h : Agrees a c) (k : Collection) → h.behind.collection ≡ Some k → (page : ℕ) (records : List Record) → scan_records (spaces_of h.behind) k (all_words c) page ≡ Some records
     → AllByRecursion IsRecord records → after_all h.behind records ≡ collecting_after_all h.behind records → HasRoom c records a → Agrees a (moved c records)

@@ -1,4 +1,4 @@
--- Records tell behind a step of a collection what they told before, and a core goes on that agreed with its history.
+-- Records encode after a step of a collection what they encoded before, and a core that agreed with its history still does.
 use Rattle.std.proofs.Common.{◌≡◌, ℕ, ◌+◌, ◌≤◌, true, false, Bool, List, [], ◌∷◌, ◌++◌, length, Option, None, Some, is_some, refl, sym, ap, ◌∙◌, subst, arith}
 use Rattle.std.specs.Prelude.{IsTrue, ◌*◌, if◌then◌else◌}
 use Rattle.std.specs.List.{AllByRecursion, flat_map}
@@ -58,14 +58,14 @@ fewer_names Q ps qs fewer all =
     let was = was_there ps qs fewer id is.0 is.1 in
     placed_as (λ p. Q p.0) ps id was.0 all was.1)
 
--- What the words are behind a step of a collection, and what stands in them.
+-- What the words are after a step of a collection, and what stands in them.
 pub record IsLeft (s n : State) (born : Bool) (places remaining currents rest : Places) (g : Graph) (words others : List ℕ) : Type 0 where
   pub heap : AreHeapWords n currents rest others
   pub backed : AreAllBacked n currents others
   pub births : IsTrue born → TellsBirths s places remaining words → TellsBirths n currents rest others
   pub stands : StandsCommitted (completed_places n currents rest others) g (all_taken_back n (completed n currents rest others)) n.base (n.used + owed n)
 
--- Records tell the same behind it.
+-- Records encode the same after it.
 pub carried_told : {from s n : State} {born : Bool} {places remaining currents rest : Places} {g : Graph} {k : ℕ} {records : List Record} {words others : List ℕ} (more : List Record)
     → IsTold from born places remaining g k records words s → IsCarried s n places remaining currents rest → AllByRecursion IsRecord more → after_all s more ≡ Some n
     → IsLeft s n born places remaining currents rest g words others → AreOf64Bits others → IsTold from born currents rest g k (records ++ more) others n
@@ -87,7 +87,7 @@ carried_told {from} {s} {n} {born} {places} {remaining} {currents} {rest} {g} {k
 
 -- Sessions.
 
--- What a session's transaction sees stands behind the step, if it has one.
+-- What a session's transaction sees stands after the step, if it has one.
 abbrev pub IsSeen : State → Places → Places → List ℕ → Graph → Account → Places → Option Transaction → Type 0
 IsSeen n currents rest others g0 a places None = Unit {0}
 IsSeen n currents rest others g0 a places (Some t) =

@@ -1,4 +1,4 @@
--- What was sealed stays sealed: an image that stands for first commits does so behind every run between sound cores.
+-- What was sealed stays sealed: an image that stands for a commit prefix does so after every run between sound cores.
 use Rattle.std.proofs.Common.{◌≡◌, ℕ, ◌+◌, List, ◌++◌, length, take, sym, ap, ◌∙◌, subst, arith, length-append}
 use Rattle.std.proofs.lemmas.List.{take-append-le}
 use Rattle.graph_model.specs.declared.event.Event.{Event}
@@ -13,7 +13,7 @@ use Rattle.heap_model.specs.Image.{StandsFor}
 use Rattle.core_laws.proofs.Crash.Image.{commits-sealed}
 use Rattle.core_laws.specs.Valid.{IsSound}
 
--- An image that stands for first commits does so after a run, and for as many.
+-- An image that stands for a commit prefix does so after a run, and for as many commits.
 pub has_at_least_on : (c d : Core) (made : List Event) (least : ℕ) (image : List ℕ) → IsSound c → IsSound d → IsRun c made d → HasAtLeast c least image → HasAtLeast d least image
 has_at_least_on c d made least image from to run has =
     let more = grows c d made run in

@@ -1,4 +1,4 @@
--- What a crash leaves of a reached core: the graph of the first commits since its opening, among them all that were acknowledged.
+-- What a crash leaves of a reached core: the graph of the first k commits since its opening, with all that were acknowledged among them.
 use Rattle.std.proofs.Common.{◌≡◌, inl, inr, ℕ, ◌+◌, ◌≤◌, List, ◌++◌, length, take, Option, None, sym, ap, ◌∙◌, subst, arith}
 use Rattle.std.specs.Prelude.{IsTrue}
 use Rattle.std.specs.Option.{option_to_list}
@@ -30,7 +30,7 @@ use Rattle.core_laws.proofs.Step.Sound.{sound_agrees}
 use Rattle.core_laws.specs.Theorems.{CrashTheorem}
 use Rattle.core_laws.specs.Valid.{Agrees, IsSound}
 
--- Records tell the first k commits of a core since its opening, and all that was acknowledged or forced is among them; the log has room
+-- Records encode the first k commits of a core since its opening, and all that was acknowledged or forced is among them; the log has room
 -- to take back what else they hold.
 pub record TellFirst (c : Core) (k : ℕ) (batches : List (List Record)) : Type 0 where
   pub state : State
@@ -45,7 +45,7 @@ pub record TellFirst (c : Core) (k : ℕ) (batches : List (List Record)) : Type 
   pub forced : commits_on_disk c ≤ c.before + k
   pub some : k ≤ length (commits c.history)
 
--- a seal asks nothing of the disk, so the commits are the sealed transactions
+-- a seal makes no device call, so the commits are the sealed transactions
 pub commits-sealed : (c : Core) → IsSound c → commits c.history ≡ sealed c.history
 commits-sealed c h =
     let b = sound_agrees c h in
@@ -71,7 +71,7 @@ tell_sealed c k batches places remaining now state h told logged room next kept 
       some = subst (λ (ts : List Transaction). k ≤ length ts) (sym same) some;
     }
 
--- so many commits of the log on the disk came before the opening, and so many since then
+-- the commits of the log on the disk are those before the opening and those since then
 pub forced_commits : (a : Account) (c : Core) → (b : Agrees a c) → commits_on_disk c ≡ c.before + b.disk.commits
 forced_commits a c b = ap commits_in b.disk.told.reached ∙ b.disk.told.count
 
@@ -82,7 +82,7 @@ prefixes_on c batches stored logged (inr is) =
     subst (λ (rs : List Record). EachHoldsPrefix (log_origin c) rs stored) (sym (ap records_of is ∙ records_of-with_batch c.batches c.pending))
     (EachHoldsPrefix-append (log_origin c) (records_of c.batches) c.pending stored logged.prefixes)
 
--- the batches on the disk tell the first commits
+-- the batches on the disk encode a commit prefix
 pub tell_first : (c : Core) (batches : List (List Record)) → IsSound c → HasLogWords c → IsOnDisk c batches → (k : ℕ) × TellFirst c k batches
 tell_first c batches h logged (inl is) =
     let b = sound_agrees c h in
@@ -133,7 +133,7 @@ module _ (c : Core) (s : Super) (batches : List (List Record)) (stored : Pages) 
   disk_next : c.first ≤ next_of s batches
   disk_next = let same : next_of s batches ≡ first.1.state.next = ap next_in told.reached in let next = first.1.next in omega arith
 
-  -- where births give the names it is legal, and says the first commits since the opening, with all that was acknowledged or forced
+  -- where births give the names it is legal, and says the first k commits since the opening, with all that was acknowledged or forced
   pub disk_says : IsTrue c.born → (k : ℕ) × Says (serial c.g0 (take k (commits c.history))) (c.before + k) s batches stored × (c.first ≤ next_of s batches) × (acknowledged c.history ≤ k) × (commits_on_disk c ≤ c.before + k) × (k ≤ length (commits c.history))
   disk_says by_birth = (
     first.0,
@@ -144,7 +144,7 @@ module _ (c : Core) (s : Super) (batches : List (List Record)) (stored : Pages) 
     first.1.some,
   )
 
--- A crash leaves an image of the first commits.
+-- A crash leaves an image of a commit prefix.
 pub crash_law : CrashTheorem
 crash_law c s batches stored sound by_birth logged beside on of image held =
     let says = disk_says c s batches stored sound logged beside on of by_birth in

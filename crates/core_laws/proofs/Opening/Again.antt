@@ -1,4 +1,4 @@
--- A heap that is opened goes on, and one that is opened again after a crash goes on from its first commits, any number of times.
+-- A heap that is opened continues, and one that is opened again after a crash continues from its commit prefix, any number of times.
 use Rattle.std.proofs.Common.{◌+◌, true, take}
 use Rattle.graph_model.specs.History.{commits}
 use Rattle.graph_model.specs.Transaction.{serial}
@@ -9,11 +9,11 @@ use Rattle.heap_model.proofs.Opening.Opened.{next_pinned, says_found}
 use Rattle.core_laws.proofs.Opening.Opened.{opened_reached}
 use Rattle.core_laws.specs.Theorems.{OpeningTheorem, AgainTheorem}
 
--- A heap that is opened on a shaped log goes on.
+-- A heap that is opened on a shaped log continues.
 pub opening_law : OpeningTheorem
 opening_law s batches stored shaped gates born places g found = record { reached = opened_reached s batches stored shaped gates born places g found; next = next_pinned s batches stored shaped }
 
--- A heap is opened again on an image of a core's first commits, and goes on from those.
+-- A heap that is opened again on an image of a core's commit prefix continues from that.
 pub opened_again : AgainTheorem
 opened_again c k image first s batches stored gates places g legal found =
     let read : StandsFor g (commits_of s batches) image = record { super = s; batches = batches; stored = stored; says = (says_found s batches stored legal.log places g found).found; held = legal.held } in

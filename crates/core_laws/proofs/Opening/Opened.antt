@@ -70,7 +70,7 @@ module _ (s : Super) (batches : List (List Record)) (stored : Pages) (shaped : I
   abbrev left : Places
   left = remaining_in (Some shaped.state) places
 
-  -- the graph stands in the words behind the opening
+  -- the graph stands in the words after the opening
   opened_holds : HoldsGraph last current left now g
   opened_holds =
       subst (λ (ws : List ℕ). HoldsGraph last current left ws g) (sym (rolled_words-is s batches stored shaped))

@@ -83,7 +83,7 @@ events_other c (event ∷ events) r others = events_other (after c event) events
 
 -- Aborts.
 
--- the aborts of so many sessions from this one on, ascending: of those that have a transaction
+-- the aborts of that many sessions from this one on, ascending: of those that have a transaction
 abbrev pub aborts : Core → ℕ → ℕ → List Event
 aborts c from n = flat_map (λ s. abort_of s (active_in c s)) (range_with_len from n)
 
@@ -125,7 +125,7 @@ aborting_from s c = aborts c s (33 - s)
 abbrev pub aborting_until : ℕ → Core → List Event
 aborting_until n c = aborts c 1 n
 
--- of one session more
+-- of one more session
 pub until_next : (n : ℕ) (c : Core) → aborting_until (n + 1) c ≡ aborting_until n c ++ abort_of (n + 1) (active_in c (n + 1))
 until_next n c =
     let one : n + 1 ≡ suc n = omega arith in

@@ -1,4 +1,4 @@
--- Laws of events of sessions side by side, one after another, where the disk does what it is asked.
+-- Laws of events of sessions side by side, one after another, where the disk does not fail.
 use Rattle.std.proofs.Common.{inl, List, [], ◌∷◌, ◌++◌, refl}
 use Rattle.std.specs.List.{AllByRecursion}
 use Rattle.graph_model.specs.declared.event.Event.{Event}

@@ -52,7 +52,7 @@ ending_few c =
     let same = ap (λ (l : List Event). length l) (until_last c) in
     omega (arith, same, aborts_few c 1 32, force_few d.pending, length-append (aborting c) (forcing d))
 
--- so many more than those that were asked
+-- so there are at most 33 more of them than were asked for
 pub all_few : (stop : Option ℕ) (c : Core) (events : List Event) → length (all_events stop c events) ≤ length events + 33
 all_few None c events = omega (arith, length-append events (ending (after_events c events)), ending_few (after_events c events))
 all_few (Some n) c events = omega arith
@@ -79,7 +79,7 @@ ending_of_session c =
     let d = after_events c (aborting c) in
     AllByRecursion-append IsOfSession (aborting c) (forcing d) (aborting_of_session c) (force_of_session d.pending)
 
--- so all are, if those are that were asked
+-- so are all of them, if those that were asked for are
 pub all_of_session : (stop : Option ℕ) (c : Core) (events : List Event) → AllByRecursion IsOfSession events → AllByRecursion IsOfSession (all_events stop c events)
 all_of_session None c events all = AllByRecursion-append IsOfSession events (ending (after_events c events)) all (ending_of_session (after_events c events))
 all_of_session (Some n) c events all = all
@@ -173,7 +173,7 @@ within : (a : Account) (s : ℕ) (o : Option Transaction) → a.active s ≡ o �
 within a s None is all idle = refl
 within a s (Some t) is all idle = idle (all s t is)
 
--- no session has one behind all of them
+-- no session has one after all of them
 pub aborting_leaves : (c : Core) → IsReached c → IsUnfailed c → (s : ℕ) → active_in (after_events c (aborting c)) s ≡ None
 aborting_leaves c reached unfailed s =
     let d = after_events c (aborting c) in
@@ -187,7 +187,7 @@ forced_all : (c : Core) (o : Option Refusal) → o ≡ None → (with_entry (aft
 forced_all c None is = ap (λ (x : Core). x.pending) (forced-with_batch c)
 forced_all c (Some why) is = cc
 
--- a force leaves nothing that waits
+-- a force leaves no pending record
 pub force_leaves : (c : Core) → IsReached c → IsUnfailed c → (after c Force).pending ≡ []
 force_leaves c reached unfailed = forced_all c (core_refusal c Force) (force_granted c (sound_valid c reached.sound unfailed))
 

@@ -57,7 +57,7 @@ told_failure a c n h = record {
   before = agrees_entry a c n h;
 }
 
--- a fault and a stop in an event that asks the disk
+-- a fault and a stop in an event that calls the disk
 cut_agrees : (a : Account) (c : Core) (event : Event) → AsksDisk event → Agrees a c
     → HasFailed (account_after a (record { event = event; reply = Refused DiskFault })) c × HasFailed (account_after a (record { event = event; reply = Refused Stopped })) c
 cut_agrees a c Force asks h = (told_failure a c (a.entries + 1) h, told_failure a c (a.entries + 1) h)
@@ -115,7 +115,7 @@ force_free : (g0 : Graph) (a : Account) (o : Option Transaction) → call_confli
 force_free g0 a None = refl
 force_free g0 a (Some t) = refl
 
--- a force of a valid core is not refused, and calls the disk where something waits
+-- a force of a valid core is not refused, and calls the disk where a record is pending
 pub force_granted : (c : Core) → IsValid c → core_refusal c Force ≡ None
 force_granted c valid =
     let a = account c.history in

@@ -39,7 +39,7 @@ module _ (a : Account) (c : Core) (h : Agrees a c) {numbers : List ℕ} {heard :
   abbrev all : List Record
   all = all_records c ++ seal.records a c h o s t e
 
-  -- and the words behind them
+  -- and the words after them
   abbrev words : List ℕ
   words = words_with c (seal.records a c h o s t e)
 
@@ -61,7 +61,7 @@ module _ (a : Account) (c : Core) (h : Agrees a c) {numbers : List ℕ} {heard :
   losers : EachKeyed (λ q us. IsActive b q) (seal.last a c h o s t e).undo
   losers = each_other (λ q us. IsActive b q) h.behind.undo t.number (λ q us some differs. ended_actives a b s t e refl q differs (h.losers q us some))
 
-  -- and each of the others goes on
+  -- and each of the others continues
   writers : (r : ℕ) → IsWriter later c.remaining c.g0 b (b.active r) words (seal.last a c h o s t e)
   writers r =
       let last = seal.last a c h o s t e in
@@ -92,7 +92,7 @@ module _ (a : Account) (c : Core) (h : Agrees a c) {numbers : List ℕ} {heard :
         room = omega arith;
       })
 
--- A transaction is sealed, and the others go on.
+-- A transaction is sealed, and the others continue.
 pub seal_agrees : (a : Account) (c : Core) {numbers : List ℕ} {heard : Heard} (o : IsOrdered c.g0 numbers a heard) (s : ℕ) (t : Transaction) (n : ℕ) (more : List Record) (placed : Places)
     → Agrees a c → a.active s ≡ Some t → more ≡ seal_of (ground c) t.number (view c.g0 a t)
     → placed ≡ promoted_places (area_in c.places (view c.g0 a t) t.number) (seal_moves (ground c) t.number (view c.g0 a t))

@@ -1,4 +1,4 @@
--- What a transaction sees that goes on while another one is sealed: it stands behind the seal as before.
+-- What a transaction that continues sees while another one is sealed: it stands after the seal as before.
 use Rattle.std.proofs.Common.{◌≡◌, ◌≢◌, inl, inr, ℕ, ◌+◌, ◌<◌, ◌≤◌, List, [], ◌∷◌, length, get_or, Option, None, Some, is_some, refl, sym, ap, ◌∙◌, subst, arith}
 use Rattle.std.specs.Prelude.{Contains, slice_get, unwrap_or}
 use Rattle.std.specs.List.{AllByRecursion}
@@ -34,7 +34,7 @@ use Rattle.graph_words.proofs.Stands.Objects.{stands_field_apart, stands_field_o
 use Rattle.graph_words.proofs.Stands.Visible.{StandsAsBefore, area_used-same, committed_address, committed_visible, index_of-same, map_bits_of-same, place_of-apart, place_of-placed}
 use Rattle.core_laws.specs.Valid.{AreLockedWrites}
 
--- A transaction that goes on while another one is sealed: what it sees, has made, holds and has written, before and behind the seal.
+-- A transaction that continues while another one is sealed: what it sees, has made, holds and has written, before and after the seal.
 pub record Bystander : Type 0 where
   pub u : ℕ  -- its number
   pub made : ℕ  -- how many objects it has made
@@ -45,7 +45,7 @@ pub record Bystander : Type 0 where
   pub words : List ℕ  -- the words as it sees them
   pub base : ℕ  -- where the space begins
   pub used : ℕ  -- how many words of it are used
-  pub later_places : Places  -- the objects that stand in the space behind the seal
+  pub later_places : Places  -- the objects that stand in the space after the seal
   pub h : Graph  -- the graph that it sees then
   pub later_words : List ℕ  -- the words as it sees them then
   pub later_used : ℕ  -- how many words are used then
@@ -257,7 +257,7 @@ module _ (c : Bystander) (is : IsBystander c) where
         | inr free ↦ subst Seen (sym (is.others id at there free)) (committed_visible c.later_places c.u c.made (fields c.sealed id) (is.settled.visible id at there))
       ]
 
--- Behind the seal.
+-- After the seal.
 
 -- The graph that it sees stands there.
 pub beside_stands : (c : Bystander) → IsBystander c → Stands c.u c.made c.later_places c.h c.later_words c.base c.later_used

@@ -25,11 +25,11 @@ use Rattle.core_laws.specs.Valid.{IsWriting, Agrees}
 
 module _ (a : Account) (c : Core) (h : Agrees a c) {numbers : List ℕ} {heard : Heard} (o : IsOrdered c.g0 numbers a heard) (s : ℕ) (t : Transaction) (e : a.active s ≡ Some t)
     (space : seal.HasSpace a c h o s t e) where
-  -- the objects that stand in the space behind it
+  -- the objects that stand in the space after it
   abbrev later : Places
   later = c.places ++ seal.placed a c h o s t e
 
-  -- All records tell the graph that it leaves.
+  -- All records encode the graph that it leaves.
   pub sealed_told : IsTold (log_start c) c.born later c.remaining (view c.g0 a t).graph (c.before + length a.sealed + 1)
       (all_records c ++ seal.records a c h o s t e) (words_with c (seal.records a c h o s t e)) (seal.last a c h o s t e)
   sealed_told = elim (heap_cases h.told.heap) [
@@ -37,7 +37,7 @@ module _ (a : Account) (c : Core) (h : Agrees a c) {numbers : List ℕ} {heard :
     | inr runs ↦ within_told.sealed_told a c h o s t e runs.0 runs.1 space
   ]
 
-  -- they lead to the state behind it
+  -- they lead to the state after it
   pub reached : after_all (log_start c) (all_records c ++ seal.records a c h o s t e) ≡ Some (seal.last a c h o s t e)
   reached = sealed_told.reached
 
@@ -52,7 +52,7 @@ module _ (a : Account) (c : Core) (h : Agrees a c) {numbers : List ℕ} {heard :
         elim (current_or_made it (can a c h runs.0 runs.1 s t e o space) id at there') [ inl old ↦ inl old | inr own ↦ inr own.maker ]
   ]
 
-  -- What another transaction sees stands behind it.
+  -- What another transaction sees stands after it.
   pub stays_beside : (r : ℕ) (u : Transaction) → s ≢ r → a.active r ≡ Some u → IsWriting later c.remaining (run (view c.g0 a t).graph u) u.number
       (locks_of (view c.g0 a t).graph u) (words_with c (seal.records a c h o s t e)) (seal.last a c h o s t e)
   stays_beside r u apart also = elim (heap_cases h.told.heap) [

@@ -1,4 +1,4 @@
--- What the other active transactions see behind a seal: it stands in the words behind the seal as before, whichever words these are.
+-- What the other active transactions see after a seal: it stands in the words after the seal as before, whichever words these are.
 use Rattle.std.proofs.Common.{◌≡◌, ◌≢◌, ◌⊎◌, inl, inr, ℕ, ◌+◌, ◌<◌, ◌≤◌, List, [], ◌++◌, length, get_or, Option, Some, None, unwrap_or, refl, sym, ap, ◌∙◌, subst, arith}
 use Rattle.std.specs.Prelude.{Contains}
 use Rattle.std.specs.List.{AllByRecursion}
@@ -44,7 +44,7 @@ use Rattle.core_laws.proofs.Sessions.OtherWrites.{IsAway, length-others, others_
 use Rattle.core_laws.proofs.Seal.Words.{own_taken_back}
 use Rattle.core_laws.specs.Valid.{AreLockedWrites, AreUnlocked, IsLockedWrite, Agrees}
 
--- Words, and where objects stand in them, before a seal and behind it.
+-- Words, and where objects stand in them, before a seal and after it.
 pub record Sealed : Type 0 where
   pub places : Places
   pub words : List ℕ
@@ -90,11 +90,11 @@ module _ (a : Account) (c : Core) (h : Agrees a c) {numbers : List ℕ} {heard :
   abbrev pub before : View
   before = view c.g0 a u
 
-  -- and behind the seal
+  -- and after the seal
   abbrev pub behind : View
   behind = run after u
 
-  -- the state behind the seal
+  -- the state after the seal
   abbrev pub last : State
   last = sealed_state h.behind t.number asked
 
@@ -253,7 +253,7 @@ module _ (a : Account) (c : Core) (h : Agrees a c) {numbers : List ℕ} {heard :
     its_back : taken_back its_undo its_later_words ≡ all_taken_back last p.later_words
     its_back = ap (λ us. taken_back us its_later_words) (sym same_undo) ∙ own_taken_back last u.number p.later_words law.sound apart_behind
 
-    -- so it goes on beside the seal
+    -- so it continues beside the seal
     is_bystander : IsBystander bystander
     unfolding bystander
     is_bystander = record {
@@ -276,7 +276,7 @@ module _ (a : Account) (c : Core) (h : Agrees a c) {numbers : List ℕ} {heard :
       held_words = its_fields;
     }
 
-    -- What it sees stands in the words behind the seal.
+    -- What it sees stands in the words after the seal.
     pub sees_beside : Sees last behind u.number its_undo p.later_places p.later_words p.later_used
     unfolding bystander
     sees_beside = record {

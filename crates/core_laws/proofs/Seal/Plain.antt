@@ -1,4 +1,4 @@
--- A seal where no collection is under way: what it finds, and that all records tell what it leaves.
+-- A seal where no collection is under way: what it finds, and that all records encode what it leaves.
 use Rattle.std.proofs.Common.{◌≡◌, ◌≢◌, ◌⊎◌, ℕ, ◌+◌, ◌-◌, ◌*◌, ◌<◌, ◌≤◌, true, inl, inr, max, List, [], ◌∷◌, ◌++◌, length, Option, Some, None, refl, sym, ap, ◌∙◌, subst, arith}
 use Rattle.std.specs.Prelude.{Contains, IsTrue, MatchOption, fold, slice_index, slice_index_or}
 use Rattle.std.specs.List.{AllByRecursion}
@@ -139,7 +139,7 @@ module _ (a : Account) (c : Core) (h : Agrees a c) {numbers : List ℕ} {heard :
   abbrev last : State
   last = seal.last a c h o s t e
 
-  -- the words as they are committed behind the seal
+  -- the words as they are committed after the seal
   abbrev pub settled : List ℕ
   settled = fold put_record own_words promotion
 
@@ -184,11 +184,11 @@ module _ (a : Account) (c : Core) (h : Agrees a c) {numbers : List ℕ} {heard :
         top = omega (arith, ends, seal.same_pages a c h o s t e space, h.in_range.few_pages);
       }
 
-  -- all records lead to the state behind it
+  -- all records lead to the state after it
   pub reached : after_all (start c.pages c.first_number) (all_records c ++ records) ≡ Some last
   reached = after_all-append2 (start c.pages c.first_number) h.behind (all_records c) records h.told.reached ∙ seal_follows h.behind can (all_inside h.behind t.number sound) number (omega (arith, fits, inside))
 
-  -- the committed words behind the seal are those that its transaction sees, with the promotion
+  -- the committed words after the seal are those that its transaction sees, with the promotion
   pub settled_words : all_taken_back last (fold put_record now promotion) ≡ settled
   settled_words = all_ended h.behind last t.number (fold put_record now promotion) refl ∙ others_records h.behind t.number now promotion (seal.promotion_away a c h o s t e)
 
@@ -208,7 +208,7 @@ module _ (a : Account) (c : Core) (h : Agrees a c) {numbers : List ℕ} {heard :
       let back = sym (own_taken_back h.behind t.number now sound (own_apart a c h o s t e)) in
       renamed c.places (taken_back own_undo own_words) own_words (λ at has. sym (taken_back_birth own_stands own_undo w.fields at has)) (subst (AreNamedByBirth c.places) back born)
 
-  -- The words behind it.
+  -- The words after it.
   -- all objects that stand then
   abbrev pub later : Places
   later = c.places ++ placed
@@ -224,7 +224,7 @@ module _ (a : Account) (c : Core) (h : Agrees a c) {numbers : List ℕ} {heard :
   it : Sealing
   it = sealing c.places seen.graph t.number seen.made own_undo own_words h.behind.base h.behind.used next_free
 
-  -- an object stood there before, or it was promoted behind all that was used
+  -- an object stood there before, or it was promoted past all that was used
   later_or_new : (id : Id) (at : ℕ) → address_of later id ≡ Some at → (address_of c.places id ≡ Some at) ⊎ (next_free ≤ at)
   unfolding it
   later_or_new id at there = elim (later_cases it (is_sealing can) id at there) [
@@ -331,7 +331,7 @@ module _ (a : Account) (c : Core) (h : Agrees a c) {numbers : List ℕ} {heard :
   pub behind_none : HasNone last c.remaining
   behind_none = record { none = none.none; left = none.left }
 
-  -- all records tell the graph that it leaves
+  -- all records encode the graph that it leaves
   pub sealed_told : IsTold (log_start c) c.born later c.remaining seen.graph (c.before + length a.sealed + 1) (all_records c ++ records) (words_with c records) last
   sealed_told =
       let is = plain last later c.remaining then behind_none in

@@ -1,4 +1,4 @@
--- What the other active transactions see behind a seal where no collection is under way.
+-- What the other active transactions see after a seal where no collection is under way.
 use Rattle.std.proofs.Common.{◌≡◌, ◌≢◌, ◌⊎◌, inl, inr, ℕ, ◌+◌, ◌<◌, ◌++◌, List, get_or, Some, sym, subst, arith}
 use Rattle.std.specs.Prelude.{fold}
 use Rattle.std.specs.List.{AllByRecursion}
@@ -37,7 +37,7 @@ module _ (a : Account) (c : Core) (h : Agrees a c) {numbers : List ℕ} {heard :
   abbrev now : List ℕ
   now = seal.now a c h o s t e
 
-  -- the objects that stand in the space behind the seal
+  -- the objects that stand in the space after the seal
   abbrev later : Places
   later = c.places ++ seal.placed a c h o s t e
 
@@ -97,7 +97,7 @@ module _ (a : Account) (c : Core) (h : Agrees a c) {numbers : List ℕ} {heard :
           of_fields = w.fields;
         }
 
-    -- so it stands behind the seal
+    -- so it stands after the seal
     pub stays_beside : IsWriting later c.remaining (others.behind a c h o s t e (seal.asked a c h o s t e) r u apart also) u.number
         (locks_of (view c.g0 a t).graph u) (words_with c (seal.records a c h o s t e)) (seal.last a c h o s t e)
     stays_beside =

@@ -78,7 +78,7 @@ module _ (a : Account) (c : Core) (h : Agrees a c) {numbers : List ℕ} {heard :
   abbrev pub placed : Places
   placed = promoted_places own_area (moves_of own_area own_words own_undo next_free)
 
-  -- the state behind the seal
+  -- the state after the seal
   abbrev pub last : State
   last = sealed_state h.behind t.number asked
 

@@ -1,5 +1,5 @@
--- What the other active transactions see behind a seal while a collection runs: it stands behind the seal of the completed words, so it
--- stands in the completed words behind the seal.
+-- What the other active transactions see after a seal while a collection runs: it stands after the seal of the completed words, so it
+-- stands in the completed words after the seal.
 use Rattle.std.proofs.Common.{◌≡◌, ◌≢◌, inl, inr, ℕ, ◌+◌, List, ◌++◌, Some, sym, ◌∙◌, ap, subst, arith}
 use Rattle.std.specs.Prelude.{fold}
 use Rattle.std.specs.List.{AllByRecursion}
@@ -49,7 +49,7 @@ module _ (a : Account) (c : Core) (h : Agrees a c) {numbers : List ℕ} {heard :
   can_it : CanSealWithin it
   can_it = can a c h k run s t e o space
 
-  -- the completed words, and those behind their seal
+  -- the completed words, and those after their seal
   abbrev words : Sealed
   words = record {
     places = law.all it;
@@ -88,7 +88,7 @@ module _ (a : Account) (c : Core) (h : Agrees a c) {numbers : List ℕ} {heard :
     abbrev its_undo : List UndoEntry
     its_undo = undo_of h.behind u.number
 
-    -- what the others have written before, and behind the seal
+    -- what the others have written before, and after the seal
     abbrev earlier_others : List UndoEntry
     earlier_others = listed h.behind u.number
 
@@ -108,7 +108,7 @@ module _ (a : Account) (c : Core) (h : Agrees a c) {numbers : List ℕ} {heard :
         (λ v one. record { id = one.id; object = address_of-append_left c.places (future h.behind (all_words c) c.remaining) one.id v.object one.object; lock = one.lock })
         (writing_of a c r u also h).locked
 
-    -- so it stands behind the seal of the completed words
+    -- so it stands after the seal of the completed words
     seen_then : IsSeenThen it u.number behind.made behind.graph its_undo later_others
     seen_then =
         let then = others.sees_beside a c h o s t e (law.asked it) r u apart also words is_sealed sees locked in
@@ -130,14 +130,14 @@ module _ (a : Account) (c : Core) (h : Agrees a c) {numbers : List ℕ} {heard :
         let left = each_remove (λ q us. AreBacked c.places (all_words c) us) h.behind.undo t.number h.told.backed in
         listed_all (λ v. IsHereWrite c.places (all_words c) v.object v.field v.was) (law.last it) u.number (λ q vs some other. left q vs some)
 
-    -- and behind the seal
+    -- and after the seal
     seen_later : IsSeenWithin (seen_behind it u.number behind.made behind.graph its_undo later_others)
     seen_later =
         let made = (others.alike a c h o s t e (law.asked it) r u apart also).views.made in
         view_kept it can_it u.number behind.made before.graph behind.graph its_undo earlier_others later_others seen_before backed
         (λ i first final. others.its_own a c h o s t e (law.asked it) r u apart also i first (omega arith)) seen_then
 
-    -- what it sees and has written stands in the completed words behind the seal of these words
+    -- what it sees and has written stands in the completed words after the seal of these words
     abbrev Behind : List ℕ → Type 0
     Behind ws =
         let more = seal_records (law.area it) ws it.undo (law.next_free it) in
@@ -162,6 +162,6 @@ module _ (a : Account) (c : Core) (h : Agrees a c) {numbers : List ℕ} {heard :
           handles = others.handles_beside a c h o s t e (law.asked it) r u apart also (law.placed it);
         }
 
-    -- so it does behind the seal as the core does it
+    -- so it does after the seal as the core does it
     pub stays_beside : Behind (seal.own_words a c h o s t e)
     stays_beside = subst Behind (listed_is h.behind t.number (all_words c)) stays_there

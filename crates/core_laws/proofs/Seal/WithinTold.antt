@@ -1,4 +1,4 @@
--- All records tell what a seal leaves while a collection runs.
+-- All records encode what a seal leaves while a collection runs.
 use Rattle.std.proofs.Common.{◌≡◌, ℕ, ◌+◌, List, [], ◌∷◌, ◌++◌, length, Some, sym, ◌∙◌, subst, arith}
 use Rattle.heap_spaces.specs.Collection.{Collection}
 use Rattle.graph_model.specs.declared.id.Id.{Id}
@@ -52,7 +52,7 @@ module _ (a : Account) (c : Core) (h : Agrees a c) {numbers : List ℕ} {heard :
   can_it : CanSealWithin it
   can_it = can a c h k run s t e o space
 
-  -- the completed words behind the seal
+  -- the completed words after the seal
   abbrev whole_then : List ℕ
   whole_then = completed (law.last it) (law.later_places it) c.remaining (law.later_words it)
 
@@ -72,14 +72,14 @@ module _ (a : Account) (c : Core) (h : Agrees a c) {numbers : List ℕ} {heard :
       AllByRecursion-append (Old last) (law.later_places it) to_come (AllByRecursion-front (Old last) (law.later_places it) c.remaining then)
       (old_moved last (law.later_words it) c.remaining ((law.last it).base + (law.last it).used) (AllByRecursion-behind (Old last) (law.later_places it) c.remaining then))
 
-  -- all records tell the graph that a seal of these words leaves
+  -- all records encode the graph that a seal of these words leaves
   abbrev Behind : List ℕ → Type 0
   Behind ws =
       let more = seal_records (law.area it) ws it.undo (law.next_free it) in
       let places = c.places ++ promoted_places (law.area it) (moves_of (law.area it) ws it.undo (law.next_free it)) in
       IsTold (log_start c) c.born places c.remaining seen.graph (c.before + length a.sealed + 1) (all_records c ++ more) (words_with c more) (sealed_state h.behind t.number (promoted_need (law.area it) ws it.undo))
 
-  -- so they do as the laws say the seal
+  -- so they do for the seal as the laws state it
   pub told_there : Behind (law.seen it)
   told_there =
       let laid = seal_laid it can_it in

@@ -96,7 +96,7 @@ own_taken_back s t now sound apart =
     let Apart : ℕ → List UndoEntry → Type 0 = λ q vs. AreApart (undo_of s t) vs in
     each_then (undo_of s t) (entries (remove s.undo t)) now (each_entry Apart (remove s.undo t) (each_other Apart s.undo t apart)) ∙ sym (all_taken_back-first s t now sound apart)
 
--- no transaction has written a word behind those that are used
+-- no transaction has written a word past those that are used
 pub free_away : (s : State) (t x : ℕ) → AreLosers s → s.base + s.used ≤ x → IsAway s t x
 free_away s t x sound above q vs some other =
     AllByRecursion-map (LiesInside s.base s.used) (λ v. x ≢ written v) vs (λ v inside same. let below = inside.below in omega arith) (sound q vs some).inside

@@ -50,11 +50,11 @@ writer_by places remaining g0 a (Some t) words state each = each t refl
 
 -- A call.
 
--- the transaction with one call more
+-- the transaction with one more call
 abbrev pub after_call : Transaction → Event → Transaction
 after_call t event = record { number = t.number; calls = t.calls ++ event ∷ [] }
 
--- what a history says with one call more of a session
+-- what a history says with one more call of a session
 abbrev pub called : Account → ℕ → Event → Account
 called a s event = record (makes_call a s event) { entries = a.entries + 1 }
 

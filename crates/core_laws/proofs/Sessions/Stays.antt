@@ -24,7 +24,7 @@ pub record IsSameFor (places remaining : Places) (u : ℕ) (words more : List �
   pub there : completed_places r places remaining more ≡ completed_places s places remaining words
   pub seen : others_taken_back r u (completed r places remaining more) ≡ others_taken_back s u (completed s places remaining words)
 
--- there the transaction goes on
+-- there the transaction continues
 pub stays_same : {places remaining : Places} {v : View} {u : ℕ} {locks : List Lock} {words more : List ℕ} {s r : State} → IsWriting places remaining v u locks words s → IsSameFor places remaining u words more s r
     → IsWriting places remaining v u locks more r
 stays_same {places} {remaining} {v} {u} {locks} {words} {more} {s} {r} w same = record {

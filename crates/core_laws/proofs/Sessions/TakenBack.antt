@@ -34,7 +34,7 @@ taken_by undo a ss now = fold (λ now s. taken_back (session_undo undo (a.active
 abbrev left : State → FinMap nat_cmp (List UndoEntry) → State
 left s undo = record s { undo = undo }
 
--- An active transaction of one of so many sessions from one on has that number.
+-- An active transaction of one of the `n` sessions from `from` on has the number `q`.
 record IsFrom (a : Account) (from n q : ℕ) : Type 0 where
   session : ℕ
   transaction : Transaction

@@ -42,7 +42,7 @@ module _ {places remaining : Places} {v : View} {t : ℕ} {locks : List Lock} {w
   call_gone (Get s h i h2) = lock_gone h Shared (held v.registers h) refl
   call_gone event = tt
 
--- with one call more no locked object remains
+-- with one more call no locked object remains
 pub unlocked_on : (places remaining : Places) (g : Graph) (t : Transaction) (event : Event) (words : List ℕ) (state : State) → IsWriting places remaining (run g t) t.number (locks_of g t) words state
     → AreUnlocked remaining (locks_of g (after_call t event))
 unlocked_on places remaining g t event words state w =

@@ -58,7 +58,7 @@ Goes c event =
     let a = account c.history in
     Agrees (account_after a (record { event = event; reply = granted (next_number c) c.g0 a event })) (done c event)
 
--- An event isn't refused: not for what it asks, nor for what others hold, nor for want of room.
+-- An event isn't refused: not for what it asks for, nor for what others hold, nor for lack of room.
 pub record IsGranted (c : Core) (event : Event) : Type 0 where
   pub asks : event_refusal (next_number c) c.g0 (account c.history) event ≡ None
   pub free : conflict_refusal c.g0 (account c.history) event ≡ None
@@ -85,7 +85,7 @@ may_go c event unfailed e =
 
 -- Room in the log.
 
--- what the log's test tells
+-- what the log's test says
 pub log_has_room : (c : Core) (event : Event) → log_refusal c event ≡ None
     → HasRoom c (event_records c event) (account_after (account c.history) (record { event = event; reply = granted (next_number c) c.g0 (account c.history) event }))
 log_has_room c event room = full_log-room c.room (used c) (need c.pending (event_records c event)) (reserved_after c event) room
@@ -158,7 +158,7 @@ begin_goes c s valid session may =
     placed_still (account_after a (record { event = Begin s; reply = Begun (next_number c) })) c []
     (begin_agrees a c s valid session (not_active (a.active s) tests.0) (eqb-false (next_number c) no_number tests.1) (log_has_room c (Begin s) may.log))
 
--- what a call leaves, by what it appends to the core behind its barrier
+-- what a call leaves, by what it appends to the core after its barrier
 call_left : (c b : Core) (event : Event) (own : List Record) → IsCall event → behind_barrier c event ≡ b → own_records c event ≡ own
     → Agrees (called (account c.history) (session_of event) event) (record b { pending = b.pending ++ own }) → Goes c event
 call_left c b event own is behind records go =
@@ -194,11 +194,11 @@ quiet_goes c event valid is quiet plain old reads may =
     plain_left c event [] is plain (quiet_records c event is quiet)
     (quiet_agrees a c (session_of event) t.0 event valid t.1 (quiet_call (view c.g0 a t.0) t.0.number event quiet old) (reads c.places t.0.number (view c.g0 a t.0)))
 
--- the core behind an event's barrier
+-- the core after an event's barrier
 abbrev scanned : Core → Event → Core
 scanned c event = behind c (barrier_records c event)
 
--- A call behind its barrier: where it leaves a core that agrees with its history behind a barrier that does, whatever room there is, it does so
+-- A call after its barrier: where it leaves a core that agrees with its history after a barrier that does, whatever room there is, it does so
 -- with the room that it was granted.
 barrier_goes : (c : Core) (event : Event) (own : List Record) → IsValid c → IsCall event → IsGranted c event → own_records c event ≡ own
     → ((more : ℕ) → Agrees (account c.history) (roomy c more) → Agrees (account c.history) (scanned (roomy c more) event)
@@ -247,7 +247,7 @@ new_goes c s h len valid may =
     let room = ap (λ (o : Option Transaction). room_refusal (ground c) c.g0 a o event) (sym t.1) ∙ may.words in
     plain_left c event [] tt refl (quiet_records c event tt refl) (new_agrees a c s t.0 h len valid t.1 bounds.1 (area_fits (view c.g0 a t.0) t.0.number len room))
 
--- What is asked of a call that writes a value into field i of what a handle holds, by what its transaction sees.
+-- What is required of a call that writes a value into field i of what a handle holds, by what its transaction sees.
 record Writes (g0 : Graph) (a : Account) (t : Transaction) (event : Event) (hd i : ℕ) (v : Val) : Type 0 where
   graph : (call (view g0 a t) t.number event).view.graph ≡ put_value (view g0 a t).graph (held (view g0 a t).registers hd) i v
   made : (call (view g0 a t) t.number event).view.made ≡ (view g0 a t).made
@@ -325,7 +325,7 @@ abort_goes c s valid runs may =
     placed_still (account_after a (record { event = Abort s; reply = Aborted })) c (event_records c (Abort s))
     (abort_agrees a c (two_phase_ordered c.g0 c.history runs.plain runs.two_phase) s t.0 (event_records c (Abort s)) valid t.1 (abort_is c s t.0 valid t.1))
 
--- an entry that tells nothing of transactions is one more
+-- an entry that says nothing about transactions is one more
 unanswered : (c d : Core) → IsValid c → Agrees (account c.history) d → Agrees (record (account c.history) { entries = (account c.history).entries + 1 }) d
 unanswered c d valid h =
     let a = account c.history in
@@ -377,7 +377,7 @@ reply_adds c Scan = scan_adds (account c.history) (own_records c Scan) (ground c
 reply_adds c (Flush p) = flush_adds (account c.history) p (is_dirty c p)
 reply_adds c event = refl
 
--- what a history says with one entry more, behind any core
+-- what a history says with one more entry, for any core
 pub valid_entry : (c d : Core) (event : Event) (reply : Reply) → d.history ≡ c.history → Agrees (account_after (account c.history) (record { event = event; reply = reply })) d → IsValid (with_entry d event reply)
 valid_entry c d event reply same h =
     let entry : Entry = record { event = event; reply = reply } in
@@ -397,7 +397,7 @@ either_way c event None valid sound go =
     valid_entry c (done c event) event (granted_by c event) (done_history c event) (subst (λ (b : Account). Agrees b (done c event)) (sym (reply_adds c event)) (go refl))
 either_way c event (Some why) valid sound go = valid_entry c c event (Refused why) refl (refused_agrees (account c.history) c event why sound valid)
 
--- A valid core stays valid where the disk does what it is asked.
+-- A valid core stays valid where the disk does not fail.
 pub valid_after : (c : Core) (event : Event) → IsValid c → RunsLocked c.g0 c.first c.history → IsOfSession event → IsValid (after c event)
 valid_after c event valid runs session =
     either_way c event (core_refusal c event) valid (core_refusal-HasNoFault c event) (λ e. goes c event valid runs session (may_go c event valid.unfailed e))

@@ -103,11 +103,11 @@ quiet_call v t Flip quiet old = record { graph = refl; made = refl }
 quiet_call v t Scan quiet old = record { graph = refl; made = refl }
 quiet_call v t (Flush p) quiet old = record { graph = refl; made = refl }
 
--- a core with an event's own records behind those that wait
+-- a core with an event's own records after the pending ones
 abbrev pub with_own : Core → Core → Event → Core
 with_own b c event = record b { pending = b.pending ++ own_records c event; places = b.places ++ event_places b event }
 
--- what a call does: its own records wait, behind those of the barrier
+-- what a call does: its own records are pending, after those of the barrier
 pub done_records : (c : Core) (event : Event) → IsCall event → done c event ≡ with_own (behind_barrier c event) c event
 done_records c (Begin s) is = absurd is
 done_records c (Seal s) is = absurd is
@@ -118,7 +118,7 @@ done_records c Scan is = absurd is
 done_records c (Flush p) is = absurd is
 done_records c event is = refl
 
--- a call asks nothing of the disk
+-- a call makes no device call
 pub no_call : (event : Event) → IsCall event → AsksDisk event → ⊥
 no_call Force is asks = is
 no_call (Flush p) is asks = is

@@ -22,7 +22,7 @@ use Rattle.heap_model.proofs.Step.Goes.{used-append}
 use Rattle.heap_model.specs.CoreTold.{IsTold, IsNumbered}
 use Rattle.core_laws.specs.Valid.{IsWriting, IsWriter, IsActive, DiskAgrees, Agrees}
 
--- the words with these records behind all that there are
+-- the words with these records after all that there are
 abbrev pub words_with : Core → List Record → List ℕ
 words_with c more = fold put_record (all_words c) more
 
@@ -52,7 +52,7 @@ known_on a c h =
     let known = h.disk.first_known in
     omega arith
 
--- Another history, or more records that wait.
+-- Another history, or more pending records.
 
 -- another history changes nothing of this
 pub agrees_history : (a : Account) (c : Core) (history : List Entry) → Agrees a c → Agrees a (record c { history = history })
@@ -72,7 +72,7 @@ agrees_history a c history h = record {
   room = h.room;
 }
 
--- What an event leaves of a core that agrees with its history: what the history says of the transactions, and what all records tell
+-- What an event leaves of a core that agrees with its history: what the history says of the transactions, and what all records encode
 -- with those that it appends, where these objects stand in the current space then, and these remain.
 pub record Goes (a : Account) (c : Core) (b : Account) (more : List Record) (places remaining : Places) : Type 0 where
   pub unfailed : b.failed ≡ None
@@ -90,7 +90,7 @@ pub record Goes (a : Account) (c : Core) (b : Account) (more : List Record) (pla
   pub writers : (s : ℕ) → IsWriter places remaining c.g0 b (b.active s) (words_with c more) behind
   pub room : used c + need c.pending more + reserved (undo_of behind) b ≤ c.room
 
--- the disk tells the same where more is sealed and no more acknowledged
+-- the disk still agrees where more is sealed and no more acknowledged
 disk_on : (a b : Account) (c : Core) (later : List Transaction) → b.sealed ≡ a.sealed ++ later → b.acknowledged ≡ a.acknowledged → DiskAgrees a c → DiskAgrees b c
 disk_on a b c later sealed acknowledged disk =
     let k = disk.commits in
@@ -136,7 +136,7 @@ goes_on a c b more places remaining h go =
       room = omega arith;
     }
 
--- no more records tell the same
+-- with no more records appended the same is encoded
 pub as_told : (a : Account) (c : Core) → (h : Agrees a c)
     → IsTold (log_start c) c.born c.places c.remaining (serial c.g0 a.sealed) (c.before + length a.sealed) (all_records c ++ []) (words_with c []) h.behind
 as_told a c h =

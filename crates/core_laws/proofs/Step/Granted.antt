@@ -44,11 +44,11 @@ use Rattle.core_laws.specs.Valid.{IsLockedWrite, AreLockedWrites, IsWriting, IsW
 
 -- Room.
 
--- the log has room for the records that an event appends, and for what is kept where the history says so much behind it
+-- the log has room for the records that an event appends, and for what is kept where the history says this after it
 abbrev pub HasRoom : Core → List Record → Account → Type 0
 HasRoom c more b = used c + need c.pending more + reserved (undo_behind c (all_records c ++ more)) b ≤ c.room
 
--- what is kept, where the state behind them is known
+-- what is kept, where the state after them is known
 pub reserved_told : (c : Core) (more : List Record) (b : Account) {places remaining : Places} {g : Graph} {k : ℕ} {state : State} → IsTold (log_start c) c.born places remaining g k (all_records c ++ more) (words_with c more) state
     → reserved (undo_behind c (all_records c ++ more)) b ≡ reserved (undo_of state) b
 reserved_told c more b told = ap (λ o. reserved (undo_with o) b) told.reached
@@ -115,7 +115,7 @@ begin_agrees a c s h session none fits room =
 
 -- Calls.
 
--- a call that appends no record, where what its transaction sees stands behind it
+-- a call that appends no record, where what its transaction sees stands after it
 pub quiet_goes : (a : Account) (c : Core) (s : ℕ) (t : Transaction) (event : Event) → (h : Agrees a c) → a.active s ≡ Some t
     → IsWriting c.places c.remaining (call (view c.g0 a t) t.number event).view t.number (locks_of (serial c.g0 a.sealed) (after_call t event)) (all_words c) h.behind
     → Agrees (called a s event) (record c { pending = c.pending ++ [] })
@@ -145,7 +145,7 @@ quiet_goes a c s t event h e writes =
       room = omega arith;
     })
 
--- with one call more the objects that were written are still held
+-- with one more call the objects that were written are still held
 pub locked_on : (places : Places) (g : Graph) (t : Transaction) (event : Event) (undo : List UndoEntry) → AreLockedWrites places (locks_of g t) undo → AreLockedWrites places (locks_of g (after_call t event)) undo
 locked_on places g t event undo all =
     let more = option_to_list (lock_of (run g t).registers event) in

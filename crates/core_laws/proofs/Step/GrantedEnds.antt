@@ -38,7 +38,7 @@ module _ (a : Account) (c : Core) (h : Agrees a c) {numbers : List ℕ} {heard :
   abbrev ends : List Record
   ends = abort_records t.number (undo_of h.behind t.number)
 
-  -- the state behind them
+  -- the state after them
   abbrev last : State
   last = turned h.behind t.number (with_entries h.behind.undo t.number []) 0
 
@@ -114,7 +114,7 @@ abort_agrees a c o s t more h e is =
 
 -- A force.
 
--- batches with all records tell all that was sealed
+-- batches with all records encode all that was sealed
 pub all_on_disk : (a : Account) (c : Core) (bs : List (List Record)) → (h : Agrees a c) → records_of bs ≡ all_records c
     → IsTold (log_start c) c.born c.places c.remaining (serial c.g0 (take (length a.sealed) a.sealed)) (c.before + length a.sealed) (records_of bs) (all_words c) h.behind
 all_on_disk a c bs h same =
@@ -162,14 +162,14 @@ force_waiting a c acknowledged entries h last =
     subst (Agrees (record a { acknowledged = acknowledged; entries = entries })) (sym (forced-with_batch c))
     (force_all a c (with_batch c.batches c.pending) acknowledged entries h (records_of-with_batch c.batches c.pending) (length-with_batch c.batches c.pending) last)
 
--- all that waits is forced to the disk, and nothing is answered yet
+-- all pending records are forced to the disk, and nothing is answered yet
 pub forced_agrees : (a : Account) (c : Core) → Agrees a c → Agrees a (forced c c.pending)
 forced_agrees a c h =
     let first = h.disk.sealed_first in
     let last = h.disk.acknowledged_last in
     force_waiting a c a.acknowledged a.entries h (omega arith)
 
--- all that waits is forced to the disk
+-- all pending records are forced to the disk
 pub force_agrees : (a : Account) (c : Core) → Agrees a c → Agrees (account_after a (record { event = Force; reply = Durable (length a.sealed) })) (forced c c.pending)
 force_agrees a c h =
     let first = h.disk.sealed_first in
@@ -178,7 +178,7 @@ force_agrees a c h =
 
 -- A flush.
 
--- a page that is stored changes nothing that the history tells
+-- storing a page changes nothing that the history says
 pub agrees_stored : (a : Account) (c : Core) (p : ℕ) → Agrees a c → Agrees a (page_stored c p)
 agrees_stored a c p h = record {
   unfailed = h.unfailed;

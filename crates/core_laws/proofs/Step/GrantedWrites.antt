@@ -136,7 +136,7 @@ lock_after g t event hd id is holds =
     locks_of_calls-append (fresh_view g) t.number t.calls event ∙ ap (λ o. locks_of g t ++ option_to_list o) one in
     subst (λ ls. Contains ls (id, Exclusive)) (sym all) (Contains-push (locks_of g t) (id, Exclusive))
 
--- What is asked of a write.
+-- What is required of a write.
 
 -- A write of a value into field i of what a handle holds, by the transaction of a session: no other one holds that object.
 record IsWrite (a : Account) (c : Core) (s : ℕ) (t : Transaction) (event : Event) (hd i : ℕ) (v : Val) : Type 0 where
@@ -152,7 +152,7 @@ record IsWrite (a : Account) (c : Core) (s : ℕ) (t : Transaction) (event : Eve
 
 -- A write into an object that stands in the current space.
 
--- a write of a field of an object that no other transaction holds is one that the records can tell
+-- a write of a field of an object that no other transaction holds is one that the records can encode
 pub writes_at : (a : Account) (c : Core) (h : Agrees a c) {numbers : List ℕ} {heard : Heard} (o : IsOrdered c.g0 numbers a heard) (s : ℕ) (t : Transaction) (e : a.active s ≡ Some t) (id : Id) (at i : ℕ) (v : Val)
     → address_of c.places id ≡ Some at → i < length (fields (view c.g0 a t).graph id) → IsVisible c.places t.number (view c.g0 a t).made v → IsFree c.g0 a t.number (Some (id, Exclusive)) → is_gray_field h.behind.collection at i ≡ false
     → IsWriteAt c.pages c.first_number c.born c.places c.remaining (serial c.g0 a.sealed) (view c.g0 a t) (c.before + length a.sealed) t.number (locks_of (serial c.g0 a.sealed) t) (all_records c) (all_words c) h.behind id at i v
@@ -191,7 +191,7 @@ module _ (a : Account) (c : Core) {numbers : List ℕ} {heard : Heard} (o : IsOr
   abbrev entry : UndoEntry
   entry = entry_of c.places seen.graph id at i
 
-  -- the state behind it
+  -- the state after it
   abbrev later : State
   later = written w.agrees.behind t.number entry
 

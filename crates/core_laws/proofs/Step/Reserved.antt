@@ -60,7 +60,7 @@ pub reserved_same : (undo other : ℕ → List UndoEntry) (a b : Account) → ((
 unfolding sessions
 reserved_same undo other a b same = sum_same (λ s. kept_for undo (a.active s)) (λ s. kept_for other (b.active s)) 1 32 (λ s low. same s)
 
--- where so much more is kept for one session and as much for the others, so much more is kept
+-- where more is kept for one session and as much for the others, that much more is kept in all
 pub reserved_but : (undo other : ℕ → List UndoEntry) (a b : Account) (s more : ℕ) → IsSession s → kept_for undo (a.active s) + more ≡ kept_for other (b.active s)
     → ((r : ℕ) → r ≢ s → kept_for undo (a.active r) ≡ kept_for other (b.active r)) → reserved undo a + more ≡ reserved other b
 unfolding sessions
@@ -99,7 +99,7 @@ reserved_with undo a s t session none =
 abbrev kept_in : Account → FinMap nat_cmp (List UndoEntry) → ℕ → ℕ
 kept_in a undo s = kept_for (undo_in undo) (a.active s)
 
--- An active transaction of one of so many sessions has that number.
+-- An active transaction of one of the `n` sessions from `from` on has the number `q`.
 record IsActiveFrom (a : Account) (from n q : ℕ) : Type 0 where
   session : ℕ
   transaction : Transaction
@@ -145,7 +145,7 @@ later_session a from n q first one =
       high = omega arith;
     }
 
--- what is kept for so many sessions is enough for writes that active transactions of these have made
+-- what is kept for these sessions is enough for the writes that their active transactions have made
 abbrev IsEnough : Account → ℕ → ℕ → Type 0
 IsEnough a from n =
     (undo : FinMap nat_cmp (List UndoEntry)) → NoneEmpty undo → EachKeyed (λ q us. IsActiveFrom a from n q) undo

@@ -5,7 +5,7 @@ use Rattle.heap_model.specs.Core.{Core}
 use Rattle.core_laws.proofs.Sessions.Actives.{same_actives}
 use Rattle.core_laws.specs.Valid.{Agrees, IsValid, IsSound, IsReached}
 
--- one entry more changes nothing, nor does it whether the disk failed
+-- one more entry changes nothing, nor does it whether the disk failed
 pub agrees_entry : (a : Account) (c : Core) (n : ℕ) → Agrees a c → Agrees (record a { failed = None; entries = n }) c
 agrees_entry a c n h = record {
   unfailed = refl;

@@ -1,4 +1,4 @@
--- Records that tell a graph, with one event's records more, where other transactions have writes of other fields.
+-- Records that encode a graph, with one event's records appended, where other transactions have written other fields.
 use Rattle.std.proofs.Common.{◌≡◌, ℕ, ◌+◌, ◌<◌, Bool, true, max, List, [], ◌∷◌, ◌++◌, length, Some, sym, subst, arith, get_or, ◌∙◌, refl, ◌≤◌, Option, None, ap}
 use Rattle.std.specs.Prelude.{slice_index_or, fold, false}
 use Rattle.std.specs.List.{AllByRecursion}
@@ -53,7 +53,7 @@ use Rattle.core_laws.specs.Valid.{IsWriting}
 
 -- Losers.
 
--- a transaction that no record tells of has no writes that may be taken back
+-- a transaction that no record mentions has no writes that may be taken back
 pub none_yet : (s : State) (t : ℕ) → AreLosers s → s.next ≤ t → get s.undo t ≡ None
 none_yet s t sound above =
     none (get s.undo t) refl
@@ -87,12 +87,12 @@ pub record IsWriteAt (pages first_number : ℕ) (born : Bool) (places remaining 
 heap_spaces : {s : State} {places remaining : Places} {words : List ℕ} → AreHeapWords s places remaining words → AreSpaces s words
 heap_spaces heap = record { spaced = heap.spaced; long = heap.long; small = heap.small }
 
--- births are told where other writes may be taken back
+-- births are known where other writes may be taken back
 tells_turned : (s : State) (t : ℕ) (undo : FinMap nat_cmp (List UndoEntry)) (more : ℕ) (places remaining : Places) (words : List ℕ) → TellsBirths s places remaining words
     → TellsBirths (turned s t undo more) places remaining words
 tells_turned s t undo more places remaining words tells = tells_lists s undo (s.commits + more) (max s.next (t + 1)) places remaining words tells
 
--- what behind one more record is told of the same graph
+-- what is encoded of the same graph after one more record
 told_on : {from : State} {born : Bool} {places remaining : Places} {g : Graph} {k : ℕ} {records : List Record} {now : List ℕ} {state : State} → IsTold from born places remaining g k records now state
     → (more : List Record) (words : List ℕ) (later : State) → AllByRecursion IsRecord more → after_all from (records ++ more) ≡ Some later → later.commits ≡ state.commits → state.next ≤ later.next → later.base ≡ state.base
     → later.used + owed later ≡ state.used + owed state → AreHeapWords later places remaining words → AreOf64Bits words → AreAllBacked later places words → completed_places later places remaining words ≡ completed_places state places remaining now
@@ -179,7 +179,7 @@ module _ (pages first_number : ℕ) (born : Bool) (places remaining : Places) (b
         new_word = field_word x w.seen;
       }
 
-  -- the records tell the same graph with it
+  -- the records encode the same graph with it
   pub write_told : IsTold (start pages first_number) born places remaining base k (records ++ update_of places v.graph t id at i x ∷ []) written_words (written state t entry)
   write_told =
       let left = heap_write w.told.heap here in
@@ -224,7 +224,7 @@ module _ (pages first_number : ℕ) (born : Bool) (places remaining : Places) (g
       (λ tells. tells_turned state t (with_entries state.undo t []) 0 places remaining taken
       (births_back state places remaining now (undo_of state t) (heap_spaces told.heap) told.heap.laid own_backed tells))
 
-  -- A transaction is taken back and leaves nothing: the records tell the same graph.
+  -- A transaction is taken back and leaves nothing: the records encode the same graph.
   pub abort_told : IsTold (start pages first_number) born places remaining g k (records ++ abort_records t (undo_of state t)) (fold put_record now (abort_records t (undo_of state t))) last
   abort_told =
       subst (λ (ws : List ℕ). IsTold (start pages first_number) born places remaining g k (records ++ abort_records t (undo_of state t)) ws last) (sym (abort_words t (undo_of state t) now)) taken_told

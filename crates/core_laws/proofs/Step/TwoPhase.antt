@@ -142,7 +142,7 @@ begun_if : (o : Option Refusal) (reply : Reply) (n : ℕ) → reply_of o reply �
 begun_if None reply n is = is
 begun_if (Some why) reply n is = cc
 
--- What is asked of each entry.
+-- What is required of each entry.
 
 -- a call that was answered was not refused, and found what it needs free
 answer_free : (c : Core) (event : Event) → AreInSessions (account c.history) → RefusesConflicts c.g0 c.history (record { event = event; reply = answer c event })
@@ -166,11 +166,11 @@ answer_viewed c event t own =
 answer_begun : (c : Core) (event : Event) (n : ℕ) → answer c event ≡ Begun n → n ≡ next_number c
 answer_begun c event n is = begun_next c event n (begun_if (core_refusal c event) (granted_by c event) n is)
 
--- once the disk has failed or stopped all is refused for that
+-- once the disk has failed or stopped everything is refused for that
 answer_failed : (c : Core) (event : Event) → EndsWithFailure c.history (record { event = event; reply = answer c event })
 answer_failed c event n failed = ap (λ (o : Option Refusal). reply_of o (granted_by c event)) (failed_refusal c event n failed)
 
--- The history with one entry more.
+-- The history with one more entry.
 
 -- What an entry adds to a history that runs so.
 record IsNext (g0 : Graph) (first : ℕ) (history : List Entry) (e : Entry) : Type 0 where
@@ -179,7 +179,7 @@ record IsNext (g0 : Graph) (first : ℕ) (history : List Entry) (e : Entry) : Ty
   begun : (n : ℕ) → e.reply ≡ Begun n → n ≡ first + (account history).begun
   failed : EndsWithFailure history e
 
--- what is counted of a history that goes on
+-- what is counted of a history that continues
 
 cut_grows : (a : Account) (event : Event) → a.begun ≤ (cut_short a event).begun
 cut_grows a (Seal s) = omega arith
@@ -220,7 +220,7 @@ number_below g0 first history e runs next n there =
           omega (arith, next.begun n is, begun_counted a e n is)
     ]
 
--- a history that runs under two-phase locking does so with one entry more
+-- a history that runs under two-phase locking does so with one more entry
 runs_on : (g0 : Graph) (first : ℕ) (history : List Entry) (e : Entry) → RunsLocked g0 first history → IsNext g0 first history e → RunsLocked g0 first (history ++ e ∷ [])
 runs_on g0 first history e runs next = record {
   plain = plain_append g0 history e next.answered

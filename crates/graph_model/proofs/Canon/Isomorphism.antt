@@ -1,4 +1,4 @@
--- Canons tell isomorphism: two whole graphs have one canon exactly where they are isomorphic.
+-- Canons decide isomorphism: two whole graphs have one canon exactly where they are isomorphic.
 use Rattle.std.proofs.Common.{◌≡◌, ℕ, zero, suc, ◌<◌, ◌↔◌, List, [], ◌∷◌, length, map, Some, option_map, get_or, unwrap_or, refl, sym, ap, ◌∙◌, subst, arith}
 use Rattle.std.specs.Prelude.{slice_get}
 use Rattle.std.specs.FinMap.{get}

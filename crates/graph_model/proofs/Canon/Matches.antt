@@ -63,7 +63,7 @@ match_targets R g h (v ∷ vs) [] xs ys m rows all = absurd rows
 match_targets R g h (v ∷ vs) (w ∷ ws) xs ys m rows all =
     match_targets R g h vs ws (with_target xs v) (with_target ys w) m rows.1 (match_target R g h v w xs ys m rows.0 all)
 
--- next ids that match, or none of both
+-- next ids that match, or neither
 abbrev MatchNext : (Id → Id → Type 0) → Option Id → Option Id → Type 0
 MatchNext R None None = Unit {0}
 MatchNext R (Some a) (Some b) = R a b

@@ -1,4 +1,4 @@
--- The holder that a busy call is told is the one of the relations: the least of those that stand in its way.
+-- The holder that a `busy` reply names is the one of the relations: the least of the transactions with a conflicting lock.
 use Rattle.std.proofs.Common.{◌≡◌, ◌≢◌, ◌⊎◌, inl, inr, ℕ, ◌-◌, ◌<◌, ◌≤◌, zero, suc, true, List, [], ◌∷◌, Option, Some, None, refl, sym, ap, ◌∙◌, subst, arith}
 use Rattle.std.specs.Prelude.{◌==◌, not, filter_map}
 use Rattle.std.specs.List.{Contains, cons_option, list_any}
@@ -116,7 +116,7 @@ session_there s is =
     (s - 1, omega (arith, length-range_with_len 1 32), get_or-range_with_len 1 32 (s - 1) s lt ∙ omega arith)
 
 module _ (g : Graph) (n : ℕ) (lock : Lock) where
-  -- What stands in the way holds something that conflicts.
+  -- A transaction holds a conflicting lock.
   record HoldsConflict (t : Transaction) : Type 0 where
     differs : t.number ≢ n
     mode : Mode
@@ -144,7 +144,7 @@ module _ (g : Graph) (n : ℕ) (lock : Lock) where
       (list_any-from_Any (locks_conflict lock) (locks_of g t)
       (h.there.0, held, h.there.1, h.there.2, and_from (is_same_id lock.0 lock.0) (modes_conflict h.mode lock.1) (itself lock.0) h.conflicts))
 
-  -- The one that is named is active and stands in the way.
+  -- The one that is named is active and holds a conflicting lock.
   record Names (o : Option Transaction) (holder : ℕ) : Type 0 where
     transaction : Transaction
     active : o ≡ Some transaction
@@ -187,14 +187,14 @@ module _ (g0 : Graph) (a : Account) (n : ℕ) (lock : Lock) where
       gives (λ s. holder_in_the_way g n lock (a.active s)) sessions holds.session holder (session_there holds.session (within holds.session t holds.active))
       (name ∙ ap Some holds.number)
 
--- Where no holder is found, none stands in the way.
+-- Where no holder is found, no other transaction has a conflicting lock.
 pub free_law : (g0 : Graph) (a : Account) (n : ℕ) (lock : Option Lock) → AreInSessions a → busy_holder g0 a n lock ≡ None → IsFree g0 a n lock
 free_law g0 a n None within none = tt
 free_law g0 a n (Some lock) within none = λ other way.
     let gone = subst (λ ks. Contains ks other) (no_least (holders_in_the_way g0 a n lock) none) (is_counted g0 a n lock within other way) in
     absurd (omega (arith, gone.1))
 
--- Where one is found, it is the least that does.
+-- Where one is found, it is the least that has one.
 pub busy_law : (g0 : Graph) (a : Account) (n : ℕ) (lock : Lock) (holder : ℕ) → AreInSessions a → busy_holder g0 a n (Some lock) ≡ Some holder → IsBusy g0 a n lock holder
 busy_law g0 a n lock holder within is =
     let own = least_is (holders_in_the_way g0 a n lock) holder is in
@@ -203,12 +203,12 @@ busy_law g0 a n lock holder within is =
       least = λ other way. own.below other (is_counted g0 a n lock within other way);
     }
 
--- And where none stands in the way, none is found;
+-- And where no other transaction has a conflicting lock, no holder is found;
 pub free_found : (g0 : Graph) (a : Account) (n : ℕ) (lock : Option Lock) → IsFree g0 a n lock → busy_holder g0 a n lock ≡ None
 free_found g0 a n None free = refl
 free_found g0 a n (Some lock) free = least_none (holders_in_the_way g0 a n lock) (λ k there. free k (in_the_way_of g0 a n lock k there))
 
--- where one is the least that does, it is found.
+-- where one is the least that has one, it is found.
 pub busy_found : (g0 : Graph) (a : Account) (n : ℕ) (lock : Lock) (holder : ℕ) → AreInSessions a → IsBusy g0 a n lock holder → busy_holder g0 a n (Some lock) ≡ Some holder
 busy_found g0 a n lock holder within busy =
     least_some (holders_in_the_way g0 a n lock) holder (record {

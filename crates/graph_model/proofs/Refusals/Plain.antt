@@ -104,7 +104,7 @@ first_no_fault : (first second : Option Refusal) → HasNoFault first → HasNoF
 first_no_fault None second h k = k
 first_no_fault (Some why) second h k = h
 
--- nor is an event that others stand in the way of
+-- nor is an event in conflict with others
 pub model_no_fault : (next : ℕ) (g0 : Graph) (a : Account) (event : Event) → HasNoFault (model_refusal next g0 a event)
 model_no_fault next g0 a event =
     first_no_fault (event_refusal next g0 a event) (conflict_refusal g0 a event) (event_no_fault next g0 a event) (call_conflict_no_fault g0 a (a.active (session_of event)) event)
@@ -113,7 +113,7 @@ failed_no_fault : (failed : Option ℕ) (why : Option Refusal) → HasNoFault wh
 failed_no_fault None why h = h
 failed_no_fault (Some entry) why h = tt
 
--- what a call is answered that is not refused
+-- what a call that is not refused is answered
 pub call_reply-IsCallReply : (g0 : Graph) (a : Account) (t : Option Transaction) (event : Event) → IsCallReply (call_reply g0 a t event)
 call_reply-IsCallReply g0 a None event = tt
 call_reply-IsCallReply g0 a (Some t) event = call-IsCallReply (view g0 a t) t.number event
@@ -122,7 +122,7 @@ call_sound : (reply : Reply) → IsCallReply reply → IsSoundReply reply
 call_sound (Refused why) never = absurd never
 call_sound reply is = tt
 
--- nor does what an event is answered that is not refused
+-- nor does what an event that is not refused is answered
 pub granted_sound : (next : ℕ) (g0 : Graph) (a : Account) (event : Event) → IsSoundReply (granted next g0 a event)
 granted_sound next g0 a (Begin s) = tt
 granted_sound next g0 a (Seal s) = tt

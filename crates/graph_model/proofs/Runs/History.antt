@@ -1,4 +1,4 @@
--- Laws of histories and of what transactions do: one entry, one call and one transaction more.
+-- Laws of histories and of what transactions do: one more entry, call or transaction.
 use Rattle.std.proofs.Common.{◌≡◌, ℕ, ◌+◌, ◌≤◌, zero, suc, Bool, true, false, List, [], ◌∷◌, ◌++◌, length, replicate, take, Option, Some, None, refl, ap, ◌∙◌, arith}
 use Rattle.std.specs.Prelude.{slice_index_or, fold, option_and_then, if◌then◌else◌}
 use Rattle.std.proofs.lemmas.List.{length-set, length-replicate, take-append-le}
@@ -17,7 +17,7 @@ use Rattle.graph_model.specs.Transaction.{Registers, no_registers, View, Transac
 use Rattle.graph_model.specs.History.{Account, account_after, account, nothing_yet, session_of, makes_call}
 use Rattle.graph_model.specs.Replies.{IsCallReply}
 
--- what a history says with one entry more
+-- what a history says with one more entry
 pub account-append : (h : List Entry) (e : Entry) → account (h ++ e ∷ []) ≡ account_after (account h) e
 account-append h e = fold-append account_after nothing_yet h (e ∷ [])
 
@@ -29,21 +29,21 @@ entries-fold a (e ∷ h) = let next = entries-fold (account_after a e) h in omeg
 pub entries-account : (h : List Entry) → (account h).entries ≡ length h
 entries-account h = entries-fold nothing_yet h ∙ omega arith
 
--- the view after one call more
+-- the view after one more call
 pub after_calls-append : (v : View) (t : ℕ) (cs : List Event) (c : Event) → after_calls v t (cs ++ c ∷ []) ≡ (call (after_calls v t cs) t c).view
 after_calls-append v t [] c = refl
 after_calls-append v t (d ∷ cs) c = after_calls-append (call v t d).view t cs c
 
--- the replies with one call more
+-- the replies with one more call
 pub call_replies-append : (v : View) (t : ℕ) (cs : List Event) (c : Event) → call_replies v t (cs ++ c ∷ []) ≡ call_replies v t cs ++ (call (after_calls v t cs) t c).reply ∷ []
 call_replies-append v t [] c = refl
 call_replies-append v t (d ∷ cs) c = ap (λ rs. (call v t d).reply ∷ rs) (call_replies-append (call v t d).view t cs c)
 
--- what a transaction sees after one call more
+-- what a transaction sees after one more call
 pub run-append : (g : Graph) (t : Transaction) (c : Event) → run g (record { number = t.number; calls = t.calls ++ c ∷ [] }) ≡ (call (run g t) t.number c).view
 run-append g t c = after_calls-append (fresh_view g) t.number t.calls c
 
--- the graph after one transaction more
+-- the graph after one more transaction
 pub serial-append : (g : Graph) (ts : List Transaction) (t : Transaction) → serial g (ts ++ t ∷ []) ≡ (run (serial g ts) t).graph
 serial-append g [] t = refl
 serial-append g (u ∷ ts) t = serial-append (run g u).graph ts t
@@ -145,7 +145,7 @@ call-reply v t (Same s h h2) order = absurd order
 call-reply v t (Len s h) order = absurd order
 call-reply v t c order = refl
 
--- what a history says with one call more that was not refused
+-- what a history says with one more call that was not refused
 pub account_after-call : (a : Account) (event : Event) (reply : Reply) → IsCallReply reply
     → account_after a (record { event = event; reply = reply }) ≡ record (makes_call a (session_of event) event) { entries = a.entries + 1 }
 account_after-call a event (Begun n) never = absurd never

@@ -31,7 +31,7 @@ target_grows ids Null = ([], sym (append-nil ids))
 target_grows ids (Int n) = ([], sym (append-nil ids))
 target_grows ids (Ref id) = added_grows (list_any (is_same_id id) ids) ids id
 
--- what is numbered with fields goes on from what was numbered
+-- what is numbered with fields continues from what was numbered
 pub targets_grow : (ids : List Id) (vs : List Val) → (rest : List Id) × (with_targets ids vs ≡ ids ++ rest)
 targets_grow ids [] = ([], sym (append-nil ids))
 targets_grow ids (v ∷ vs) =

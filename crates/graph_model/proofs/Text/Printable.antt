@@ -1,4 +1,4 @@
--- Texts tell isomorphism: two whole graphs are printed alike exactly where they are isomorphic.
+-- Texts decide isomorphism: two whole graphs are printed alike exactly where they are isomorphic.
 use Rattle.std.proofs.Common.{◌≡◌, ℕ, zero, suc, ◌^◌, ◌<◌, ◌↔◌, List, [], ◌∷◌, length, map, Option, Some, None, unwrap_or, refl, sym, ap, subst, arith}
 use Rattle.std.specs.Prelude.{slice_get}
 use Rattle.std.specs.List.{AllByRecursion, position}

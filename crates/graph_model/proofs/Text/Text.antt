@@ -1,4 +1,4 @@
--- The text of a canon tells the canon: two canons with one text are one, where their numbers are below 2 ^ 64.
+-- The text of a canon determines the canon: two canons with one text are one, where their numbers are below 2 ^ 64.
 use Rattle.std.proofs.Common.{◌≡◌, ℕ, ◌+◌, ◌^◌, ◌%◌, ◌<◌, ◌≤◌, List, [], ◌∷◌, ◌++◌, length, codes, decimal, refl, sym, ap, ◌∙◌, arith, append_assoc}
 use Rattle.std.specs.List.{AllByRecursion}
 use Rattle.std.proofs.lemmas.Fmt.{decimal_by_steps, decimal_nonempty, decimal_injective}
@@ -54,7 +54,7 @@ no_digit (d ∷ ds) c s t some all same = let one = same_head d c (ds ++ s) t sa
 decimal_begins : (n c : ℕ) (s t : List ℕ) → n < 2 ^ 64 → decimal n ++ s ≡ c ∷ t → IsDigit c
 decimal_begins n c s t small = no_digit (decimal n) c s t (decimal_nonempty n small) (decimal_digits n small)
 
--- what a field shows behind the blank
+-- what a field shows after the blank
 abbrev token : Shown → List ℕ
 token Nothing = 45 ∷ []
 token (Number n) = decimal n
@@ -77,7 +77,7 @@ field_blank Nothing = refl
 field_blank (Number n) = refl
 field_blank (Object n) = refl
 
--- what stands behind a row's fields
+-- what follows a row's fields
 fields_then : (f : Shown) (fs : List Shown) (s : List ℕ) → fields_text (f ∷ fs) ++ s ≡ 32 ∷ (token f ++ (fields_text fs ++ s))
 fields_then f fs s = append_assoc (field_text f) (fields_text fs) s ∙ ap (λ cs. cs ++ (fields_text fs ++ s)) (field_blank f)
 

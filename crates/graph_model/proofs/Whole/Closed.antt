@@ -118,7 +118,7 @@ pub closed_whole : (g : Graph) → IsClosed g → IsWhole g
 closed_whole g closed id at_root = closed.root_there
 closed_whole g closed id (along {id = from} i target reached is) = closed.targets from i target is
 
--- what a reference leads to that is read of a field
+-- what a reference that is read from a field leads to
 pub read_there : (g : Graph) (o : Option Id) (i : ℕ) (target : Id) → IsClosed g → slice_index_or (fields_of g o) i Null ≡ Ref target → IsThere g target
 read_there g None i target closed is = cc
 read_there g (Some id) i target closed is = closed.targets id i target (slice_get_reference (fields g id) i target is)
@@ -210,7 +210,7 @@ IsThere-after_calls v t (c ∷ cs) q there = IsThere-after_calls (call v t c).vi
 pub IsThere-run : (g : Graph) (t : Transaction) (q : Id) → IsThere g q → IsThere (run g t).graph q
 IsThere-run g t q there = IsThere-after_calls (fresh_view g) t.number t.calls q there
 
--- a call has made an object more, or none
+-- a call has made one more object, or none
 pub made-call : (v : View) (t : ℕ) (c : Event) → v.made ≤ (call v t c).view.made
 made-call v t (New s h len) = omega arith
 made-call v t c = omega arith
@@ -219,7 +219,7 @@ pub made-after_calls : (v : View) (t : ℕ) (cs : List Event) → v.made ≤ (af
 made-after_calls v t [] = omega arith
 made-after_calls v t (c ∷ cs) = omega (arith, made-call v t c, made-after_calls (call v t c).view t cs)
 
--- The object is one that transaction t made since it had made so many, of those that it has made now.
+-- The object is one that transaction t made after its first `before` objects, and among its first `made`.
 record IsMadeSince (t before made : ℕ) (id : Id) : Type 0 where
   maker : id.t ≡ t
   from : before < id.k

@@ -16,7 +16,7 @@ the_fields g id vs is = ap (λ o. unwrap_or o []) is
 pub made_get : {places : Places} {g : Graph} {t made : ℕ} → HasMade places g t made → (k : ℕ) → 1 ≤ k → k ≤ made → get g (made_by t k) ≡ Some (fields g (made_by t k))
 made_get {g = g} {t = t} has k first last = let one = has.each k first last in one.is ∙ ap Some (sym (the_fields g (made_by t k) one.values one.is))
 
--- with a length that a header can tell
+-- with a length that a header can hold
 pub made_short : {places : Places} {g : Graph} {t made : ℕ} → HasMade places g t made → (k : ℕ) → 1 ≤ k → k ≤ made → length (fields g (made_by t k)) ≤ 510
 made_short {g = g} {t = t} has k first last = let one = has.each k first last in let short = one.short in omega (arith, ap length (the_fields g (made_by t k) one.values one.is))
 
@@ -26,13 +26,13 @@ made_visible {places} {g} {t} {made} has k first last =
     let one = has.each k first last in
     subst (AllByRecursion (IsVisible places t made)) (sym (the_fields g (made_by t k) one.values one.is)) one.visible
 
--- The same of an object that tells its maker.
+-- The same of an object that names its maker.
 
 -- it is in the graph
 pub own_get : {places : Places} {g : Graph} {t made : ℕ} {id : Id} → HasMade places g t made → IsOwn t made id → get g id ≡ Some (fields g id)
 own_get {g = g} {t} {made} {id} has own = subst (λ (x : Id). get g x ≡ Some (fields g x)) (sym (own_made t made id own)) (made_get has id.k own.first own.last)
 
--- with a length that a header can tell
+-- with a length that a header can hold
 pub own_short : {places : Places} {g : Graph} {t made : ℕ} {id : Id} → HasMade places g t made → IsOwn t made id → length (fields g id) ≤ 510
 own_short {g = g} {t} {made} {id} has own = subst (λ (x : Id). length (fields g x) ≤ 510) (sym (own_made t made id own)) (made_short has id.k own.first own.last)
 

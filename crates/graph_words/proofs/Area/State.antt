@@ -1,4 +1,4 @@
--- The volatile area of a transaction, as the graph that it sees tells the words.
+-- The volatile area of a transaction, as the graph that it sees gives the words.
 use Rattle.std.proofs.Common.{Some, ap, length, map, subst, sym, ℕ, ◌+◌, ◌<◌, ◌∙◌, ◌≡◌}
 use Rattle.heap_words.specs.Header.{birth_bits}
 use Rattle.graph_model.specs.Graph.{Graph, fields, with_field}

@@ -40,7 +40,7 @@ length-area_starts g t (suc n) = omega (arith, length_push (area_starts g t n) (
 
 -- The objects.
 
--- the first n objects that transaction t made have lengths that headers can tell
+-- the first n objects that transaction t made have lengths that headers can hold
 abbrev pub AreShort : Graph → ℕ → ℕ → Type 0
 AreShort g t n = (k : ℕ) → 1 ≤ k → k ≤ n → length (fields g (made_by t k)) ≤ 510
 
@@ -53,7 +53,7 @@ header_of place g id = ap (λ n. (4 * n + 1) ∷ birth_bits id.t id.k ∷ map (b
 short_words : (place : Id → Word) (g : Graph) (id : Id) → length (fields g id) ≤ 510 → length (map (bits_of place) (fields g id)) < 511
 short_words place g id short = omega (arith, length-map (fields g id) (bits_of place))
 
--- an object whose words stand behind others stands there
+-- an object whose words stand after others stands there
 pub object_words_behind : (place : Id → Word) (g : Graph) (id : Id) (words : List ℕ) → length (fields g id) ≤ 510
     → object_at (words ++ object_words place g id) (length words) ≡ Some (length (fields g id))
 object_words_behind place g id words short =

@@ -119,7 +119,7 @@ old_object_words {t} {made} {places} {g} has len k first last =
     ∙ ap (λ ws. header_bits (Length (length (fields g id))) ∷ birth_bits t k ∷ ws)
     (map_bits_of-same places t made (place_of places g) (place_of places (with_new g t made len)) (new_places places g t made len) (fields g id) (made_visible has k first last))
 
--- A new object's words stand behind those of the others: its header, its birth and zeros.
+-- A new object's words stand after those of the others: its header, its birth and zeros.
 pub new_area_words : {t made : ℕ} {places : Places} {g : Graph} → HasMade places g t made → (len : ℕ)
     → area_words (place_of places (with_new g t made len)) (with_new g t made len) t (made + 1)
     ≡ area_words (place_of places g) g t made ++ header_bits (Length len) ∷ birth_bits t (made + 1) ∷ replicate len 0

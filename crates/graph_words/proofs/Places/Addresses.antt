@@ -18,7 +18,7 @@ picked : (b : Bool) (x at : ℕ) (rest : Option ℕ) → (if b then Some x else 
 picked true x at rest is = inl (refl, same_Some x at is)
 picked false x at rest is = inr (refl, is)
 
--- an object stands at the first place, if that is its own, or at one behind
+-- an object stands at the first place, if that is its own, or at a later one
 pub address_of-cases : (p : Id × ℕ) (ps : Places) (id : Id) (at : ℕ) → address_of (p ∷ ps) id ≡ Some at → ((p.0 ≡ id) × (p.1 ≡ at)) ⊎ (address_of ps id ≡ Some at)
 address_of-cases p ps id at is = elim (picked (is_same_id p.0 id) p.1 at (address_of ps id) is) [
   | inl here ↦ inl (same_id p.0 id here.0, here.1)
@@ -29,7 +29,7 @@ address_of-cases p ps id at is = elim (picked (is_same_id p.0 id) p.1 at (addres
 pub address_of-head : (p : Id × ℕ) (ps : Places) → address_of (p ∷ ps) p.0 ≡ Some p.1
 address_of-head p ps = ap (λ b. if b then Some p.1 else address_of ps p.0) (itself p.0)
 
--- an object of another name stands where it does behind the first place
+-- an object of another name stands where it does after the first place
 pub address_of-rest : (p : Id × ℕ) (ps : Places) (id : Id) → p.0 ≢ id → address_of (p ∷ ps) id ≡ address_of ps id
 address_of-rest p ps id other = unpicked (is_same_id p.0 id) refl
   where

@@ -1,4 +1,4 @@
--- Laws of moves: objects of an area get the words from an address on, one behind the other, and each of them has one new address.
+-- Laws of moves: objects of an area get the words from an address on, one after the other, and each of them has one new address.
 use Rattle.std.proofs.Common.{◌≡◌, ◌≢◌, ℕ, ◌≤◌, zero, suc, ◌+◌, ◌⊎◌, inl, inr, Bool, true, false, List, [], ◌∷◌, Option, Some, refl, sym, ap, ◌∙◌, subst, arith, Less}
 use Rattle.std.specs.Prelude.{Contains, sum_by, ◌==◌, if◌then◌else◌}
 use Rattle.std.proofs.lemmas.Bool.{eq-eqb, eqb-true, ne_eqb, cases_eq}
@@ -43,7 +43,7 @@ moved-cases m ms at address is = elim (picked (m.0 == at) m.1 address (moved ms 
 pub moved-head : (m : Move) (ms : List Move) → moved (m ∷ ms) m.0 ≡ Some m.1
 moved-head m ms = ap (λ b. if b then Some m.1 else moved ms m.0) (eq-eqb m.0 m.0 refl)
 
--- and another to where it moves behind it
+-- and another to where the moves after the first put it
 pub moved-rest : (m : Move) (ms : List Move) (at : ℕ) → m.0 ≢ at → moved (m ∷ ms) at ≡ moved ms at
 moved-rest m ms at other = ap (λ b. if b then Some m.1 else moved ms at) (ne_eqb m.0 at other)
 

@@ -17,6 +17,6 @@ NamesPlaces name places = (id : Id) (at : ℕ) → address_of places id ≡ Some
 abbrev pub named_places : (ℕ → Id) → List ℕ → Places
 named_places name starts = map (λ at. (name at, at)) starts
 
--- a name that tells how far an object stands from the base of the space: the root stands at the base
+-- a name that says how far an object stands from the base of the space: the root stands at the base
 abbrev pub address_name : ℕ → ℕ → Id
 address_name base at = made_by 0 (at - base)

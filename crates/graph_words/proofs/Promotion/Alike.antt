@@ -53,7 +53,7 @@ fixes_alike t words others moves (f ∷ fs) same =
     λ i. first i ++ rest i
 
 module _ (area : AreaState) (words others : List ℕ) (undo : List UndoEntry) (same : AgreeIn words others (written_fields undo)) where
-  -- they tell the same objects that a seal promotes
+  -- they give the same objects for a seal to promote
   pub promoted_same : promoted_by area others undo ≡ promoted_by area words undo
   promoted_same = promoted_alike area (words_in_fields others (written_fields undo)) (words_in_fields words (written_fields undo)) (λ at. fields_alike at words others (written_fields undo) same)
 

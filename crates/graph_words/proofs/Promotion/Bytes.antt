@@ -55,7 +55,7 @@ length-fixes t words moves (f ∷ fs) =
     let counted = sum_by-cons (λ (g : Field). cond (is_volatile_in words g) 1 0) f fs in
     omega arith
 
--- those of a seal take so many bytes for its objects, their words and its fields, and five for the commit
+-- those of a seal take that many bytes for its objects, their words and its fields, and five for the commit
 pub length-seal_records : (area : AreaState) (words : List ℕ) (undo : List UndoEntry) (address : ℕ)
     → length (spellings (seal_records area words undo address))
     ≡ 9 * length (promoted_by area words undo) + 8 * promoted_need area words undo + 19 * count_by (is_volatile_in words) (written_fields undo) + 5

@@ -68,7 +68,7 @@ fixes_beside t words now moves (f ∷ fs) x apart =
     ∙ fixes_beside t words (fold put_record now (fix_of t words moves f)) moves fs x (λ g has. apart g (Contains-rest f fs g has))
     ∙ step.beside x (apart f (Contains-head f fs))
 
--- the words behind them stay
+-- the words past them stay
 pub fixes_behind : (t : ℕ) (words now : List ℕ) (moves : List Move) (fs : List Field) (x : ℕ) → ((f : Field) → Contains fs f → field_at f.0 f.1 < x)
     → drop x (fold put_record now (fixes t words moves fs)) ≡ drop x now
 fixes_behind t words now moves [] x below = refl

@@ -1,4 +1,4 @@
--- Each record of a seal can follow those before it, and what the state is behind them.
+-- Each record of a seal can follow those before it, and what the state is after them.
 use Rattle.std.proofs.Common.{◌≡◌, ℕ, ◌≤◌, ◌+◌, ◌*◌, true, List, [], ◌∷◌, ◌++◌, length, map, max, Option, None, Some, refl, sym, ap, ◌∙◌, subst, arith}
 use Rattle.std.specs.Prelude.{Contains, slice_index}
 use Rattle.std.proofs.lemmas.Bool.{eq-eqb, le-leb, lt-ltb, and_from}
@@ -22,7 +22,7 @@ use Rattle.graph_words.proofs.Promotion.Fix.{fixes}
 use Rattle.graph_words.proofs.Stands.Run.{length-moved_words}
 use Rattle.graph_words.proofs.Promotion.Records.{IsPromotable, IsFixable}
 
--- The state behind records that promote so many words: no write may be taken back that could not be before.
+-- The state after records that promote `more` words: no write may be taken back that could not be before.
 pub record HasGrown (s n : State) (t more : ℕ) : Type 0 where
   pub pages : n.pages ≡ s.pages
   pub base : n.base ≡ s.base
@@ -58,7 +58,7 @@ grown_on s m n t some more one two =
 grows_none : (s : State) (t : ℕ) → Grows s t 0 []
 grows_none s t = record { state = s; reached = refl; grown = grown_none s t }
 
--- records behind records
+-- records after records
 pub grows_on : (s : State) (t some more : ℕ) (rs records : List Record) (one : Grows s t some rs) → Grows one.state t more records → Grows s t (some + more) (rs ++ records)
 grows_on s t some more rs records one two = record {
   state = two.state;
@@ -146,7 +146,7 @@ sealed_from s n t more g =
     let undo = g.undo in
     λ i. record { pages = g.pages i; base = g.base i; used = g.used i; collection = g.collection i; undo = with_entries (undo i) t []; commits = g.commits i + 1; next = g.next i }
 
--- the state behind the records of a seal
+-- the state after the records of a seal
 pub sealed_follows : (s : State) (t need : ℕ) (records : List Record) → is_number t ≡ true → Grows s t need records → after_all s (records ++ Commit t ∷ []) ≡ Some (sealed_state s t need)
 sealed_follows s t need records number grows =
     after_all-append s grows.state records (Commit t) grows.reached

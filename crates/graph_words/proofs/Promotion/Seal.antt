@@ -1,4 +1,4 @@
--- The law of a seal: the graph stands behind its records, what was promoted at new addresses, and these records can be written and followed.
+-- The law of a seal: the graph stands after its records, what was promoted at new addresses, and these records can be written and followed.
 use Rattle.std.proofs.Common.{◌≡◌, ℕ, ◌<◌, ◌≤◌, ◌*◌, zero, suc, ◌+◌, true, List, [], ◌∷◌, ◌++◌, map, length, Some, refl, sym, ap, subst, arith}
 use Rattle.std.specs.Prelude.{Contains, fold, slice_get, slice_index}
 use Rattle.std.specs.List.{AllByRecursion}
@@ -28,7 +28,7 @@ use Rattle.graph_words.proofs.Seal.Fields.{promotable, fixable}
 use Rattle.graph_words.proofs.Seal.Stands.{later_stands}
 use Rattle.graph_words.proofs.Seal.Names.{later_births, later_old_names}
 
--- What a seal finds that gives the words from an address on: the graph stands in the words as its transaction sees it, and a reference has
+-- What a seal that gives the words from an address on finds: the graph stands in the words as its transaction sees it, and a reference has
 -- room for each address of what it promotes.
 pub record CanSeal (places : Places) (g : Graph) (t made : ℕ) (undo : List UndoEntry) (words : List ℕ) (base used address : ℕ) : Type 0 where
   pub stands : Stands t made places g words base used
@@ -90,7 +90,7 @@ is_sealing {places} {g} {t} {made} {undo} {words} {base} {used} {address} can = 
   top = subst (λ n. address + n ≤ 2097152) (needs places g t made undo words base used address) can.top;
 }
 
--- and those of what it leaves where it gives the words behind those that are used, if there are as many
+-- and those of what it leaves where it gives the words after those that are used, if there are as many
 pub appends : {places : Places} {g : Graph} {t made : ℕ} {undo : List UndoEntry} {words : List ℕ} {base used : ℕ} → CanSeal places g t made undo words base used (base + used)
     → base + used + promoted_need (area_of (place_of places g) g t made) words undo ≤ length words → Appends (sealing places g t made undo words base used (base + used))
 appends {places} {g} {t} {made} {undo} {words} {base} {used} can room = record {
@@ -101,7 +101,7 @@ appends {places} {g} {t} {made} {undo} {words} {base} {used} can room = record {
 
 -- The graph.
 
--- The graph stands behind a seal as it is committed: objects of the space where they stood, those that are promoted at their new addresses.
+-- The graph stands after a seal as it is committed: objects of the space where they stood, those that are promoted at their new addresses.
 pub seal_stands : {places : Places} {g : Graph} {t made : ℕ} {undo : List UndoEntry} {words : List ℕ} {base used : ℕ} → CanSeal places g t made undo words base used (base + used)
     → let area = area_of (place_of places g) g t made in
     base + used + promoted_need area words undo ≤ length words
@@ -161,7 +161,7 @@ promotion_grows s {places} {g} {t} {made} {undo} {words} {base} {used} can insid
     let whole : need c + 0 ≡ promoted_need (area c) words undo = omega (arith, same) in
     subst (λ m. Grows s t m (records c)) whole (grows_on s t (need c) 0 (map (base_of (area c) (moves c)) (moves c)) (fixes t words (moves c) (written_fields undo)) bases fixes_follow)
 
--- each can follow those before it, and behind them the transaction is committed and what it promoted is used
+-- each can follow those before it, and after them the transaction is committed and what it promoted is used
 pub seal_follows : (s : State) {places : Places} {g : Graph} {t made : ℕ} {undo : List UndoEntry} {words : List ℕ} {base used : ℕ}
     → CanSeal places g t made undo words base used (s.base + s.used) → AllByRecursion (LiesInside s.base s.used) undo → is_number t ≡ true
     → s.used + promoted_need (area_of (place_of places g) g t made) words undo + owed s ≤ 64 * s.pages

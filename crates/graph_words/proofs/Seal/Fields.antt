@@ -1,4 +1,4 @@
--- The objects and fields of a seal: what a placed or a promoted object refers to stands in the space behind it, what is promoted can be
+-- The objects and fields of a seal: what a placed or a promoted object refers to stands in the space after it, what is promoted can be
 -- promoted, and the fields that were written can be put right.
 use Rattle.std.proofs.Common.{◌≡◌, ℕ, ◌<◌, ◌^◌, ◌+◌, inl, inr, map, length, None, Some, sym, ap, ◌∙◌, subst, arith}
 use Rattle.std.specs.Prelude.{Contains, slice_get, slice_index, slice_index_or}
@@ -57,7 +57,7 @@ placed_values_taken c is id at i (Ref target) there got a meant start = elim (no
       absurd (cc (meant, visible_meaning is.stands is.has (Ref target) seen ∙ ap Some (place_of-placed c.places c.g target old.0 old.1)))
 ]
 
--- so what an object of the space refers to stands there behind the seal
+-- so what an object of the space refers to stands there after the seal
 pub placed_visible : (c : Sealing) → IsSealing c → (id : Id) (at : ℕ) → address_of c.places id ≡ Some at → AllByRecursion (IsVisible (later_places c) 0 0) (fields c.g id)
 placed_visible c is id at there = AllByRecursion-from_get (IsVisible (later_places c) 0 0) (fields c.g id) (λ i v got.
     taken_visible c is v (AllByRecursion-get (IsVisible c.places c.t c.made) (fields c.g id) i v (is.stands.visible id at there) got) (placed_values_taken c is id at i v there got))
@@ -79,7 +79,7 @@ own_goes c is id own has =
 pub own_length : (c : Sealing) → IsSealing c → (id : Id) → IsOwn c.t c.made id → length (field_words (area c).words (index_of c.g id)) ≡ length (fields c.g id)
 own_length c is id own = ap length (own_words is.has id own) ∙ length-map (fields c.g id) (bits_of (place c))
 
--- and its header tells so
+-- and its header says so
 pub own_header : (c : Sealing) → IsSealing c → (id : Id) → IsOwn c.t c.made id → slice_index (area c).words (index_of c.g id) ≡ header_bits (Length (length (field_words (area c).words (index_of c.g id))))
 own_header c is id own =
     let n = length (fields c.g id) in

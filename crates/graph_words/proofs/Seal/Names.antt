@@ -1,4 +1,4 @@
--- Names behind a seal: births give them if they did before, and no transaction from a later number on can give one of them.
+-- Names after a seal: births give them if they did before, and no transaction from a later number on can give one of them.
 use Rattle.std.proofs.Common.{◌≡◌, ℕ, ◌<◌, ◌≤◌, inl, inr, List, [], ◌∷◌, Some, sym, ap, ◌∙◌, subst, arith}
 use Rattle.std.specs.Prelude.{Contains}
 use Rattle.std.specs.List.{AllByRecursion}
@@ -26,7 +26,7 @@ both_hold : {X : Type 0} (P Q R : X → Type 0) (xs : List X) → ((x : X) → P
 both_hold P Q R [] f p q = tt
 both_hold P Q R (x ∷ xs) f p q = (f x p.0 q.0, both_hold P Q R xs f p.1 q.1)
 
--- where births give the names they do so behind the seal
+-- where births give the names they do so after the seal
 pub later_births : (c : Sealing) → Appends c → AreNamedByBirth c.places c.words → AreNamedByBirth (later_places c) (later_words c)
 later_births c is named =
     let Named : Id × ℕ → Type 0 = λ p. id_at (later_words c) p.1 ≡ p.0 in

@@ -1,4 +1,4 @@
--- Where objects stand behind a seal: those that stood in the space where they did, and those that are promoted at their new addresses.
+-- Where objects stand after a seal: those that stood in the space where they did, and those that are promoted at their new addresses.
 use Rattle.std.proofs.Common.{◌≡◌, ℕ, ◌+◌, inl, inr, Bool, true, false, List, [], ◌∷◌, ◌++◌, map, Option, None, Some, refl, sym, ap, ◌∙◌, subst}
 use Rattle.std.specs.Prelude.{Contains, if◌then◌else◌}
 use Rattle.graph_model.specs.declared.id.Id.{Id}
@@ -12,7 +12,7 @@ use Rattle.graph_words.proofs.Places.Addresses.{address_of-cases, address_of-hea
 use Rattle.graph_words.specs.Promotion.{Move, words_taken, moves_to, moved, promoted_places}
 use Rattle.graph_words.proofs.Places.Moves.{moved-head, moved-rest}
 
--- Places behind places.
+-- Places after places.
 
 first_found : (b : Bool) (x at : ℕ) (o o' : Option ℕ) → (o ≡ Some at → o' ≡ Some at) → (if b then Some x else o) ≡ Some at → (if b then Some x else o') ≡ Some at
 first_found true x at o o' on is = is
@@ -28,13 +28,13 @@ none_found : (b : Bool) (x : ℕ) (o o' o'' : Option ℕ) → (o ≡ None → o'
 none_found true x o o' o'' on is = absurd (cc is)
 none_found false x o o' o'' on is = on is
 
--- another has the one that it has behind
+-- another has the one that it has among the later ones
 pub address_of-append_right : (ps qs : Places) (id : Id) → address_of ps id ≡ None → address_of (ps ++ qs) id ≡ address_of qs id
 address_of-append_right [] qs id is = refl
 address_of-append_right (p ∷ ps) qs id is =
     none_found (is_same_id p.0 id) p.1 (address_of ps id) (address_of (ps ++ qs) id) (address_of qs id) (λ behind. address_of-append_right ps qs id behind) is
 
--- addresses behind addresses
+-- addresses after addresses
 pub addresses-append : (ps qs : Places) → addresses (ps ++ qs) ≡ addresses ps ++ addresses qs
 addresses-append [] qs = refl
 addresses-append (p ∷ ps) qs = ap (λ xs. p.1 ∷ xs) (addresses-append ps qs)

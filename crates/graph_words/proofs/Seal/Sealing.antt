@@ -50,7 +50,7 @@ need c = words_needed (area c) c.starts
 abbrev pub records : Sealing → List Record
 records c = map (base_of (area c) (moves c)) (moves c) ++ fixes c.t c.words (moves c) (written_fields c.undo)
 
--- the words behind the seal
+-- the words after the seal
 abbrev pub later_words : Sealing → List ℕ
 later_words c = fold put_record c.words (records c)
 
@@ -79,7 +79,7 @@ pub record IsSealing (c : Sealing) : Type 0 where
   pub promotion : ArePromoted (area c) c.words (written_fields c.undo) c.starts
   pub top : c.address + need c ≤ 2097152
 
--- Such a seal gives the words behind those that are used, and there are as many.
+-- Such a seal gives the words after those that are used, and there are as many.
 pub record Appends (c : Sealing) : Type 0 where
   pub sealing : IsSealing c
   pub end : c.address ≡ c.base + c.used

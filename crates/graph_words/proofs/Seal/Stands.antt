@@ -1,4 +1,4 @@
--- The graph stands behind a seal: where it stood, the promoted objects at their new addresses, and no reference leads to the transaction's area.
+-- The graph stands after a seal: where it stood, the promoted objects at their new addresses, and no reference leads to the transaction's area.
 use Rattle.std.proofs.Common.{◌≡◌, ℕ, ◌≤◌, ◌+◌, inl, inr, List, [], ◌∷◌, ◌++◌, map, length, Some, refl, sym, ap, ◌∙◌, subst, arith}
 use Rattle.std.specs.Prelude.{Contains}
 use Rattle.std.specs.List.{AllByRecursion}
@@ -182,7 +182,7 @@ later_root c is =
           ∙ sym (get_or-take (c.base + c.used) c.words (c.base + 1) 0 (omega arith)) ∙ root_object.birth;
     }
 
--- the graph stands behind the seal, as it is committed
+-- the graph stands after the seal, as it is committed
 pub later_stands : (c : Sealing) → Appends c → StandsCommitted (later_places c) c.g (later_words c) c.base (c.used + need c)
 later_stands c is =
     let top = is.sealing.top in

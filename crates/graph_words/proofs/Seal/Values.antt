@@ -1,5 +1,5 @@
--- What becomes of values in a seal: each that a placed or a promoted object has refers to objects that stand in the space behind it, and its
--- word after the move tells where.
+-- What becomes of values in a seal: each that a placed or a promoted object has refers to objects that stand in the space after it, and its
+-- word after the move says where.
 use Rattle.std.proofs.Common.{◌≡◌, ℕ, ◌<◌, ◌≤◌, ◌^◌, zero, suc, ◌+◌, ◌*◌, ◌⊎◌, inl, inr, false, List, [], ◌∷◌, map, Option, None, Some, is_some, refl, sym, ap, ◌∙◌, subst, arith}
 use Rattle.std.specs.Prelude.{Contains, slice_get}
 use Rattle.std.specs.List.{AllByRecursion}
@@ -112,7 +112,7 @@ pub not_volatile : (c : Sealing) → IsSealing c → (v : Val) → IsVisible c.p
     → is_volatile (bits_of (place c) v) ≡ false
 not_volatile c is v seen x same off = ap refers_to_volatile (visible_meaning is.stands is.has v seen ∙ ap Some same) ∙ off
 
--- a value's word after the move is its word where objects stand behind the seal
+-- a value's word after the move is its word where objects stand after the seal
 pub moved_bits : (c : Sealing) → IsSealing c → (v : Val) → IsVisible c.places c.t c.made v → moved_word (moves c) (bits_of (place c) v) ≡ bits_of (later_place c) v
 moved_bits c is Null seen = moved_word-plain (moves c) (bits_of (place c) Null) (not_volatile c is Null tt word.Null refl refl)
 moved_bits c is (Int n) seen = moved_word-plain (moves c) (bits_of (place c) (Int n)) (not_volatile c is (Int n) seen (word.Int n) refl refl)
@@ -158,7 +158,7 @@ moved_below c is at has =
 pub own_taken : (c : Sealing) → IsSealing c → (id : Id) → IsOwn c.t c.made id → IsTaken c (Ref id) → Contains c.starts (index_of c.g id)
 own_taken c is id own taken = taken (index_of c.g id) (own_meaning c is id own) (own_start c is id own)
 
--- then it is an object that stands in the space behind the seal
+-- then it is an object that stands in the space after the seal
 pub taken_visible : (c : Sealing) → IsSealing c → (v : Val) → IsVisible c.places c.t c.made v → IsTaken c v → IsVisible (later_places c) 0 0 v
 taken_visible c is Null seen taken = tt
 taken_visible c is (Int n) seen taken = seen

@@ -1,4 +1,4 @@
--- The words behind a seal: objects that stood in the space have the same headers and births, and their fields after the move; those that are
+-- The words after a seal: objects that stood in the space have the same headers and births, and their fields after the move; those that are
 -- promoted stand at their new addresses; and no other word of the used ones changes.
 use Rattle.std.proofs.Common.{◌≡◌, ◌≢◌, ℕ, ◌<◌, ◌≤◌, ◌+◌, inl, inr, Bool, true, false, List, [], ◌∷◌, ◌++◌, map, length, take, drop, get_or, Some, refl, sym, ap, ◌∙◌, arith}
 use Rattle.std.specs.Prelude.{Contains, fold, slice_get, slice_index, slice_index_or}

@@ -36,7 +36,7 @@ stands_get {g = g} stands id at is = let there = stands.each id at is in there.i
 the_fields : (g : Graph) (id : Id) (vs : List Val) → get g id ≡ Some vs → fields g id ≡ vs
 the_fields g id vs is = ap (λ o. unwrap_or o []) is
 
--- and stands at its address, with a header that tells its length
+-- and stands at its address, with a header that gives its length
 pub stands_object : {t made : ℕ} {places : Places} {g : Graph} {words : List ℕ} {base used : ℕ} → Stands t made places g words base used
     → (id : Id) (at : ℕ) → address_of places id ≡ Some at → object_at words at ≡ Some (length (fields g id))
 stands_object {g = g} stands id at is =
@@ -63,7 +63,7 @@ stands_used_object {places = places} {g = g} {words = words} {base = base} {used
     let whole = object_take words (base + used) at there.0 there.1 in
     there.1 ∙ sym whole ∙ stands_object stands id at is
 
--- An object lies within the used words of a space: it starts there, with so many fields.
+-- An object lies within the used words of a space: it starts there, with `fields` fields.
 pub record LiesWithin (base used at fields : ℕ) : Type 0 where
   pub above : base ≤ at
   pub below : at + 2 + fields ≤ base + used
@@ -151,7 +151,7 @@ stands_field {places = places} {g = g} {words = words} stands id at i is within 
 
 -- What words mean.
 
--- a word tells where an object at hand stands
+-- a word says where an object at hand stands
 pub at_hand_word : {t made : ℕ} {places : Places} {g : Graph} {words : List ℕ} {base used : ℕ} → Stands t made places g words base used → HasMade places g t made
     → (id : Id) → IsAtHand places t made id → IsWord (place_of places g id)
 at_hand_word {places = places} {g = g} {base = base} stands has id (inl there) =
@@ -191,7 +191,7 @@ two_addresses at to same = cc
 two_indexes : (at to : ℕ) → word.Volatile at ≡ word.Volatile to → at ≡ to
 two_indexes at to same = cc
 
--- where an object at hand stands tells it from all others at hand
+-- where an object at hand stands distinguishes it from all others at hand
 pub place_of-one : {t made : ℕ} {places : Places} {g : Graph} {words : List ℕ} {base used : ℕ} → Stands t made places g words base used → HasMade places g t made
     → (a b : Id) → IsAtHand places t made a → IsAtHand places t made b → place_of places g a ≡ place_of places g b → a ≡ b
 place_of-one {places = places} {g = g} stands has a b (inl one) (inl other) same =

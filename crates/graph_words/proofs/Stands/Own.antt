@@ -100,7 +100,7 @@ own_write_written {places = places} {g = g} has undo written id i v own =
 
 -- A new object.
 
--- the graph with one object more that transaction t has made, of so many null fields
+-- the graph with one more object that transaction t has made, of that many null fields
 abbrev pub with_new : Graph → ℕ → ℕ → ℕ → Graph
 with_new g t made len = insert g (made_by t (made + 1)) (replicate len Null)
 
@@ -159,7 +159,7 @@ new_each {places} {g} {t} {made} has len small k first last = elim (cases_lt mad
       }
 ]
 
--- the transaction has made one object more
+-- the transaction has made one more object
 pub new_made : {t made : ℕ} {places : Places} {g : Graph} → HasMade places g t made → (len : ℕ) → len ≤ 510 → area_used g t made + 2 + len ≤ 4096
     → HasMade places (with_new g t made len) t (made + 1)
 new_made {t} {made} {places} {g} has len small few = record {

@@ -8,7 +8,7 @@ use Rattle.heap_words.proofs.HeaderLaws.{bits-header}
 use Rattle.object_layout.specs.Layout.{object_at, field_words, birth_at, words_of}
 use Rattle.object_layout.proofs.LayoutLaws.{object_from_header, object_header, object_small}
 
--- An object stands at an address: so many fields, with these words, behind such a birth.
+-- An object stands at an address, with these fields and this birth.
 pub record IsObjectAt (words : List ℕ) (at birth : ℕ) (fields : List ℕ) : Type 0 where
   pub object : object_at words at ≡ Some (length fields)
   pub birth_word : birth_at words at ≡ birth

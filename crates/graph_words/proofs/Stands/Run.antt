@@ -1,4 +1,4 @@
--- Laws of words that are put one behind the other: what stands there then, and that the words before and behind stay.
+-- Laws of words that are put one after the other: what stands there then, and that the words before and after stay.
 use Rattle.std.proofs.Common.{◌≡◌, ℕ, ◌≤◌, ◌+◌, inl, inr, List, [], ◌∷◌, ◌++◌, length, map, take, drop, Some, sym, ap, ◌∙◌, arith}
 use Rattle.std.specs.Prelude.{fold}
 use Rattle.std.specs.List.{flat_map, enumerate_from}
@@ -37,7 +37,7 @@ back_of_run now run address more within =
     ∙ drop_at (take address now ++ run) behind (address + length run) (length-append (take address now) run ∙ ap (λ n. n + length run) (length-take-le address now within)))
     ∙ drop-drop more (address + length run) now
 
--- the records of the objects put their words one behind the other, and the others stay
+-- the records of the objects put their words one after the other, and the others stay
 pub put_bases : (area : AreaState) (moves : List Move) (starts : List ℕ) (address : ℕ) (now : List ℕ) → address + words_needed area starts ≤ length now
     → fold put_record now (map (base_of area moves) (moves_to area starts address))
     ≡ take address now ++ (all_moved area moves starts ++ drop (address + words_needed area starts) now)

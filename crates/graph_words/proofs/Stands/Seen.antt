@@ -42,7 +42,7 @@ value_inside places g (Ref id) small seen =
     let has = address_of-Contains places id there.0 there.1 in
     subst (IsInside (addresses places)) (sym (ap (λ (x : Word). meaning (bits x)) (place_of-placed places g id there.0 there.1) ∙ meaning-bits (word.Stable there.0) (small there.0 has))) has
 
--- each address is one that a word can tell
+-- each address is one that a word can hold
 pub stands_small : {t made : ℕ} {places : Places} {g : Graph} {words : List ℕ} {base used : ℕ} → Stands t made places g words base used
     → (at : ℕ) → Contains (addresses places) at → at < 2097152
 stands_small stands at has =

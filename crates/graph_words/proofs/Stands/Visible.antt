@@ -61,12 +61,12 @@ area_used-with_field g id i v t n = area_used-same g (with_field g id i v) t n (
 made_apart : (t k n : ℕ) → k < n → made_by t k ≢ made_by t n
 made_apart t k n less same = let index = ap (λ (x : Id). x.k) same in omega arith
 
--- one object more leaves what those before take
+-- one more object leaves what those before take
 pub area_used-insert : (g : Graph) (t made : ℕ) (vs : List Val) (n : ℕ) → n ≤ made → area_used (insert g (made_by t (made + 1)) vs) t n ≡ area_used g t n
 area_used-insert g t made vs n few = area_used-same g (insert g (made_by t (made + 1)) vs) t n
     (λ k first less. ap length (fields-insert_other g (made_by t (made + 1)) (made_by t k) vs (made_apart t k (made + 1) (omega arith))))
 
--- and takes its own words behind them
+-- and takes its own words after them
 pub area_used-new : (g : Graph) (t made : ℕ) (vs : List Val) → area_used (insert g (made_by t (made + 1)) vs) t (made + 1) ≡ area_used g t made + (2 + length vs)
 area_used-new g t made vs =
     let next : made + 1 ≡ suc made = omega arith in

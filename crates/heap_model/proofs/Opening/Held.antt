@@ -38,7 +38,7 @@ left_stands g k image stands new (inr held) = record {
   held = held;
 }
 
--- an image of first commits leaves images of the same when it is opened
+-- an image of the first k commits leaves images of the same when it is opened
 pub left_first : (c : Core) (k : ℕ) (image : List ℕ) (first : StandsForFirst c k image) (new : List ℕ) → IsLeftByOpening first.stands.super first.stands.batches first.stands.stored new → StandsForFirst c k new
 left_first c k image first new (inl held) = record {
   stands = left_stands (serial c.g0 (take k (commits c.history))) (c.before + k) image first.stands new (inl held);

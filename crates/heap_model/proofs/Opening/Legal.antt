@@ -1,4 +1,4 @@
--- Records that tell a graph are a shaped log, and a legal one that says it where births give the names.
+-- Records that encode a graph are a shaped log, and a legal one that says it where births give the names.
 use Rattle.std.proofs.Common.{◌≡◌, ℕ, ◌+◌, ◌≤◌, Bool, List, length, Option, refl, sym, ap, ◌∙◌, subst, arith}
 use Rattle.std.specs.Prelude.{IsTrue}
 use Rattle.graph_model.specs.Graph.{Graph}
@@ -31,7 +31,7 @@ use Rattle.heap_model.proofs.Step.Bits.{fit_back}
 use Rattle.heap_model.proofs.Opening.Found.{born_seen}
 use Rattle.heap_model.specs.Image.{origin_of, redone_words, words_of, IsShapedLog, IsLegalLog, Says}
 
--- Records and the words that they leave from the log's origin on tell a graph, and each page that is stored beside them holds those up to
+-- Records and the words that they leave from the log's origin on encode a graph, and each page that is stored beside them holds those up to
 -- its LSN.
 module _ (s : Super) (batches : List (List Record)) (stored : Pages) (born : Bool) (places remaining : Places) (g : Graph) (k : ℕ) (now : List ℕ) (state : State) (limits : IsSuper s)
     (told : IsTold (origin_of s).state born places remaining g k (records_of batches) now state) (logged : now ≡ words_from (origin_of s) (records_of batches))

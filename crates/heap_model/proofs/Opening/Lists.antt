@@ -67,6 +67,6 @@ module _ (s : State) (undo : FinMap nat_cmp (List UndoEntry)) (commits next : �
   originals_by words None has = tt
   originals_by words (Some k) has = has
 
-  -- births are told
+  -- births are known
   pub tells_lists : (places remaining : Places) (words : List ℕ) → TellsBirths s places remaining words → TellsBirths n places remaining words
   tells_lists places remaining words tells = record { names = tells.names; originals = originals_by words s.collection tells.originals }

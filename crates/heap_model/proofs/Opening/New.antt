@@ -33,7 +33,7 @@ use Rattle.heap_model.specs.Image.{origin_of, words_of, IsLegalLog}
 use Rattle.heap_model.specs.Opening.{IsFound}
 use Rattle.heap_model.specs.NewHeap.{root_place}
 
--- the words of the root with null fields, and any words behind it
+-- the words of the root with null fields, and any words after it
 abbrev root_words : List ℕ → List ℕ
 root_words rest = 17 ∷ 0 ∷ 0 ∷ 0 ∷ 0 ∷ 0 ∷ rest
 

@@ -32,7 +32,7 @@ next_all s x [] is = let same : Some s ≡ Some x = is in ap (λ o. (unwrap_or o
 next_all s x (r ∷ rs) is = option_and_then_some (λ next. after_all next rs) (after s r) x is (λ next first rest.
     next_all next x rs rest ∙ ap (λ n. next_behind n rs) (sym (next_after s next r first)))
 
--- a transaction begun behind an opening has the greater of the heap's first number and one more than the greatest in the log
+-- a transaction begun after an opening has the greater of the heap's first number and one more than the greatest in the log
 pub next_pinned : (s : Super) (batches : List (List Record)) (stored : Pages) → IsShapedLog s batches stored → next_of s batches ≡ next_behind s.first (records_of batches)
 next_pinned s batches stored shaped = next_is s batches stored shaped ∙ next_all (start s.pages s.first) shaped.state (records_of batches) shaped.reached
 
@@ -43,7 +43,7 @@ module _ (s : Super) (batches : List (List Record)) (stored : Pages) (legal : Is
   pub found_says : Says g (commits_of s batches) s batches stored
   found_says = record { legal = legal; seen = g; shows = shows; graph = refl; count = sym (commits_are s batches stored legal.shaped) }
 
-  -- so does the one behind the opening
+  -- so does the one after the opening
   pub left_says : Says g (commits_of s batches) s (rolled_back s batches) stored
   left_says = rolled_says g (commits_of s batches) s batches stored found_says
 
@@ -97,7 +97,7 @@ module _ (s : Super) (batches : List (List Record)) (stored : Pages) (legal : Is
   same_commits : commits_of s (rolled_back s batches) ≡ commits_of s batches
   same_commits = rolled_commits s batches stored legal.shaped
 
-  -- an image of the log that was found or of the one behind the opening keeps all commits, wherever the opening was stopped
+  -- an image of the log that was found or of the one after the opening keeps all commits, wherever the opening was stopped
   pub opened_keeps : (gates : ℕ → ℕ) (image : List ℕ) → Holds s batches stored image ⊎ Holds s (rolled_back s batches) stored image → IsCommitPrefix (opened s batches stored gates true places g) image
   opened_keeps gates image (inl held) = (
     0,

@@ -1,4 +1,4 @@
--- Laws of an opening: the batches behind it are a legal log that says the same graph and commits, and the core that it opens is reached.
+-- Laws of an opening: the batches after it are a legal log that says the same graph and commits, and the core that it opens is reached.
 use Rattle.std.proofs.Common.{◌≡◌, ℕ, ◌+◌, ◌≤◌, List, [], ◌∷◌, ◌++◌, length, length-append, Some, refl, sym, ap, ◌∙◌, subst, arith}
 use Rattle.std.specs.List.{AllByRecursion}
 use Rattle.std.specs.Prelude.{sum_by, fold, Option}
@@ -55,7 +55,7 @@ rollback_need s = need_some s (losing s) refl
 pub settled_reserve : (s : State) → reserve (settled s) ≡ 0
 settled_reserve s = ap (λ (es : List Loser). sum_by (λ e. undo_bytes e.1) es) (entries_empty (List UndoEntry))
 
--- The batches behind an opening.
+-- The batches after an opening.
 
 -- the space that a collection empties is the same where no writes may be taken back
 pub settled_from : (s : State) → from_space (settled s) ≡ from_space s
@@ -82,7 +82,7 @@ module _ (s : Super) (batches : List (List Record)) (stored : Pages) (shaped : I
   rolled_records : records_of (rolled_back s batches) ≡ rs ++ taken
   rolled_records = records_of-with_batch batches (rollback_of s batches) ∙ ap (λ (l : List Record). rs ++ l) rollback_is
 
-  -- behind it no write may be taken back
+  -- after it no write may be taken back
   pub rolled_reached : after_all (start s.pages s.first) (records_of (rolled_back s batches)) ≡ Some (settled shaped.state)
   rolled_reached =
       ap (λ (l : List Record). after_all (start s.pages s.first) l) rolled_records
@@ -97,18 +97,18 @@ module _ (s : Super) (batches : List (List Record)) (stored : Pages) (shaped : I
   pub words_of-is : words_of s batches stored ≡ all_taken_back shaped.state now
   words_of-is = ap (λ (o : Option State). each_taken_back (losing_in o) now) shaped.reached
 
-  -- the words behind the opening are these
+  -- the words after the opening are these
   pub rolled_words-is : rolled_words s batches stored ≡ words_of s batches stored
   rolled_words-is = ap (fold put_record now) rollback_is ∙ rollback_words shaped.state now ∙ sym words_of-is
 
-  -- redone on the pages, the log behind the opening gives them too
+  -- redone on the pages, the log after the opening gives them too
   pub redone_words-rolled_back : redone_words s (rolled_back s batches) stored ≡ rolled_words s batches stored
   redone_words-rolled_back =
       ap (λ (l : List Record). (redone (origin_of s) stored l).words) rolled_records
       ∙ redone_words-append (origin_of s) stored rs taken shaped.behind
       ∙ ap (fold put_record now) (sym rollback_is)
 
-  -- and no writes are to be taken back from it any more
+  -- and no writes are left to be taken back from it
   pub words_of-rolled_back : words_of s (rolled_back s batches) stored ≡ words_of s batches stored
   words_of-rolled_back =
       ap (λ (o : Option State). each_taken_back (losing_in o) (redone_words s (rolled_back s batches) stored)) rolled_reached
@@ -120,7 +120,7 @@ module _ (s : Super) (batches : List (List Record)) (stored : Pages) (shaped : I
   pub length-rolled_words : length (rolled_words s batches stored) ≡ words_in s.pages
   length-rolled_words = ap length (sym redone_words-rolled_back) ∙ length-redone (origin_of s) stored (records_of (rolled_back s batches)) ∙ shaped.size
 
-  -- no page is ahead of the log behind the opening
+  -- no page is ahead of the log after the opening
   pub rolled_behind : EachLacks (next_lsn (origin_of s) (records_of (rolled_back s batches))) stored
   rolled_behind =
       let more : length (records_of (rolled_back s batches)) ≡ length rs + length taken = ap length rolled_records ∙ length-append rs taken in
@@ -206,7 +206,7 @@ module _ (s : Super) (batches : List (List Record)) (stored : Pages) (legal : Is
       subst (λ (l : List Record). EachHoldsPrefix (origin_of s) l stored) (sym (rolled_records s batches stored legal.shaped))
       (EachHoldsPrefix-append (origin_of s) (records_of batches) (rollback legal.shaped.state) stored legal.prefixes)
 
-  -- the batches behind an opening of a legal log are a legal log
+  -- the batches after an opening of a legal log are a legal log
   abbrev pub rolled_legal : IsLegalLog s (rolled_back s batches) stored
   rolled_legal =
       let shaped = rolled_shaped s batches stored legal.shaped in
@@ -231,7 +231,7 @@ module _ (s : Super) (batches : List (List Record)) (stored : Pages) (legal : Is
   pub rolled_shows : (g : Graph) → Shows s batches stored legal g → Shows s (rolled_back s batches) stored rolled_legal g
   rolled_shows g shows = subst (λ ws. IsSeen ws legal.shaped.state.base g) (sym (words_of-rolled_back s batches stored legal.shaped)) shows
 
--- behind an opening a log says what it said
+-- after an opening a log says what it said
 pub rolled_says : (g : Graph) (k : ℕ) (s : Super) (batches : List (List Record)) (stored : Pages) → Says g k s batches stored → Says g k s (rolled_back s batches) stored
 rolled_says g k s batches stored says = record {
   legal = rolled_legal s batches stored says.legal;

@@ -52,7 +52,7 @@ pub record AreSplit (s : State) (all places remaining : Places) : Type 0 where
   pub current : current_in (Some s) all ≡ places
   pub left : remaining_in (Some s) all ≡ remaining
 
--- where objects are laid out their addresses tell their spaces
+-- where objects are laid out their addresses give their spaces
 pub laid_split : (s : State) (places remaining : Places) (words : List ℕ) → AreSpaces s words → IsLaidOut s places remaining words → AreSplit s (places ++ remaining) places remaining
 laid_split s places remaining words spaces laid =
     let here : (at : ℕ) → Contains (addresses places) at → in_other_space s at ≡ false = place_current spaces.spaced laid in

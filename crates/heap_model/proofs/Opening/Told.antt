@@ -1,4 +1,4 @@
--- A write, as records tell it.
+-- A write, as records encode it.
 use Rattle.std.proofs.Common.{◌≡◌, inl, inr, ℕ, ◌≤◌, List, ◌∷◌, length, Some, arith}
 use Rattle.std.specs.Prelude.{slice_index_or}
 use Rattle.graph_model.specs.declared.id.Id.{Id}
@@ -41,6 +41,6 @@ entry_of places g id at i = record { object = at; field = i; was = word_in place
 abbrev pub update_of : Places → Graph → ℕ → Id → ℕ → ℕ → Val → Record
 update_of places g t id at i v = Update t at i (word_in places g (slice_index_or (fields g id) i Null)) (word_in places g v)
 
--- the state behind it
+-- the state after it
 abbrev pub written : State → ℕ → UndoEntry → State
 written s t u = turned s t (with_entries s.undo t (u ∷ undo_of s t)) 0

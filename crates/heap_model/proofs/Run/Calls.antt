@@ -1,4 +1,4 @@
--- What each step of a core keeps: what it was opened with, its history with one entry more, and a failure.
+-- What each step of a core keeps: what it was opened with, its history with one more entry, and a failure.
 use Rattle.std.specs.Prelude.{if◌then◌else◌}
 use Rattle.std.proofs.Common.{◌≡◌, ◌<◌, arith, inl, inr, ℕ, Bool, true, false, List, [], ◌∷◌, ◌++◌, Option, Some, None, refl, sym, ap, ◌∙◌, subst}
 use Rattle.graph_model.specs.declared.event.Event.{Event}
@@ -48,7 +48,7 @@ refusal_history : (o : Option Refusal) (c : Core) (event : Event) → (after_ref
 refusal_history None c event = done_history c event
 refusal_history (Some why) c event = refl
 
--- the history has one entry more
+-- the history has one more entry
 pub after_history : (c : Core) (event : Event) → (after c event).history ≡ c.history ++ record { event = event; reply = answer c event } ∷ []
 after_history c event = ap (λ (l : List Entry). l ++ record { event = event; reply = answer c event } ∷ []) (refusal_history (core_refusal c event) c event)
 

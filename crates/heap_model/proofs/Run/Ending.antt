@@ -1,4 +1,4 @@
--- How many calls of the disk events make.
+-- How many device calls events make.
 use Rattle.std.specs.Prelude.{if◌then◌else◌}
 use Rattle.std.proofs.Common.{ℕ, ◌+◌, ◌*◌, ◌≤◌, Bool, true, false, List, [], ◌∷◌, length, Option, None, arith}
 use Rattle.graph_model.specs.declared.event.Event.{Event}

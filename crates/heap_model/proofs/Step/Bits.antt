@@ -1,4 +1,4 @@
--- Words of 64 bits stay so behind records that have spellings.
+-- Words of 64 bits stay so after records that have spellings.
 use Rattle.std.proofs.Common.{◌≡◌, ℕ, zero, suc, ◌+◌, ◌*◌, ◌^◌, ◌<◌, List, [], ◌∷◌, ◌++◌, Option, None, Some, refl, replicate, arith}
 use Rattle.std.specs.Prelude.{fold, slice_set}
 use Rattle.std.specs.List.{AllByRecursion, flat_map, enumerate_from}
@@ -76,7 +76,7 @@ put_small words Collected good = tt
 pub fit_record : (words : List ℕ) (rec : Record) → AreOf64Bits words → IsRecord rec → AreOf64Bits (put_record words rec)
 fit_record words rec fit good = fit_writes words (effect words rec) fit (put_small words rec good)
 
--- words of 64 bits stay so behind records
+-- words of 64 bits stay so after records
 pub fit_behind : (words : List ℕ) (records : List Record) → AreOf64Bits words → AllByRecursion IsRecord records → AreOf64Bits (fold put_record words records)
 fit_behind words [] fit good = fit
 fit_behind words (r ∷ rs) fit good = fit_behind (put_record words r) rs (fit_record words r fit good.0) good.1

@@ -1,4 +1,4 @@
--- Records that wait behind those that tell a graph.
+-- Records that are pending after those that encode a graph.
 use Rattle.std.proofs.Common.{◌≡◌, ℕ, ◌+◌, Bool, List, [], ◌∷◌, ◌++◌, refl, arith}
 use Rattle.graph_model.specs.Graph.{Graph}
 use Rattle.log_records.specs.declared.Record.{Record}
@@ -16,9 +16,9 @@ use Rattle.heap_model.specs.CoreTold.{IsTold}
 pub told_sound : {pages first_number : ℕ} {born : Bool} {places remaining : Places} {g : Graph} {k : ℕ} {records : List Record} {words : List ℕ} {state : State} → IsTold (start pages first_number) born places remaining g k records words state → AreLosers state
 told_sound {pages} {first_number} {records = records} {state = state} told = sound_after_all (start pages first_number) state records (sound_start pages first_number) told.reached
 
--- Another history, or more records that wait.
+-- Another history, or more pending records.
 
--- the log's bytes that are used with more records behind those that wait
+-- the log's bytes that are used with more records after the pending ones
 pub used-append : (c : Core) (more : List Record) → used (record c { pending = c.pending ++ more }) ≡ used c + need c.pending more
 used-append c more = let parts = length-pending_batch-append c.pending more in omega arith
 

@@ -1,4 +1,4 @@
--- What was sealed stays sealed: an image that stands for first commits does so behind every step.
+-- What was sealed stays sealed: an image that stands for a commit prefix does so after every step.
 use Rattle.std.proofs.Common.{◌≡◌, ℕ, ◌≤◌, List, [], ◌∷◌, ◌++◌, refl, sym, ap, ◌∙◌, subst, arith, append_assoc}
 use Rattle.std.specs.Option.{option_to_list}
 use Rattle.std.proofs.lemmas.List.{append-nil}
@@ -44,7 +44,7 @@ step_adds c d event reply step =
     let said = subst (Adds a) (sym (account-append c.history entry)) one in
     subst (λ (l : List Entry). Adds a (account l)) (sym (step_history c d event reply step)) said
 
--- What was sealed stays so over a run, in front of what is sealed in it.
+-- What was sealed stays so over a run, before what is sealed in it.
 pub grows : (c d : Core) (made : List Event) → IsRun c made d → (more : List Transaction) × (sealed d.history ≡ sealed c.history ++ more)
 grows c d [] run = ([], ap (λ (x : Core). sealed x.history) run ∙ sym (append-nil (sealed c.history)))
 grows c d (event ∷ made) run =
@@ -58,6 +58,6 @@ grows c d (event ∷ made) run =
 pub keeps_at_least : (c : Core) (image : List ℕ) → IsCommitPrefix c image → HasAtLeast c (acknowledged c.history) image
 keeps_at_least c image keeps = record { count = keeps.0; stands = keeps.1.stands; enough = keeps.1.kept; some = keeps.1.some }
 
--- an image that has so many commits has fewer at least
+-- an image that has at least that many commits also has at least fewer
 pub has_fewer : (c : Core) (least fewer : ℕ) (image : List ℕ) → fewer ≤ least → HasAtLeast c least image → HasAtLeast c fewer image
 has_fewer c least fewer image le has = record { count = has.count; stands = has.stands; enough = omega (arith, le, has.enough); some = has.some }

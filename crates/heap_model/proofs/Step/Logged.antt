@@ -25,7 +25,7 @@ use Rattle.heap_model.proofs.Step.Room.{records_of-append}
 pub super_origin : (s : Super) (c : Core) → IsSuperOf s c → origin_of s ≡ log_origin c
 super_origin s c of = ap (λ (pages : ℕ). heap_origin pages s.first) of.pages ∙ ap (heap_origin c.pages) of.first
 
--- the words behind all records are those that all of them leave
+-- the words after all records are those that all of them leave
 pub all_logged : (c : Core) → HasLogWords c → all_words c ≡ words_from (log_origin c) (all_records c)
 all_logged c logged = ap (λ (ws : List ℕ). fold put_record ws c.pending) logged ∙ sym (words_from-append (log_origin c) (records_of c.batches) c.pending)
 

@@ -18,7 +18,7 @@ use Rattle.read_barrier.specs.Barrier.{barrier_page_of}
 use Rattle.heap_model.specs.Collecting.{barrier_at, is_gray_in, page_records}
 use Rattle.heap_model.specs.Core.{Core, Ground, all_records, barrier_records, behind_barrier, call_barrier, ground, held_barrier, moved, placing, state_behind}
 
--- they wait behind those that there are, and objects are where they move them
+-- they are pending after those that there are, and objects are where they move them
 pub moved_is : (c : Core) (rs : List Record)
     → moved c rs ≡ record c { pending = c.pending ++ rs; places = (moved_by_all (placing c) rs).places; remaining = (moved_by_all (placing c) rs).remaining }
 moved_is c [] = ap (λ (p : List Record). record c { pending = p }) (sym (append-nil c.pending))

@@ -1,4 +1,4 @@
--- What records tell where no collection is under way: the completed words are the words, and objects stand there where they do.
+-- What records encode where no collection is under way: the completed words are the words, and objects stand there where they do.
 use Rattle.std.proofs.Common.{◌≡◌, ℕ, ◌+◌, inl, inr, Bool, List, ◌++◌, None, Some, refl, sym, ap, ◌∙◌, subst, arith}
 use Rattle.std.specs.Prelude.{IsTrue}
 use Rattle.std.proofs.lemmas.List.{append-nil}

@@ -31,7 +31,7 @@ length_pending_batch r rs =
 length_spellings : (rs more : List Record) → length (spellings (rs ++ more)) ≡ length (spellings rs) + length (spellings more)
 length_spellings rs more = ap (λ (l : List ℕ). length l) (flat_map-append spelling rs more) ∙ length-append (spellings rs) (spellings more)
 
--- records behind those that wait take what they need
+-- records after the pending ones take what they need
 pub length-pending_batch-append : (pending more : List Record) → length (pending_batch (pending ++ more)) ≡ length (pending_batch pending) + need pending more
 length-pending_batch-append [] [] = omega arith
 length-pending_batch-append [] (r ∷ rs) = length_pending_batch r rs ∙ omega arith
@@ -59,7 +59,7 @@ length_batches bs b =
     let front = length_framed b in
     omega arith
 
--- records that are forced take no more than they did while they waited
+-- records that are forced take no more than they did while they were pending
 pub length-forced : (bs : List (List Record)) (r : Record) (rs : List Record)
     → length (batches_bytes (bs ++ (r ∷ rs) ∷ [])) + 1 + length (pending_batch []) ≡ length (batches_bytes bs) + 1 + length (pending_batch (r ∷ rs))
 length-forced bs r rs = let all = length_batches bs (r ∷ rs) in let waiting = length_pending_batch r rs in omega arith
@@ -76,7 +76,7 @@ no_room false why e = refl
 pub full_log-room : (room used more kept : ℕ) → full_log room used more kept ≡ None → used + more + kept ≤ room
 full_log-room room used more kept e = ltb-false room (used + more + kept) (no_room (nat_lt room (used + more + kept)) (LogFull used more kept) e)
 
--- what the records take that take writes back and end their transaction, with a batch's gate and length where none waits
+-- what the records take that take writes back and end their transaction, with a batch's gate and length where none is pending
 pub need-abort_records : (pending : List Record) (t : ℕ) (us : List UndoEntry) → need pending (abort_records t us) ≤ undo_bytes us
 need-abort_records [] t [] = omega (arith, abort_length t [])
 need-abort_records [] t (u ∷ us) = omega (arith, abort_length t (u ∷ us))
@@ -91,7 +91,7 @@ force_batch c (r ∷ rs) e = refl
 pub forced-with_batch : (c : Core) → forced c c.pending ≡ record c { batches = with_batch c.batches c.pending; words = all_words c; pending = [] }
 forced-with_batch c = force_batch c c.pending refl
 
--- the records of batches with those that wait
+-- the records of batches with the pending ones
 pub records_of-with_batch : (bs : List (List Record)) (p : List Record) → records_of (with_batch bs p) ≡ records_of bs ++ p
 records_of-with_batch bs [] = sym (append-nil (records_of bs))
 records_of-with_batch bs (r ∷ rs) = records_of-append bs (r ∷ rs)

@@ -48,7 +48,7 @@ unfolding Between
 between s n [] more e = (s, refl, e)
 between s n (r ∷ rs) more e = first_then n rs more (after s r) e (λ next rest. between next n rs more rest)
 
--- so do records behind others that do
+-- so do records after others that do
 pub fair_append : (s n : State) (rs more : List Record) → AreFair s rs → ((m : State) → AreFair m more) → after_all s (rs ++ more) ≡ Some n → CostAll s (rs ++ more) n
 unfolding Between
 fair_append s n rs more first second e =

@@ -26,7 +26,7 @@ use Rattle.limit_laws.proofs.Bytes.Sets.{len_more, subset_less}
 use Rattle.limit_laws.proofs.Events.Kinds.{IsCopy}
 use Rattle.limit_laws.proofs.Progress.Rows.{retained}
 
--- What a record takes, and what is left to be taken behind it, is no more than its share and what was left before.
+-- What a record takes, and what is left to be taken after it, is no more than its share and what was left before.
 abbrev pub Costs : State → Record → State → Type 0
 Costs s rec n = bytes_of rec + left_by n.collection ≤ 16 * moved_by_record rec + 12 * led_by rec + 6 * begun_by rec + left_by s.collection
 

@@ -20,7 +20,7 @@ use Rattle.limit_laws.proofs.Bytes.Rows.{CostAll, cost_all}
 use Rattle.limit_laws.proofs.Events.Appended.{all_done}
 use Rattle.limit_laws.proofs.Events.Steps.{IsDone, granted, refused, step_done}
 
--- What stands behind the records of a core costs no more than its share.
+-- What stands after the records of a core costs no more than its share.
 record IsAdded (c d : Core) (s n : State) : Type 0 where
   more : List Record
   all : all_records d ≡ all_records c ++ more

@@ -9,7 +9,7 @@ use Rattle.std.proofs.lemmas.Bool.{cases_eq}
 use Rattle.heap_spaces.proofs.AddressLaws.{fewer, removed_other}
 use Rattle.core_laws.proofs.Collecting.Least.{tied}
 
--- a set with one address more has one more at most
+-- a set with one more address has one more at most
 pub len_more : (s : FinSet nat_cmp) (q : ℕ) → len (insert s q) ≤ len s + 1
 len_more s q = by (contains s q) (len-insert nat_cmp_total s q)
   where

@@ -1,4 +1,4 @@
--- A flip leads what active transactions have overwritten references to along, so they came to it as before.
+-- A flip takes along what active transactions have overwritten references to, so they came to it as before.
 use Rattle.std.proofs.Common.{◌≡◌, ℕ, List, [], ◌∷◌, Option, None, Some, refl, sym, ap, ◌∙◌, subst, arith}
 use Rattle.std.specs.Prelude.{option_and_then}
 use Rattle.std.specs.FinMap.{get}
@@ -41,7 +41,7 @@ use Rattle.limit_laws.proofs.Copies.Own.{own_all}
 use Rattle.limit_laws.proofs.Copies.Past.{IsPast}
 use Rattle.limit_laws.proofs.Copies.Quiet.{place_done, still_granted}
 
--- a translated word refers to where that went to which the word referred
+-- a translated word refers to where the object went to which the word referred
 translated_means : (pairs : List (ℕ × ℕ)) (w at : ℕ) → meaning (translated_word pairs w) ≡ Some (word.Stable at) → (x : ℕ) × (meaning w ≡ Some (word.Stable x)) × (moved_to pairs x ≡ at)
 translated_means pairs w at means = by (meaning w) refl
   where

@@ -120,7 +120,7 @@ pub record IsClosed (g : Graph) (copied : Places) (e : Core) (s : State) : Type 
   pub reached : (k : Collection) → s.collection ≡ Some k → (id : Id) → Reached g id → IsPlaced (placing_of copied e.remaining) id
   pub black : (k : Collection) → s.collection ≡ Some k → (z y : Id) (at i : ℕ) → address_of copied z ≡ Some at → contains k.gray at ≡ false → slice_get (fields g z) i ≡ Some (Ref y) → address_of e.remaining y ≡ None
 
--- behind a flip that leaves a core whose graph it is
+-- after a flip that leaves a core whose graph it is
 pub closed_first : (g : Graph) (a : Account) (e : Core) (h : Agrees a e) → serial e.g0 a.sealed ≡ g → IsClosed g e.places e h.behind
 closed_first g a e h same = record {
   current = λ id at there. there;

@@ -55,7 +55,7 @@ use Rattle.limit_laws.proofs.Events.Kinds.{IsCopy, planned_copies}
 
 -- Where copies go.
 
--- behind what was used
+-- past what was used
 goes_behind : (s n : State) (copies : List Record) (at : ℕ) → AllByRecursion IsCopy copies → collecting_after_all s copies ≡ Some n → GoesTo at copies → s.base + s.used ≤ at
 goes_behind s n [] at all passes goes = absurd goes
 goes_behind s n (Copy from to words ∷ rs) at all passes goes =
@@ -131,7 +131,7 @@ put_some (p ∷ ps) from to id at is = by (p.1 == from) is (put_some ps from to 
     ]
     by false is later = some_later (is_same_id p.0 id) p.1 (address_of ps id) (later is)
 
--- An object that stands behind copies stood there before, or remained and went there.
+-- An object that stands after copies stood there before, or remained and went there.
 pub record WentThere (p : Placing) (copies : List Record) (id : Id) (at : ℕ) : Type 0 where
   pub goes : GoesTo at copies
   pub left : is_some (address_of p.remaining id) ≡ true
@@ -162,7 +162,7 @@ unwritten_or (u ∷ us) x = by (x == field_at u.object u.field) refl (unwritten_
 
 -- The scan.
 
--- a graph as a transaction sees it that has made so many objects, where these writes may be taken back
+-- a graph as a transaction that has made that many objects sees it, where these writes may be taken back
 abbrev view_of : ℕ → ℕ → Graph → List UndoEntry → Placing → View
 view_of t made g us p = record { t = t; made = made; g = g; us = us; before = p }
 
@@ -201,7 +201,7 @@ done_first s k places remaining words t made g us is backed stands = record {
     or_none true = refl
     or_none false = refl
 
--- A field that was led, of an object that was gray or came as a copy. It refers to what it was led to, if none of these writes wrote it.
+-- A field that was redirected, of an object that was gray or came as a copy. It refers to what it was redirected to, if none of these writes wrote it.
 record IsLedFrom (k : Collection) (p : Placing) (copies : List Record) (g : Graph) (us : List UndoEntry) (x : ℕ) (y : Id) : Type 0 where
   z : Id
   object : ℕ
@@ -216,7 +216,7 @@ module _ (s : State) (k : Collection) (places remaining : Places) (words : List 
   is : IsCollecting d.next d.now d.currents d.rest d.moved
   is = underway d.is
 
-  -- a field that was led is of a gray object
+  -- a field that was redirected is of a gray object
   led_gray : (write : ℕ × ℕ) → (w : IsLedWrite d.next d.currents d.moved write) → contains d.now.gray w.object ≡ true
   led_gray write w = by (is_gray_field d.next.collection w.object w.field) refl
     where
@@ -255,11 +255,11 @@ module _ (s : State) (k : Collection) (places remaining : Places) (words : List 
       let heap : IsHeap d.next d.currents d.rest d.moved = record { spaced = is.spaced; long = is.long; laid = is.laid } in
       same_Some n (length (fields g z)) (sym object ∙ object_here us heap d.backed d.stands z at there)
 
-  -- an object that was copied stands behind the words that were used
+  -- an object that was copied stands past the words that were used
   behind : (z : Id) (at : ℕ) → WentThere (placing_of places remaining) q.copies z at → s.base + s.used ≤ at
   behind z at went = goes_behind s d.next q.copies at copies d.passes went.goes
 
-  -- the field that was led to an object
+  -- the field that was redirected to an object
   led_from : (x at : ℕ) (y : Id) → Contains q.writes (x, bits (word.Stable at)) → address_of (moved_by_all (placing_of places remaining) q.copies).places y ≡ Some at → IsLedFrom k (placing_of places remaining) q.copies g us x y
   led_from x at y write there =
       let p = placing_of places remaining in
@@ -328,7 +328,7 @@ module _ (K : Id → Type 0) (g sealed : Graph) (s : State) (k : Collection) (pl
       let less = here.is.within in
       omega arith
 
-  -- an object is kept that went to an address, if those are that went below
+  -- an object that went to an address is kept, if those that went below it are
   copied_kept : (bound : ℕ) → ((id : Id) (at : ℕ) → address_of (moved_by_all (placing_of places remaining) q.copies).places id ≡ Some at → at < bound → is_some (address_of remaining id) ≡ true → K id)
       → (id : Id) (at : ℕ) → address_of (moved_by_all (placing_of places remaining) q.copies).places id ≡ Some at → at < suc bound → WentThere (placing_of places remaining) q.copies id at → K id
   copied_kept bound below id at there low went =

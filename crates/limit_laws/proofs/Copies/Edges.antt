@@ -1,4 +1,4 @@
--- Where a scan leads a reference of an object to a copy, the object refers to the copied one in each graph that stands in the words.
+-- Where a scan redirects a reference of an object to a copy, the object refers to the copied one in each graph that stands in the words.
 use Rattle.std.proofs.Common.{◌≡◌, ℕ, ◌+◌, ◌<◌, List, ◌++◌, length, Option, Some, None, refl, sym, ap, ◌∙◌, subst, arith}
 use Rattle.std.specs.Prelude.{slice_get, slice_index, slice_index_or, if◌then◌else◌}
 use Rattle.std.proofs.lemmas.Option.{slice_get-get_or}
@@ -40,7 +40,7 @@ value_refers places g one (Ref id) to y same there = by (address_of places id) r
         let address : at ≡ to = omega arith in
         ap Ref (one id y to (here ∙ ap Some address) there)
 
--- a write that a scan has led, of a field that none of these writes has written
+-- a write by which a scan has redirected a field that none of these writes has written
 pub led_edge : {s : State} {k : Collection} {currents rest : Places} {words : List ℕ} {t made : ℕ} {g : Graph} {write : ℕ × ℕ} (us : List UndoEntry) → IsCollecting s k currents rest words
     → StandsCompleted t made currents rest g us words s → (w : IsLedWrite s currents words write) → IsUnwritten us (field_at w.object w.field)
     → (z y : Id) → w.is.fields ≡ length (fields g z) → address_of (currents ++ future s words rest) z ≡ Some w.object → address_of (currents ++ future s words rest) y ≡ Some w.to → slice_get (fields g z) w.field ≡ Some (Ref y)

@@ -1,4 +1,4 @@
--- Which writes may be taken back behind records: those before them that are left, and those of updates.
+-- Which writes may be taken back after records: those before them that are left, and those of updates.
 use Rattle.std.proofs.Common.{◌≡◌, ℕ, List, [], ◌∷◌, Option, None, Some, refl, subst}
 use Rattle.std.specs.Prelude.{option_and_then, unwrap_or}
 use Rattle.std.specs.FinMap.{FinMap, get}
@@ -74,7 +74,7 @@ module _ (P : ℕ → UndoEntry → Type 0) where
   each_row s n (Flip copies) plain e new each = absurd plain
   each_row s n Collected plain e new each = ended s n s.collection e each
 
-  -- what holds of each write, and of those of updates, holds of each behind records other than flips
+  -- what holds of each write, and of those of updates, holds of each after records other than flips
   pub each_after : (s n : State) (records : List Record) → AllByRecursion IsNoFlip records → after_all s records ≡ Some n → AllByRecursion (OfUpdate P) records → EachEntry P s → EachEntry P n
   each_after s n [] plain e new each = subst (EachEntry P) (same_Some s n e) each
   each_after s n (r ∷ rs) plain e new each =

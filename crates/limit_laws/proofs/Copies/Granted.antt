@@ -34,7 +34,7 @@ use Rattle.limit_laws.proofs.Copies.References.{KeepsReferences, StaysReferring}
 use Rattle.limit_laws.proofs.Events.Kinds.{IsNoFlip, own_of_transaction}
 use Rattle.limit_laws.proofs.Progress.Scans.{no_flips}
 
--- what the history says behind an event that is granted
+-- what the history says after an event that is granted
 abbrev pub said_of : Core → Event → Account
 said_of e event = account_after (account e.history) (record { event = event; reply = granted_by e event })
 

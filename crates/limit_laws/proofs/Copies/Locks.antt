@@ -1,4 +1,4 @@
--- Which exclusive locks an event adds: a write's, of an object that is not gray behind its barrier.
+-- Which exclusive locks an event adds: a write's, of an object that is not gray after its barrier.
 use Rattle.std.proofs.Common.{◌≡◌, ◌≢◌, inl, inr, ℕ, ◌+◌, ◌≤◌, false, List, [], ◌∷◌, ◌++◌, Option, None, Some, refl, sym, ap, ◌∙◌, subst, arith, append_assoc}
 use Rattle.std.specs.Prelude.{Contains}
 use Rattle.std.specs.List.{AllByRecursion}
@@ -41,14 +41,14 @@ use Rattle.limit_laws.proofs.Progress.Black.{black_after_all}
 
 -- What is written is not gray.
 
--- behind its barrier, in a larger log
+-- after its barrier, in a larger log
 scanned : (a : Account) (e : Core) (h : Agrees a e) (rs : List Record) → ((more : ℕ) → used e + need e.pending rs + reserved (undo_behind e (all_records e ++ rs)) a ≤ e.room + more → Agrees a (moved (roomy e more) rs))
     → (more : ℕ) × Agrees a (behind (roomy e more) rs)
 scanned a e h rs kept =
     let more = used e + need e.pending rs + reserved (undo_behind e (all_records e ++ rs)) a in
     (more, subst (Agrees a) (moved_is (roomy e more) rs) (kept more (omega arith)))
 
--- what is not gray behind the barrier is not gray behind the event
+-- what is not gray after the barrier is not gray after the event
 black_behind : (a : Account) (e : Core) (h : Agrees a e) (n : State) (rs own : List Record) (more : ℕ) (b : Agrees a (behind (roomy e more) rs)) → after_all h.behind (rs ++ own) ≡ Some n → AllByRecursion IsNoFlip own
     → (z : Id) (at i : ℕ) → address_of (moved_by_all (placing e) rs).places z ≡ Some at → is_gray_field b.behind.collection at i ≡ false → (k : Collection) → n.collection ≡ Some k → contains k.gray at ≡ false
 black_behind a e h n rs own more b follows plain z at i there black k run =
@@ -68,7 +68,7 @@ held_in (Some x) mode z is =
 locked_held : (rs : Registers) (h : ℕ) (mode : Mode) (z : Id) → lock_on rs h mode ≡ Some (z, Exclusive) → (held rs h ≡ Some z) × (mode ≡ Exclusive)
 locked_held rs h mode z is = held_in (held rs h) mode z is
 
--- What a call locks exclusively is not gray behind it.
+-- What a call locks exclusively is not gray after it.
 module _ (e : Core) (valid : IsValid e) (n : State) where
   abbrev pub a : Account
   a = account e.history

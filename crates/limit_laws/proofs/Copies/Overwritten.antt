@@ -1,4 +1,4 @@
--- What active transactions have overwritten references to they came to: each value that may be put back was at some time in an object that they have
+-- Active transactions came to what they have overwritten references to: each value that may be put back was once in an object that they have
 -- locked.
 use Rattle.std.proofs.Common.{◌≡◌, ◌≢◌, ℕ, ◌+◌, List, [], ◌∷◌, ◌++◌, length, map, Option, None, Some, refl, sym, ap, ◌∙◌, subst, arith}
 use Rattle.std.specs.Prelude.{slice_index, slice_index_or}
@@ -135,7 +135,7 @@ module _ (a b : Account) (e f : Core) (h : Agrees a e) (n : State) (records : Li
       (λ u here old r t active number at means y there. past q (h.losers q us is) r t active number y (λ r0 t0 active0 number0. old r0 t0 active0 number0 at means y (stood u here at means y there)))
       (h.told.backed q us is) (was q us is))
 
--- Where objects stood they stand behind records other than flips.
+-- Where objects stood they stand after records other than flips.
 
 moved_keeps : (e : Core) (rs : List Record) → AllByRecursion IsNoFlip rs → (more : Places) (id : Id) (at : ℕ) → address_of e.places id ≡ Some at → address_of ((moved_by_all (placing e) rs).places ++ more) id ≡ Some at
 moved_keeps e rs plain more id at there =

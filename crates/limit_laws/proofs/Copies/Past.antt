@@ -20,7 +20,7 @@ use Rattle.limit_laws.proofs.Copies.Within.{OwnOr, run_locks, run_within}
 abbrev pub first_calls : Transaction → List Event → Transaction
 first_calls t calls = record { number = t.number; calls = calls }
 
--- with one call more
+-- with one more call
 abbrev pub with_one : Transaction → Event → Transaction
 with_one t c = record { number = t.number; calls = t.calls ++ c ∷ [] }
 
@@ -34,7 +34,7 @@ pub record IsPast (g : Graph) (t : Transaction) (y : Id) : Type 0 where
   pub lock : Contains (locks_of g t) (z, Exclusive)
   pub refers : slice_get (fields (run g (record { number = t.number; calls = first })).graph z) i ≡ Some (Ref y)
 
--- it stays so with one call more
+-- it stays so with one more call
 pub past_more : (g : Graph) (t : Transaction) (c : Event) (y : Id) → IsPast g t y → IsPast g (with_one t c) y
 past_more g t c y past = record {
   first = past.first;

@@ -51,7 +51,7 @@ use Rattle.limit_laws.proofs.Runs.{run_entries, since_run}
 
 -- Runs.
 
--- What a collection has copied that began in c, up to a core.
+-- What a collection that began in c has copied, up to a core.
 pub record IsFollowed (c e : Core) : Type 0 where
   pub reached : IsReached e
   pub led : KeepsLed (IsKept c) (sealed_graph c) (account e.history) e (reached_agrees e reached).behind
@@ -254,7 +254,7 @@ follow_flip c f reached begun =
       closed = subst (λ (p : Placing). IsClosed g p.places f h.behind) begun.placed (closed_first g _ f h same);
     }
 
--- what holds behind a flip and the events of sessions
+-- what holds after a flip and the events of sessions
 pub followed : (c d : Core) (events : List Event) (objects words : ℕ) → IsReached c → answer c Flip ≡ reply.Flipped objects words → AllByRecursion IsOfSession events → IsRun (after c Flip) events d → BeganNone (after c Flip) d → IsFollowed c d
 followed c d events objects words reached flips of run none =
     let same = since_run (after c Flip) d events run in

@@ -1,4 +1,4 @@
--- That references are still followed which gray objects had at the flip.
+-- That references which gray objects had at the flip are still followed.
 use Rattle.std.specs.Prelude.{◌≡◌, ℕ, true, Some, is_some, slice_get, Contains}
 use Rattle.std.specs.FinSet.{contains}
 use Rattle.graph_model.specs.declared.id.Id.{Id}

@@ -1,4 +1,4 @@
--- Each object that a scan copies is copied because a field refers to it that stands before its copy.
+-- Each object that a scan copies is copied because a field that stands before its copy refers to it.
 use Rattle.std.proofs.Common.{◌≡◌, ℕ, zero, suc, ◌+◌, ◌*◌, ◌<◌, ◌≤◌, Bool, true, false, List, [], ◌∷◌, ◌++◌, length, Option, None, Some, refl, ap, ◌∙◌, subst, arith}
 use Rattle.std.specs.Prelude.{Contains, slice_index, option_and_then, if◌then◌else◌}
 use Rattle.std.specs.List.{AllByRecursion}

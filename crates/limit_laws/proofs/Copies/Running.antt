@@ -1,4 +1,4 @@
--- Records other than flips begin no collection: one that runs behind them ran before them, and loses sight of no object.
+-- Records other than flips begin no collection: one that runs after them ran before them, and loses sight of no object.
 use Rattle.std.proofs.Common.{◌≡◌, ◌⊎◌, inl, inr, ℕ, Bool, true, false, List, [], ◌∷◌, ◌++◌, Option, None, Some, is_some, refl, sym, ap, ◌∙◌}
 use Rattle.std.specs.Prelude.{map, filter, not, option_and_then, if◌then◌else◌, ◌==◌}
 use Rattle.std.specs.List.{AllByRecursion}
@@ -46,14 +46,14 @@ row_none s n (Scan page writes) plain e none = scanned_none s n page writes s.co
 row_none s n (Flip copies) plain e none = absurd plain
 row_none s n Collected plain e none = ended_none s n s.collection e
 
--- where none runs none runs behind records other than flips
+-- where none runs none runs after records other than flips
 none_after_all : (s n : State) (records : List Record) → AllByRecursion IsNoFlip records → after_all s records ≡ Some n → s.collection ≡ None → n.collection ≡ None
 none_after_all s n [] plain e none = ap (λ (x : State). x.collection) (sym (same_Some s n e)) ∙ none
 none_after_all s n (r ∷ rs) plain e none =
     option_and_then_some (λ next. after_all next rs) (after s r) n e (λ next one rest.
     none_after_all next n rs plain.1 rest (row_none s next r plain.0 (passed (is_number_or_none (number_of r)) (row_after s r) next one) none))
 
--- so one that runs behind them ran before them
+-- so one that runs after them ran before them
 pub ran : (s n : State) (records : List Record) → AllByRecursion IsNoFlip records → after_all s records ≡ Some n → (k : Collection) → n.collection ≡ Some k → (j : Collection) × (s.collection ≡ Some j)
 ran s n records plain e k run = by s.collection refl
   where
@@ -109,7 +109,7 @@ row_placed s n k p (Flip copies) id plain e run is = absurd plain
 row_placed s n k p Collected id plain e run is = let never = sym (ended_none s n s.collection e) ∙ run in absurd (cc never)
 row_placed s n k p rec id plain e run is = is
 
--- an object that is current or remains does so behind records other than flips, as long as the collection runs
+-- an object that is current or remains does so after records other than flips, as long as the collection runs
 pub all_placed : (s n : State) (k : Collection) (p : Placing) (records : List Record) (id : Id) → AllByRecursion IsNoFlip records → after_all s records ≡ Some n → n.collection ≡ Some k → IsPlaced p id → IsPlaced (moved_by_all p records) id
 all_placed s n k p [] id plain e run is = is
 all_placed s n k p (r ∷ rs) id plain e run is =

@@ -52,7 +52,7 @@ pub record WasHeld (a : Account) (g : Graph) (z : Id) (vs : List Val) : Type 0 w
 abbrev pub BlackOrHeld : Account → Graph → State → Transaction → Id → ℕ → Type 0
 BlackOrHeld a g n t z at = ((k : Collection) → n.collection ≡ Some k → contains k.gray at ≡ false) ⊎ WasHeld a g z (fields (run g t).graph z)
 
--- What an event leaves that seals nothing.
+-- What an event that seals nothing leaves.
 pub record IsNext (K : Id → Type 0) (a b : Account) (e f : Core) (s n : State) : Type 0 where
   pub graph : serial f.g0 b.sealed ≡ serial e.g0 a.sealed
   pub records : List Record
@@ -152,7 +152,7 @@ module _ (K : Id → Type 0) (g : Graph) (a b : Account) (e f : Core) (h : Agree
     };
   }
 
--- Places behind a scan.
+-- Places after a scan.
 
 -- records of a collection leave no more to remain
 pub moved_fewer : (p : Placing) (rs : List Record) → AllByRecursion IsNoFlip rs → (id : Id) → is_some (address_of (moved_by_all p rs).remaining id) ≡ true → is_some (address_of p.remaining id) ≡ true

@@ -1,4 +1,4 @@
--- What a flip does not copy no transaction has overwritten a reference to: each sees those of the objects that it has locked as the sealed ones left
+-- No transaction has overwritten a reference to what a flip does not copy: each sees those of the objects that it has locked as the sealed ones left
 -- them.
 use Rattle.std.proofs.Common.{◌≡◌, ◌⊎◌, inl, inr, ℕ, ◌<◌, Bool, true, false, List, [], ◌∷◌, ◌++◌, length, length-set, None, Some, is_some, refl, sym, ap, ◌∙◌, subst, arith}
 use Rattle.std.specs.Prelude.{◌==◌, Contains, slice_get, slice_index, slice_index_or, slice_set}

@@ -40,7 +40,7 @@ module _ (within : Id → Type 0) (t : ℕ) (has_root : within root) (own : (id 
   read_within v is h (Int n) new = record { handles = is.handles; leads = is.leads }
   read_within v is h (Ref y) new = set_within v is h (Some y) (λ id same. subst within (same_Some y id same) (new y refl))
 
-  -- what a field refers to that is read
+  -- what a field that is read refers to
   referred_within : (v : View) → IsWithin within v → (o : Option Id) (i : ℕ) → ((id : Id) → o ≡ Some id → within id) → (y : Id) → slice_index_or (fields_of v.graph o) i Null ≡ Ref y → within y
   referred_within v is None i holds y refers = cc
   referred_within v is (Some id) i holds y refers = is.leads id y i (holds id refl) (slice_get_reference (fields v.graph id) i y refers)

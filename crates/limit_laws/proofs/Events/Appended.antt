@@ -1,4 +1,4 @@
--- What an event adds to the records of a core: those that it appends, whether they wait or are forced.
+-- What an event adds to the records of a core: those that it appends, whether they are pending or forced.
 use Rattle.std.proofs.Common.{◌≡◌, ℕ, Bool, true, false, List, [], ◌∷◌, ◌++◌, refl, sym, ap, ◌∙◌, append_assoc}
 use Rattle.std.specs.Prelude.{if◌then◌else◌}
 use Rattle.std.proofs.lemmas.List.{append-nil}
@@ -29,7 +29,7 @@ more_moved c rs own =
     ∙ ap (λ (l : List Record). l ++ own) (sym (append_assoc (records_of c.batches) c.pending rs))
     ∙ append_assoc (all_records c) rs own
 
--- behind an event that is granted stand the records that it appends
+-- an event that is granted leaves the records that it appends after the others
 pub all_done : (c : Core) (event : Event) → all_records (done c event) ≡ all_records c ++ event_records c event
 all_done c Force = all_forced c c.pending refl ∙ sym (append-nil (all_records c))
 all_done c (Flush p) = all_flushed c p (is_dirty c p) (is_ahead c p) ∙ sym (append-nil (all_records c))

@@ -45,7 +45,7 @@ IsOfScan (Copy from to words) = Unit {0}
 IsOfScan (record_of.Scan page writes) = Unit {0}
 IsOfScan rec = ⊥
 
--- a record of a collection that goes on, or ends
+-- a record of a collection that continues, or ends
 abbrev pub IsOfCollection : Record → Type 0
 IsOfCollection (Copy from to words) = Unit {0}
 IsOfCollection (record_of.Scan page writes) = Unit {0}
@@ -209,7 +209,7 @@ barrier_of_scan c (Clear s h i) = let a = account c.history in called_of (ground
 barrier_of_scan c (Link s h i h2) = let a = account c.history in called_of (ground c) c.g0 a (a.active s) h i
 barrier_of_scan c event = tt
 
--- and the event itself, if it is none of a collection, records of a transaction
+-- and the event itself, if it is not one of a collection, records of a transaction
 pub own_of_transaction : (c : Core) (event : Event) → event ≢ Flip → event ≢ Scan → AllByRecursion IsOfTransaction (own_records c event)
 own_of_transaction c Flip other more = absurd (other refl)
 own_of_transaction c Scan other more = absurd (more refl)
@@ -218,7 +218,7 @@ own_of_transaction c Force other more = tt
 own_of_transaction c (Flush p) other more = tt
 own_of_transaction c event other more = let a = account c.history in call_of (ground (behind_barrier c event)) c.g0 a (a.active (session_of event)) event
 
--- a scan appends records of a collection that goes on or ends
+-- a scan appends records of a collection that continues or ends
 scan_on : (s : State) (words : List ℕ) (o : Option Collection) (page : Option ℕ) → AllByRecursion IsOfCollection (scan_records_in s words o page)
 scan_on s words None page = tt
 scan_on s words (Some k) None = (tt, tt)

@@ -1,4 +1,4 @@
--- What a step of a core that is reached does to the state behind all records: the event's records follow, or nothing changes.
+-- What a step of a core that is reached does to the state after all records: the event's records follow, or nothing changes.
 use Rattle.std.proofs.Common.{◌≡◌, inl, inr, ℕ, Option, Some, None, refl, sym, ap, ◌∙◌}
 use Rattle.std.proofs.lemmas.Option.{same_Some}
 use Rattle.graph_model.specs.declared.event.Event.{Event}

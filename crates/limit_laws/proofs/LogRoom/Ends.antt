@@ -126,7 +126,7 @@ seal_granted c s t reached valid e places =
 
 -- Ends.
 
--- a session without a transaction is told so
+-- that a session has no transaction is reported
 told_idle : (c : Core) (event : Event) → (account c.history).failed ≡ None → event_refusal (next_number c) c.g0 (account c.history) event ≡ Some NotActive → core_refusal c event ≡ Some NotActive
 told_idle c event unfailed idle =
     unfailed_refusal c event unfailed

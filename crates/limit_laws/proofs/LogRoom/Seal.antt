@@ -29,7 +29,7 @@ one_more m f x = by (contains_key m f) (len-insert field_cmp_total m f x)
     by true is = omega arith
     by false is = omega arith
 
--- a map of so many entries has no more keys
+-- a map of these entries has no more keys than there are entries
 few_keys : (us : List UndoEntry) → len (from_entries {R = field_cmp} (map marked us)) ≤ length us
 few_keys [] = omega (arith, len-empty field_cmp (Unit {0}))
 few_keys (u ∷ us) = omega (arith, few_keys us, one_more (from_entries {R = field_cmp} (map marked us)) (field_of u) tt)

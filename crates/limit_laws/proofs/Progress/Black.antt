@@ -71,7 +71,7 @@ row_black at s n (Scan page writes) plain e is = scanned_black at s n page write
 row_black at s n (Flip copies) plain e is = absurd plain
 row_black at s n Collected plain e is = ended_black at s n s.collection e is
 
--- so it stays behind records
+-- so it stays after records
 pub black_after_all : (at : ℕ) (s n : State) (records : List Record) → AllByRecursion IsNoFlip records → after_all s records ≡ Some n → IsBlack at s → IsBlack at n
 black_after_all at s n [] plain e is = subst (IsBlack at) (same_Some s n e) is
 black_after_all at s n (r ∷ rs) plain e is =

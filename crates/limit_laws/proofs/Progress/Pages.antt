@@ -63,7 +63,7 @@ rises_on from mid (p ∷ ps) qs end first second = (first.0, rises_on (p + 1) mi
 
 -- Steps.
 
--- Behind a step nothing is gray in the pages before one, and the pages that it says were scanned lie between.
+-- After a step nothing is gray in the pages before one, and the pages that it says were scanned lie between.
 record IsThrough (s n : State) (from : ℕ) (pages : List ℕ) (top : ℕ) : Type 0 where
   to : ℕ
   gray : GrayFrom (64 * to) n
@@ -222,7 +222,7 @@ step_through c d event reply reached there from first top step none pages low gr
     (step_done c d event reply (reached_agrees c reached).behind (reached_agrees d there).behind step (reached_agrees c reached).told.reached (reached_agrees d there).told.reached)
     none pages low gray
 
--- a core and the state behind its records have the same pages
+-- a core and the state after its records have the same pages
 behind_pages : (c : Core) (reached : IsReached c) → (reached_agrees c reached).behind.pages ≡ c.pages
 behind_pages c reached = (leads_after_all (log_start c) (reached_agrees c reached).behind (all_records c) (reached_agrees c reached).told.reached).pages
 

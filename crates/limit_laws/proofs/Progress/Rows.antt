@@ -21,7 +21,7 @@ use Rattle.limit_laws.proofs.Events.Kinds.{IsNoCopy, IsNoFlip}
 abbrev pub GrayFrom : ℕ → State → Type 0
 GrayFrom x s = (k : Collection) (at : ℕ) → s.collection ≡ Some k → contains k.gray at ≡ true → x ≤ at
 
--- So they are, and the next free word is there or behind it.
+-- So they are, and the next free word is there or past it.
 pub record IsFrom (x : ℕ) (s : State) : Type 0 where
   pub gray : GrayFrom x s
   pub next : x ≤ s.base + s.used
@@ -64,7 +64,7 @@ not_true : (b : Bool) → not b ≡ true → b ≡ false
 not_true true is = cc is
 not_true false is = refl
 
--- what is gray behind the scan of a page was gray, and does not start there
+-- what is gray after the scan of a page was gray, and does not start there
 pub retained : (k : Collection) (page at : ℕ) → contains (with_scanned k page).gray at ≡ true → (contains k.gray at ≡ true) × ((page_of at == page) ≡ false)
 retained k page at is =
     let both = and_parts (contains k.gray at) (not (page_of at == page))

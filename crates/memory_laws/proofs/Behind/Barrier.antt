@@ -1,4 +1,4 @@
--- Memory plans the scans that the core plans: before a field of the object is read or written that a handle holds, and where a page is next.
+-- Memory plans the scans that the core plans: before a field of the object that a handle holds is read or written, and where a page is next.
 use Rattle.std.proofs.Common.{◌≡◌, ℕ, Bool, List, [], Option, None, Some, refl, sym, ap, ◌∙◌}
 use Rattle.std.specs.Prelude.{if◌then◌else◌, unwrap_or}
 use Rattle.graph_model.specs.declared.event.Event.{Event}
@@ -38,7 +38,7 @@ module _ (m : Memory) (c : Core) (valid : IsValid c) (is : Works m (account c.hi
   abbrev a : Account
   a = account c.history
 
-  -- the state behind all records
+  -- the state after all records
   abbrev behind : State
   behind = valid.behind
 
@@ -70,7 +70,7 @@ module _ (m : Memory) (c : Core) (valid : IsValid c) (is : Works m (account c.hi
       ∙ ap (λ (o : Option Id). held_barrier (ground c) o i) (sym holds)
       ∙ ap (λ (o : Option Transaction). call_barrier (ground c) c.g0 a o h i) (sym active)
 
--- Memory in which the records of an event's barrier were carried out is that of the core behind the barrier.
+-- Memory in which the records of an event's barrier were carried out is that of the core after the barrier.
 pub barrier_memory : (m n : Memory) (c : Core) (valid : IsValid c) → IsMemory m (account c.history) c → (event : Event)
     → Leaves m n (barrier_records c event) m.table m.locks (memory.spaces_behind m.spaces (barrier_records c event)) (memory.collection_behind m.collection (barrier_records c event)) m.sealed
     → IsMemory n (account c.history) (behind_barrier c event)

@@ -1,4 +1,4 @@
--- An event with a barrier is made on the core behind the barrier, and leaves the memory of the core after both.
+-- An event with a barrier is made on the core after the barrier, and leaves the memory of the core after both.
 use Rattle.std.proofs.Common.{◌≡◌, ℕ, List, ◌++◌, sym, ap, ◌∙◌, subst, append_assoc}
 use Rattle.std.specs.Prelude.{fold}
 use Rattle.std.proofs.lemmas.List.Sums.{fold-append}
@@ -23,11 +23,11 @@ use Rattle.memory_laws.proofs.Kept.Parts.{HasDisk, Turns, disk_left, whole_of}
 use Rattle.memory_laws.proofs.Step.Answered.{Goes}
 use Rattle.memory_laws.proofs.Step.Appended.{Passes, Tells, own_at, own_done, told_after}
 
--- a core with an event's own records behind those that wait, where its history is another's
+-- a core with an event's own records after the pending ones, where its history is another's
 abbrev with_event : Core → Event → Core → Core
 with_event c event b = record b { pending = b.pending ++ records_for (ground b) c.g0 (account c.history) event; places = b.places ++ event_places b event }
 
--- What a call leaves behind its barrier it leaves of the core.
+-- What a call leaves after its barrier it leaves of the core.
 pub goes_behind : (n : Memory) (c : Core) (event : Event) → IsCall event → Passes n (core_behind c (barrier_records c event)) event → Goes n c event
 goes_behind n c event is passes =
     let d = core_behind c (barrier_records c event) in
@@ -37,7 +37,7 @@ goes_behind n c event is passes =
 
 module _ (m n : Memory) (c : Core) (is : IsMemory m (account c.history) c) (records own all : List Record) (parts : all ≡ records ++ own)
     {table : TableState} {locks : Holdings} {count : ℕ} (left : Leaves m n all table locks (spaces_behind m.spaces all) (collection_behind m.collection all) count) where
-  -- what memory has of the disk when these records were carried out, and those of the event behind them
+  -- what memory has of the disk when these records were carried out, and those of the event after them
   disk_behind : (event : Event) → own_at (core_behind c records) event ≡ own → HasDisk n (own_done (core_behind c records) event)
   disk_behind event same =
       let d = core_behind c records in

@@ -1,4 +1,4 @@
--- What an event finds behind its barrier that reads or writes a field of the object that a handle holds.
+-- What an event that reads or writes a field of the object that a handle holds finds after its barrier.
 use Rattle.std.proofs.Common.{◌≡◌, ℕ, ◌<◌, List, length, Option, Some, None, Ok, false, refl, sym, ap, ◌∙◌, subst}
 use Rattle.graph_model.specs.declared.event.Event.{Event}
 use Rattle.graph_model.specs.declared.id.Id.{Id}
@@ -44,7 +44,7 @@ module _ (m : Memory) (c : Core) (valid : IsValid c) (runs : RunsLocked c.g0 c.f
   abbrev records : List Record
   records = barrier_records c event
 
-  -- the core behind it, and memory with the effect of its records
+  -- the core after it, and memory with the effect of its records
   abbrev d : Core
   d = core_behind c records
 

@@ -1,4 +1,4 @@
--- What records of a collection that runs leave of a valid core: the state behind them, and where its objects are.
+-- What records of a collection that runs leave of a valid core: the state after them, and where its objects are.
 use Rattle.std.proofs.Common.{◌≡◌, ℕ, true, false, Bool, List, [], ◌∷◌, ◌++◌, Option, None, Some, refl, sym, ap, ◌∙◌, subst}
 use Rattle.std.specs.Prelude.{unwrap_or, if◌then◌else◌, option_and_then}
 use Rattle.std.specs.FinSet.{len}
@@ -27,7 +27,7 @@ use Rattle.core_laws.proofs.Collecting.Scan.{keep}
 use Rattle.core_laws.specs.Valid.{Agrees}
 use Rattle.memory_laws.proofs.Behind.Spaces.{AreBehind, all_behind, none_behind, scan_of}
 
--- The records lead on. Behind them objects that were current stand where they did, no others are there but such as remained, and the same writes
+-- The records can follow. After them objects that were current stand where they did, no others are there but such as remained, and the same writes
 -- may be taken back.
 pub record HavePassed (c : Core) (s : State) (records : List Record) : Type 0 where
   pub next : State

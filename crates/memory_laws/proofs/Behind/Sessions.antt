@@ -1,4 +1,4 @@
--- Memory behind records of a collection is that of the core behind them: transactions and locks stay as they are.
+-- Memory after records of a collection is that of the core after them: transactions and locks stay as they are.
 use Rattle.std.proofs.Common.{◌≡◌, inl, inr, ℕ, List, ◌++◌, Option, None, Some, refl, sym, ap, ◌∙◌, subst, append_assoc}
 use Rattle.std.specs.Prelude.{fold}
 use Rattle.std.specs.FinMap.{FinMap}
@@ -37,7 +37,7 @@ use Rattle.memory_laws.proofs.Kept.Locks.{as_held, of_held}
 use Rattle.memory_laws.proofs.Kept.Parts.{Works, disk_left, whole_of, works_of}
 use Rattle.memory_laws.proofs.Step.Appended.{collection_here, ground_in, own_kept, spaces_here}
 
--- the core behind records of a collection
+-- the core after records of a collection
 abbrev pub core_behind : Core → List Record → Core
 core_behind c records =
     let there = moved_by_all (placing c) records in
@@ -56,7 +56,7 @@ module _ (m : Memory) (c : Core) (valid : IsValid c) (is : Works m (account c.hi
   abbrev a : Account
   a = account c.history
 
-  -- the state behind all records, and that behind these
+  -- the state after all records, and that after these
   abbrev behind : State
   behind = valid.behind
 
@@ -141,7 +141,7 @@ module _ (m : Memory) (c : Core) (valid : IsValid c) (is : Works m (account c.hi
     sessions = sessions_behind;
   }
 
--- Memory in which records of a collection were carried out is that of the core behind them.
+-- Memory in which records of a collection were carried out is that of the core after them.
 pub carried_out : (m n : Memory) (c : Core) (valid : IsValid c) → IsMemory m (account c.history) c → (records : List Record) → HavePassed c valid.behind records
     → Leaves m n records m.table m.locks (spaces_behind m.spaces records) (collection_behind m.collection records) m.sealed → IsMemory n (account c.history) (moved c records)
 carried_out m n c valid is records passed left =

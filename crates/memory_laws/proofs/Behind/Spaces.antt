@@ -1,4 +1,4 @@
--- The spaces and the collection in memory behind records of a collection are those of the state behind them.
+-- The spaces and the collection in memory after records of a collection are those of the state after them.
 use Rattle.std.proofs.Common.{◌≡◌, ℕ, ◌+◌, ◌-◌, ◌≤◌, List, [], ◌∷◌, Option, None, Some, refl, ap, ◌∙◌, subst, arith}
 use Rattle.std.specs.List.{AllByRecursion}
 use Rattle.std.specs.FinSet.{len}
@@ -47,7 +47,7 @@ scan_of spaces k words page records planned =
 
 -- One record.
 
--- The spaces and the collection behind a record are those of a state.
+-- The spaces and the collection after a record are those of a state.
 pub record AreBehind (s n : State) (records : List Record) : Type 0 where
   pub spaces : spaces_behind (spaces_of s) records ≡ spaces_of n
   pub collection : collection_behind s.collection records ≡ n.collection

@@ -107,7 +107,7 @@ module _ (m : Memory) (c : Core) (valid : IsValid c) (is : IsMemory m (account c
   abbrev a : Account
   a = account c.history
 
-  -- the state behind all records
+  -- the state after all records
   abbrev s : State
   s = valid.behind
 
@@ -227,7 +227,7 @@ module _ (m : Memory) (c : Core) (valid : IsValid c) (is : IsMemory m (account c
   -- What it leaves.
 
   module _ (none : s.collection ≡ None) (room : HasRoom c (rec none ∷ []) a) where
-    -- the core behind the record
+    -- the core after the record
     abbrev d : Core
     d = record c { pending = c.pending ++ rec none ∷ []; places = currents none; remaining = rest none }
 

@@ -90,7 +90,7 @@ module _ (m : Memory) (c : Core) (valid : IsValid c) (is : Works m (account c.hi
   abbrev a : Account
   a = account c.history
 
-  -- the state behind all records
+  -- the state after all records
   abbrev behind : State
   behind = valid.behind
 

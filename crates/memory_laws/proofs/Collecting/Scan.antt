@@ -47,7 +47,7 @@ module _ (m : Memory) (c : Core) (valid : IsValid c) (is : IsMemory m (account c
   abbrev a : Account
   a = account c.history
 
-  -- the state behind all records
+  -- the state after all records
   abbrev behind : State
   behind = valid.behind
 
@@ -123,14 +123,14 @@ module _ (m : Memory) (c : Core) (valid : IsValid c) (is : IsMemory m (account c
 
   -- What it leaves.
 
-  -- none of its answers tells anything of transactions
+  -- none of its answers says anything about transactions
   adds : (o : Option Collection) (next : Option ℕ) → (let entry : Entry = record { event = Scan; reply = scan_reply_of m o next } in account_after a entry) ≡ record a { entries = a.entries + 1 }
   adds None next = refl
   adds (Some k) None = refl
   adds (Some k) (Some page) = refl
 
   module _ (n : Memory) (next : Option ℕ) (is_next : IsNextPage m.collection next) where
-    -- memory of the core behind the records is that of the core after a scan
+    -- memory of the core after the records is that of the core after a scan
     scan_goes : IsMemory n a (done c Scan) → Goes n c Scan
     scan_goes now =
         subst (λ (reply : Reply). let entry : Entry = record { event = Scan; reply = reply } in IsMemory n (account_after a entry) (done c Scan)) (sym (scan_answers next is_next))

@@ -1,4 +1,4 @@
--- What the table of locks in memory tells after an event is what the model says that transactions hold then.
+-- What the table of locks in memory says after an event is what the model says that transactions hold then.
 use Rattle.std.proofs.Common.{◌≡◌, ◌≢◌, inl, inr, ℕ, Bool, true, Option, Some, None, refl, sym, ap, ◌∙◌, subst, false, List}
 use Rattle.std.specs.Cmp.{Equal-is}
 use Rattle.std.specs.FinSet as set
@@ -140,7 +140,7 @@ held_still locks places g0 a b n lock adds apart all h = (
 held_without : (locks : Holdings) (n : ℕ) (h : Holding) → set.contains (without locks n) h ≡ (set.contains locks h && not (h.transaction == n))
 held_without locks n h = contains-retain locks (λ x. not (x.transaction == n)) h (λ x tie. ap (λ (y : Holding). not (y.transaction == n)) (sym (holding_exact h x tie)))
 
--- a transaction has let go of what it held, and what the others hold has the addresses that it had
+-- a transaction has released what it held, and what the others hold has the addresses that it had
 held_released : (locks : Holdings) (places later : Places) (g0 : Graph) (a b : Account) (n : ℕ) → Releases g0 a b n
     → ((m : ℕ) (id : Id) (mode : Mode) → m ≢ n → HoldsLock g0 a m id mode → address_of later id ≡ address_of places id) → AreHeld locks places g0 a → AreHeld (without locks n) later g0 b
 held_released locks places later g0 a b n releases same all h =
@@ -191,7 +191,7 @@ module _ (g0 : Graph) (history : List Entry) where
   abbrev a : Account
   a = account history
 
-  -- what a history says with one entry more
+  -- what a history says with one more entry
   abbrev next : Event → Reply → Account
   next event reply = account_after a (record { event = event; reply = reply })
 

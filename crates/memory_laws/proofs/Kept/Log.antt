@@ -40,7 +40,7 @@ need_all log bs p r rs keeps = need_plain (buffer_size log) (length (spellings (
 pub need_same : (log : Log) (bs : List (List Record)) (p : List Record) (r : Record) → Keeps log bs p → log_need log (length (spelling r)) ≡ need p (r ∷ [])
 need_same log bs p r keeps = need_plain (buffer_size log) (length (spelling r)) p r [] (buffer_size-Keeps log bs p keeps) (omega (arith, length-append (spelling r) []))
 
--- those that several take behind others
+-- those that several take after others
 pub length_spellings : (rs more : List Record) → length (spellings (rs ++ more)) ≡ length (spellings rs) + length (spellings more)
 length_spellings rs more = ap (λ (l : List ℕ). length l) (flat_map-append spelling rs more) ∙ length-append (spellings rs) (spellings more)
 
@@ -61,7 +61,7 @@ waits_plain : (n : ℕ) (p : List Record) → n ≡ 4 + length (spellings p) →
 waits_plain n [] e = (λ more none. omega (arith, e, ltb-true 4 n more), λ some. absurd (some refl))
 waits_plain n (r ∷ rs) e = (λ more none. cc, λ some. lt-ltb 4 n (omega (arith, e, some_spellings r rs)))
 
--- whether records wait
+-- whether records are pending
 pub some_waits : (log : Log) (bs : List (List Record)) (p : List Record) → Keeps log bs p → IsTrue (is_waiting log) ↔ (p ≢ [])
 some_waits log bs p keeps = waits_plain (buffer_size log) p (buffer_size-Keeps log bs p keeps)
 

@@ -1,4 +1,4 @@
--- The LSNs of pages in memory behind more records.
+-- The LSNs of pages in memory after more records.
 use Rattle.std.proofs.Common.{◌≡◌, ℕ, ◌+◌, ◌<◌, max, cond, List, [], ◌∷◌, ◌++◌, length, get_or, sym, ap, ◌∙◌, arith, length-append, append_assoc}
 use Rattle.log_records.specs.declared.Record.{Record}
 use Rattle.gated_log.specs.Log.{records_of}
@@ -12,7 +12,7 @@ use Rattle.heap_memory.specs.Memory.{Memory}
 use Rattle.heap_memory.specs.Leaves.{pages_of}
 use Rattle.memory_laws.specs.CoreMemory.{IsMemory}
 
--- the last of these records, and of more behind them, that touches a page
+-- the last of these records, and of more after them, that touches a page
 pub last_lsn-append : (p lsn : ℕ) (rs ss : List Record) → last_lsn p lsn (rs ++ ss) ≡ max (last_lsn p lsn rs) (last_lsn p (lsn + length rs) ss)
 last_lsn-append p lsn [] ss = let here : lsn ≡ lsn + 0 = omega arith in ap (λ (n : ℕ). last_lsn p n ss) here ∙ omega arith
 last_lsn-append p lsn (r ∷ rs) ss =

@@ -58,7 +58,7 @@ pub turns_of : {old new : Memory} {records : List Record} {transactions : TableS
     → Leaves old new records transactions held current runs count → Turns old new records transactions held current runs count
 turns_of left = record { words = left.words; table = left.table; locks = left.locks; spaces = left.spaces; collection = left.collection; sealed = left.sealed }
 
--- records more wait, whichever objects stand where then
+-- more records are pending, whichever objects stand where then
 pub disk_left : (m n : Memory) (a : Account) (c : Core) (more : List Record) (places remaining : Places) {table : TableState} {locks : Holdings} {current : SpacesState} {runs : Option Collection} {count : ℕ}
     → IsMemory m a c → Leaves m n more table locks current runs count → HasDisk n (record c { pending = c.pending ++ more; places = places; remaining = remaining })
 disk_left m n a c more places remaining is left = record {

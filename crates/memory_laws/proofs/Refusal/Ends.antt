@@ -54,7 +54,7 @@ module _ (m : Memory) (c : Core) (valid : IsValid c) (runs : RunsLocked c.g0 c.f
   a = account c.history
 
   -- A begin.
-  -- the bytes of one transaction more are kept behind it
+  -- the bytes of one more transaction are kept after it
   begin_kept : IsSession s → a.active s ≡ None → reserved_after c (Begin s) ≡ memory.reserved m.table + end_bytes 0
   begin_kept session none =
       let n = next_number c in
@@ -102,7 +102,7 @@ module _ (m : Memory) (c : Core) (valid : IsValid c) (runs : RunsLocked c.g0 c.f
       ∙ ap (λ (o : Option TransactionState). cond (is_some o) (Some AlreadyActive) (cond spent (Some NumbersSpent) full)) (sym (is.sessions.transactions s))
       ∙ ap (λ (n : ℕ). cond (is_some (own m s)) (Some AlreadyActive) (cond (n == no_number) (Some NumbersSpent) full)) (sym is.sessions.next)
 
-  -- why the end of a transaction is refused, for what it asks, for its words or for the log
+  -- why the end of a transaction is refused, for what it asks for, for its words or for the log
   abbrev end_asked : Option Transaction → Event → Option Refusal → Option Refusal
   end_asked o event log = first_of_two (first_of_two (call_refusal c.g0 a o event) (call_conflict c.g0 a o event)) (first_of_two (room_refusal (ground c) c.g0 a o event) log)
 
@@ -120,14 +120,14 @@ module _ (m : Memory) (c : Core) (valid : IsValid c) (runs : RunsLocked c.g0 c.f
   abbrev transaction : Transaction → TransactionState
   transaction t = kept c.places (view c.g0 a t) t.number (undo_with (ground c).state t.number)
 
-  -- the records of its seal, as memory tells them
+  -- the records of its seal, as memory gives them
   abbrev sealing : Transaction → List Record
   sealing t = sealing_records m (transaction t)
 
   next_free : next_word (ground c).state ≡ m.spaces.base + m.spaces.used
   next_free = ap next_word is.sessions.reached ∙ ap (λ (x : SpacesState). x.base + x.used) (sym is.sessions.spaces)
 
-  -- its records are those that memory tells
+  -- its records are those that memory gives
   seal_records_same : (t : Transaction) → a.active s ≡ Some t → event_records c (Seal s) ≡ sealing t
   seal_records_same t e =
       let area = area_in c.places (view c.g0 a t) t.number in

@@ -38,7 +38,7 @@ use Rattle.memory_laws.proofs.Refusal.LogRoom.{scan_room}
 use Rattle.memory_laws.proofs.Refusal.Room as room
 use Rattle.memory_laws.proofs.Refusal.Room.{call_keeps, first_none, first_if, old_refused, quiet_refused, first_assoc}
 
--- what is asked of what one handle holds, or two
+-- what is required of what one handle holds, or two
 one_held : (f : Id → Place) (o : Option Id) → plain.len_refusal o ≡ and_then (held_or (option_map f o)) (λ p. None)
 one_held f None = refl
 one_held f (Some id) = refl
@@ -48,7 +48,7 @@ two_held f None p = refl
 two_held f (Some id) None = refl
 two_held f (Some id) (Some other) = refl
 
--- records behind which there are no more
+-- records after which there are no more
 append-nil_left : (rs more : List Record) → more ≡ [] → rs ++ more ≡ rs
 append-nil_left rs more none = ap (λ (l : List Record). rs ++ l) none ∙ append-nil rs
 
@@ -105,7 +105,7 @@ module _ (m : Memory) (c : Core) (valid : IsValid c) (runs : RunsLocked c.g0 c.f
       ∙ one_held (place_in c.places (view c.g0 a t).graph) (held (view c.g0 a t).registers h)
       ∙ ap (λ (r : Result Place Refusal). and_then r (λ p. None)) (is_held t h)
 
-  -- to tell an object's length
+  -- to return an object's length
   pub len_refused : (h : ℕ) → core_refusal c (Len s h) ≡ len_refusal m s h
   len_refused h = quiet_refused c (Len s h) valid tt refl refl refl ∙ len_cases (a.active s) h ∙ ap (λ (o : Option TransactionState). and_then (held_place o h) (λ p. None)) (sym (is.sessions.transactions s))
 
@@ -142,7 +142,7 @@ module _ (m : Memory) (c : Core) (valid : IsValid c) (runs : RunsLocked c.g0 c.f
       ap (λ (o : Option Id). busy_with (busy_holder c.g0 a t.number (option_map (in_mode (mode_of mode)) o))) holds
       ∙ sym (lock_same m c valid runs works s t e id mode (undo_with (ground c).state t.number) (held_there t h id e holds))
 
-  -- why a core refuses a get, for what it asks, for what others hold, or for the log
+  -- why a core refuses a get, for what it asks for, for what others hold, or for the log
   abbrev read_asked : Option Transaction → Event → Option Refusal
   read_asked o event = first_of_two (asked o event) (log_refusal c event)
 

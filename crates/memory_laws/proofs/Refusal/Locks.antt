@@ -1,4 +1,4 @@
--- Memory tells who stands in the way of a lock as the model does.
+-- Memory says which transactions hold a conflicting lock as the model does.
 use Rattle.std.proofs.Common.{◌≡◌, inl, inr, ℕ, Bool, true, false, Option, Some, None, refl, sym, ap, ◌∙◌, subst, List}
 use Rattle.std.specs.Prelude.{◌&&◌, not, ◌==◌}
 use Rattle.std.proofs.lemmas.Bool.{and_parts, and_from, eqb-true, eqb-false, ne_eqb, eq-eqb, not-true, not_from_false}
@@ -58,7 +58,7 @@ record IsLockTable (locks : Holdings) (places : Places) (g0 : Graph) (a : Accoun
   within : AreInSessions a
 
 module _ (locks : Holdings) (places : Places) (g0 : Graph) (a : Account) (all : IsLockTable locks places g0 a) (n : ℕ) (id : Id) (at : ℕ) (mode : table.Mode) (place : address_of places id ≡ Some at) where
-  -- who stands in the way in the model does so in the table
+  -- a transaction with a conflicting lock in the model has one in the table
   told_busy : (other : ℕ) → IsInTheWay g0 a n (lock_in mode id) other → IsInConflict locks (asked n mode at) other
   told_busy other way =
       let h = asked other (mode_in way.mode) at in
@@ -88,7 +88,7 @@ module _ (locks : Holdings) (places : Places) (g0 : Graph) (a : Account) (all : 
         conflicts = sym (conflict_same h.mode mode) ∙ parts.1;
       }
 
-  -- where the model finds none in the way, the table has none
+  -- where the model finds no conflicting lock, the table has none
   free_told : IsFree g0 a n (Some (lock_in mode id)) → holdings.MayHold locks (asked n mode at)
   free_told free h there = none (conflicts h (asked n mode at)) refl where
     none : (b : Bool) → conflicts h (asked n mode at) ≡ b → b ≡ false
@@ -102,7 +102,7 @@ module _ (locks : Holdings) (places : Places) (g0 : Graph) (a : Account) (all : 
     least = λ other way. busy.least other (busy_told other way);
   }
 
-  -- the holder that is told is the same
+  -- the holder that is reported is the same
   holder_same : holder_of locks (asked n mode at) ≡ busy_holder g0 a n (Some (lock_in mode id))
   holder_same = by_holder (busy_holder g0 a n (Some (lock_in mode id))) refl where
     by_holder : (o : Option ℕ) → busy_holder g0 a n (Some (lock_in mode id)) ≡ o → holder_of locks (asked n mode at) ≡ o
@@ -146,7 +146,7 @@ module _ (m : Memory) (c : Core) (valid : IsValid c) (runs : RunsLocked c.g0 c.f
       ap (lock_refusal m.locks x mode) (place_in-apart c.places v.graph id (own_apart (writing_of a c s t active valid).made own))
       ∙ ap busy_with (sym (free_found c.g0 a t.number (Some lock) (made_is_free c.g0 c.history runs.plain runs.two_phase s t lock active own.maker)))
 
-  -- where memory refuses none, no other transaction is in the way
+  -- where memory refuses none, no other transaction has a conflicting lock
   pub lock_free : (id : Id) (mode : table.Mode) (undo : List UndoEntry) → IsAtHand c.places t.number v.made id
       → lock_refusal m.locks (kept c.places v t.number undo) mode (place_in c.places v.graph id) ≡ None → IsFree c.g0 a t.number (Some (lock_in mode id))
   lock_free id mode undo at_hand none =

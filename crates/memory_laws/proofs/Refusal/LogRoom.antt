@@ -65,7 +65,7 @@ kept_end c a (Some t) = refl
 pub reserved_kept : (m : Memory) (c : Core) (a : Account) → IsMemory m a c → memory.reserved m.table ≡ reserved (undo_behind c (all_records c)) a
 reserved_kept m c a is = ap (λ (f : ℕ → ℕ). sum_by f sessions) (λ i s. (ap kept_for_end (is.sessions.transactions s) ∙ kept_end c a (a.active s)) i)
 
--- where the state behind all records is known
+-- where the state after all records is known
 pub reserved_now : (m : Memory) (c : Core) (valid : IsValid c) → IsMemory m (account c.history) c → memory.reserved m.table ≡ reserved (undo_of valid.behind) (account c.history)
 reserved_now m c valid is =
     let a = account c.history in
@@ -82,7 +82,7 @@ apart_records places t v hd i x id holds none =
     ap (λ (o : Option Id). write_records (place_of places v.graph) t v.graph o i x) holds
     ∙ ap (λ w. update (place_of places v.graph) t w (fields v.graph id) i x) (place_of-apart places v.graph id none)
 
--- What an event appends of its own, by the core behind its barrier.
+-- What an event appends of its own, by the core after its barrier.
 pub own_behind : (c : Core) (event : Event) → own_records c event ≡ own_at (core_behind c (barrier_records c event)) event
 own_behind c event = ap (λ (b : Core). records_for (ground b) c.g0 (account c.history) event) (moved_is c (barrier_records c event))
 
@@ -91,11 +91,11 @@ module _ (m : Memory) (c : Core) (valid : IsValid c) (is : IsMemory m (account c
   abbrev a : Account
   a = account c.history
 
-  -- the state behind all records
+  -- the state after all records
   abbrev behind : State
   behind = valid.behind
 
-  -- the log has a core's room for these records, where so many bytes are kept behind them
+  -- the log has a core's room for these records, where `kept` bytes are kept after them
   pub full_for : (event : Event) (need_bytes kept : ℕ) → need c.pending (event_records c event) ≡ need_bytes → reserved_after c event ≡ kept → log_refusal c event ≡ no_room m.log need_bytes kept
   full_for event need_bytes kept needs keeps =
       full_same c.room (log_room m.log) (used c) (log_used m.log) (need c.pending (event_records c event)) need_bytes (reserved_after c event) kept
@@ -205,7 +205,7 @@ module _ (m : Memory) (c : Core) (valid : IsValid c) (is : IsMemory m (account c
           after_all-append behind next records rec passed.passes
           ∙ after-Update next t.number at i entry.was (bits_of (place_of d.places v.graph) x) (numbered_as a c s t active valid) (inside_from next entry lies)
 
-      -- the bytes of one write more are kept
+      -- the bytes of one more write are kept
       more_kept : reserved (undo_of behind) a + 19 ≡ reserved (undo_of (written next t.number entry)) a
       more_kept =
           let o = two_phase_ordered c.g0 c.history runs.plain runs.two_phase in

@@ -65,7 +65,7 @@ words_quiet g g0 a (Some t) Flip is old = refl
 words_quiet g g0 a (Some t) Scan is old = refl
 words_quiet g g0 a (Some t) (Flush p) is old = refl
 
--- what is kept for the ends of transactions is kept when the history tells an event too
+-- as much is kept for the ends of transactions once the history has an event
 abbrev pub KeepsReserve : Core → Event → Type 0
 KeepsReserve c event =
     let entry : Entry = record { event = event; reply = granted (next_number c) c.g0 (account c.history) event } in

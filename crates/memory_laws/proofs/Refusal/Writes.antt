@@ -54,11 +54,11 @@ module _ (m : Memory) (c : Core) (valid : IsValid c) (runs : RunsLocked c.g0 c.f
   abbrev writes : Option Transaction → Place → ℕ → Option Refusal
   writes o p i = write_refusal_of m (kept_of (ground c) c.g0 a o) p i
 
-  -- why a core refuses a write of a transaction, for what it asks, for what others hold, or for the log
+  -- why a core refuses a write of a transaction, for what it asks for, for what others hold, or for the log
   abbrev refused : Option Transaction → Event → Option Refusal
   refused o event = first_of_two (first_of_two (call_refusal c.g0 a o event) (call_conflict c.g0 a o event)) (log_refusal c event)
 
-  -- the core behind an event's barrier
+  -- the core after an event's barrier
   abbrev behind : Event → Core
   behind event = core_behind c (barrier_records c event)
 

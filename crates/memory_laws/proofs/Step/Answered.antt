@@ -19,7 +19,7 @@ use Rattle.memory_laws.proofs.Kept.Locks.{held_alike}
 use Rattle.memory_laws.proofs.Kept.Log.{keeps_same}
 use Rattle.memory_laws.proofs.Kept.Same.{same_pages, same_sessions}
 
--- Another history, and one entry more, change nothing of memory.
+-- Another history, and one more entry, change nothing of memory.
 
 memory_with : (m : Memory) (a : Account) (c : Core) (event : Event) (reply : Reply) → IsMemory m a c → IsMemory m a (with_entry c event reply)
 memory_with m a c event reply h = record {
@@ -66,7 +66,7 @@ memory_refused m a c event why sound h =
     let P : Account → Type 0 = λ b. IsMemory m b c in
     subst P (sym (account_after-refused a event why sound)) (memory_told m a c a.acknowledged (a.entries + 1) h)
 
--- Memory is that of a core which has done an event, where its history does not tell it yet.
+-- Memory is that of a core which has done an event that its history does not have yet.
 abbrev pub Goes : Memory → Core → Event → Type 0
 Goes n c event = IsMemory n (account_after (account c.history) (record { event = event; reply = granted_by c event })) (done c event)
 

@@ -36,7 +36,7 @@ use Rattle.memory_laws.proofs.Kept.Parts.{HasDisk, Works, Turns, works_of, whole
 pub some_one : {A : Type 0} (x y : A) → Some x ≡ Some y → x ≡ y
 some_one x y e = cc e
 
--- An event on a core that has the event's barrier behind it, or no barrier.
+-- An event on a core after the event's barrier, or with no barrier.
 
 -- what it appends
 abbrev pub own_at : Core → Event → List Record
@@ -69,7 +69,7 @@ call_done c event more is records =
 abbrev pub ground_in : Core → Places → State → Ground
 ground_in c places state = record { places = places; remaining = c.remaining; words = all_words c; state = Some state }
 
--- what is kept of a transaction that has made one call more
+-- what is kept of a transaction that has made one more call
 kept_call : (g : Ground) (g0 : Graph) (a : Account) (o : Option Transaction) (t : Transaction) (event : Event) → o ≡ Some t
     → kept_of g g0 a (with_call o event) ≡ Some (kept g.places (call (view g0 a t) t.number event).view t.number (undo_with g.state t.number))
 kept_call g g0 a o t event e =
@@ -87,7 +87,7 @@ module _ (m n : Memory) (c : Core) (valid : IsValid c) (is : Works m (account c.
   abbrev a : Account
   a = account c.history
 
-  -- the state behind all records
+  -- the state after all records
   abbrev behind : State
   behind = valid.behind
 
@@ -111,7 +111,7 @@ module _ (m n : Memory) (c : Core) (valid : IsValid c) (is : Works m (account c.
   pub mine : (s : ℕ) (x : TransactionState) → own m s ≡ Some x → (t : Transaction) × (a.active s ≡ Some t) × (x ≡ kept c.places (view c.g0 a t) t.number (undo_of behind t.number))
   mine s x e = has_kept (ground_in c c.places behind) c.g0 a (a.active s) x (sym (own_kept s) ∙ e)
 
-  -- records more wait, and these objects stand in the current space then
+  -- more records are pending, and these objects stand in the current space then
   pub appended : (b : Account) (more : List Record) (places : Places) (table : TableState) (locks : Holdings) (current : SpacesState) (runs : Option Collection) (count : ℕ) (later : State)
       → Turns m n more table locks current runs count → state_behind c (all_records c ++ more) ≡ Some later → current ≡ spaces_of later → runs ≡ later.collection
       → ((r : ℕ) → transaction_of table r ≡ kept_of (ground_in c places later) c.g0 b (b.active r)) → AreHeld locks places c.g0 b
@@ -131,7 +131,7 @@ module _ (m n : Memory) (c : Core) (valid : IsValid c) (is : Works m (account c.
         sealed = left.sealed ∙ sealed;
       }
 
-  -- records more wait, and the same objects stand there
+  -- more records are pending, and the same objects stand there
   pub appended_here : (b : Account) (more : List Record) (table : TableState) (locks : Holdings) (count : ℕ) (later : State) → Turns m n more table locks m.spaces m.collection count
       → state_behind c (all_records c ++ more) ≡ Some later → spaces_of behind ≡ spaces_of later → behind.collection ≡ later.collection
       → ((r : ℕ) → transaction_of table r ≡ kept_of (ground_in c c.places later) c.g0 b (b.active r)) → AreHeld locks c.places c.g0 b
@@ -154,7 +154,7 @@ module _ (m n : Memory) (c : Core) (valid : IsValid c) (is : Works m (account c.
       → (r : ℕ) → r ≢ s → transaction_of table r ≡ kept_of (ground_in c c.places later) c.g0 a (a.active r)
   others_kept s table later beside same r other = beside r other ∙ own_kept r ∙ kept_beside later (a.active r) (λ u also. same r u other also)
 
-  -- no record more waits
+  -- no further record is pending
   pub reached_still : state_behind c (all_records c ++ []) ≡ Some behind
   reached_still = ap (state_behind c) (append-nil (all_records c)) ∙ valid.told.reached
 
@@ -219,7 +219,7 @@ module _ (m n : Memory) (c : Core) (valid : IsValid c) (is : IsMemory m (account
   pub stays : n ≡ m → IsMemory n (account c.history) c
   stays same = let P : Memory → Type 0 = λ x. IsMemory x (account c.history) c in subst P (sym same) is
 
-  -- memory in which so many records more wait has of the disk what the core has behind the event
+  -- memory in which these further records are pending has of the disk what the core has after the event
   left_disk : (event : Event) (more : List Record) {table : TableState} {locks : Holdings} {current : SpacesState} {runs : Option Collection} {count : ℕ}
       → Leaves m n more table locks current runs count → own_at c event ≡ more → HasDisk n (own_done c event)
   left_disk event more left records =

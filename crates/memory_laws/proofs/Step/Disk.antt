@@ -27,11 +27,11 @@ pub record HasSameWork (old new : Memory) : Type 0 where
   pub collection : new.collection ≡ old.collection
   pub sealed : new.sealed ≡ old.sealed
 
--- batches with all that waits have all records
+-- batches with all pending records have all records
 pub records_forced : (bs : List (List Record)) (p : List Record) → records_of (with_batch bs p) ++ [] ≡ records_of bs ++ p
 records_forced bs p = append-nil (records_of (with_batch bs p)) ∙ records_of-with_batch bs p
 
--- what waited is on the disk
+-- what was pending is on the disk
 pub forced_memory : (m n : Memory) (a : Account) (c : Core) → IsMemory m a c → Keeps n.log (with_batch c.batches c.pending) [] → log_place n.log ≡ log_place m.log → log_room n.log ≡ log_room m.log
     → HasSameWork m n → n.store ≡ m.store → IsMemory n a (forced c c.pending)
 forced_memory m n a c is keeps at room same store =

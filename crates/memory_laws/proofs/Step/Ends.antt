@@ -55,7 +55,7 @@ module _ (m n : Memory) (c : Core) (valid : IsValid c) (runs : RunsLocked c.g0 c
   abbrev a : Account
   a = account c.history
 
-  -- the state behind all records
+  -- the state after all records
   abbrev behind : State
   behind = valid.behind
 
@@ -111,7 +111,7 @@ module _ (m n : Memory) (c : Core) (valid : IsValid c) (runs : RunsLocked c.g0 c
   abbrev aborted : Account
   aborted = account_after a (record { event = Abort s; reply = Aborted })
 
-  -- the state behind the records that take a transaction back
+  -- the state after the records that take a transaction back
   abbrev ended : ℕ → State
   ended t = turned behind t (with_entries behind.undo t []) 0
 

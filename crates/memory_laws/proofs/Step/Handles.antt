@@ -47,7 +47,7 @@ module _ (m n : Memory) (c : Core) (valid : IsValid c) (is : IsMemory m (account
   abbrev a : Account
   a = account c.history
 
-  -- the state behind all records
+  -- the state after all records
   abbrev behind : State
   behind = valid.behind
 

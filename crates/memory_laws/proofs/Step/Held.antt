@@ -73,7 +73,7 @@ pub test_none : (b : Bool) (why : Refusal) (o : Option Refusal) → cond b (Some
 test_none true why o e = cc e
 test_none false why o e = (refl, e)
 
--- a field that isn't refused is one of so many
+-- a field that isn't refused is one of `count`
 pub below_count : (count i : ℕ) → field_refusal count i ≡ None → i < count
 below_count count i e = leb-false count i (test_none (nat_le count i) BadField None e).0
 
@@ -82,7 +82,7 @@ module _ (m : Memory) (c : Core) (valid : IsValid c) (runs : RunsLocked c.g0 c.f
   abbrev a : Account
   a = account c.history
 
-  -- the state behind all records
+  -- the state after all records
   abbrev behind : State
   behind = valid.behind
 

@@ -59,14 +59,14 @@ new_handles : (places : Places) (g : Graph) (t made len : ℕ) (rs : Registers) 
     → map (option_map (place_in places (with_new g t made len))) rs ≡ map (option_map (place_in places g)) rs
 new_handles places g t made len rs all = handles_same places t made (place_in places (with_new g t made len)) (place_in places g) (new_place_in places g t made len) rs all
 
--- the new object stands behind the words of the area
+-- the new object stands after the words of the area
 new_stands_in : (places : Places) (g : Graph) (t made len : ℕ) → HasMade places g t made
     → place_in places (with_new g t made len) (made_by t (made + 1)) ≡ Volatile (length (area_words (place_of places g) g t made))
 new_stands_in places g t made len has =
     place_in-apart places (with_new g t made len) (made_by t (made + 1)) (has.apart (made + 1))
     ∙ ap Volatile (new_index g t made len ∙ sym (length-area_words (place_of places g) g t made))
 
--- what is kept of a transaction that has made one object more
+-- what is kept of a transaction that has made one more object
 kept_made : (places : Places) (v : View) (t : ℕ) (undo : List UndoEntry) (h len : ℕ) → HasMade places v.graph t v.made → HoldAllAtHand places t v.made v.registers
     → kept places (make v t h len).view t undo ≡ with_made (kept places v t undo) h len
 kept_made places v t undo h len has all =
@@ -86,7 +86,7 @@ module _ (m n : Memory) (c : Core) (valid : IsValid c) (is : IsMemory m (account
   abbrev a : Account
   a = account c.history
 
-  -- the state behind all records
+  -- the state after all records
   abbrev behind : State
   behind = valid.behind
 

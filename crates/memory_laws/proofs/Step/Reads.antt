@@ -123,7 +123,7 @@ module _ (m n : Memory) (c : Core) (valid : IsValid c) (runs : RunsLocked c.g0 c
     abbrev v : View
     v = view c.g0 a t
 
-    -- the records of the scan before it, and the core behind them
+    -- the records of the scan before it, and the core after them
     abbrev records : List Record
     records = barrier_records c event
 

@@ -90,7 +90,7 @@ module _ (m : Memory) (c : Core) (valid : IsValid c) (runs : RunsLocked c.g0 c.f
       (own_is m c valid runs works s t e) (λ r other. refl) refl (reached_still m m c valid works) refl refl (λ r u other also. refl)
       (ap (λ (w : View). kept c.places w t.number undo) (sym (sees v t.number))) (no_lock m m c valid works s t event e (free v.registers)))
 
-  -- What a comparison finds that isn't refused.
+  -- What a comparison that isn't refused finds.
   record AreCompared (h h2 : ℕ) : Type 0 where
     t : Transaction
     active : b.active s ≡ Some t

@@ -60,7 +60,7 @@ module _ (c : Core) (valid : IsValid c) (runs : RunsLocked c.g0 c.first c.histor
   abbrev a : Account
   a = account c.history
 
-  -- the state behind all records
+  -- the state after all records
   abbrev behind : State
   behind = valid.behind
 
@@ -84,7 +84,7 @@ module _ (c : Core) (valid : IsValid c) (runs : RunsLocked c.g0 c.first c.histor
   abbrev area : AreaState
   area = area_in c.places v t.number
 
-  -- the state behind the seal
+  -- the state after the seal
   abbrev last : State
   last = seal.last a c valid order s t e
 
@@ -111,7 +111,7 @@ module _ (c : Core) (valid : IsValid c) (runs : RunsLocked c.g0 c.first c.histor
   appends : event_records c (Seal s) ≡ seal_of (ground c) t.number v
   appends = ap (λ (o : Option Transaction). call_records (ground c) c.g0 a o (Seal s)) e
 
-  -- all records lead to the state behind it
+  -- all records lead to the state after it
   seal_reaches : state_behind c (all_records c ++ event_records c (Seal s)) ≡ Some last
   seal_reaches = ap (λ (rs : List Record). state_behind c (all_records c ++ rs)) (appends ∙ seal.seal_is a c valid order s t e) ∙ reached a c valid order s t e space
 

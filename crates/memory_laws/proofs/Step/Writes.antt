@@ -75,7 +75,7 @@ module _ (m n : Memory) (c : Core) (valid : IsValid c) (runs : RunsLocked c.g0 c
   works : Works m a c
   works = works_of m a c is
 
-  -- the core behind the barrier of an event
+  -- the core after the barrier of an event
   abbrev behind : Event → Core
   behind event = core_behind c (barrier_records c event)
 
@@ -114,7 +114,7 @@ module _ (m n : Memory) (c : Core) (valid : IsValid c) (runs : RunsLocked c.g0 c
       abbrev y : TransactionState
       y = writes.transaction
 
-      -- what the event itself appends, as memory tells it
+      -- what the event itself appends, as memory gives it
       abbrev own_part : List Record
       own_part = memory.write_records (mid event).words y p i k
 

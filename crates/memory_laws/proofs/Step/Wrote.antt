@@ -1,4 +1,4 @@
--- What a write of a transaction leaves of the sessions, on a core that has the write's barrier behind it.
+-- What a write of a transaction leaves of the sessions, on a core after the write's barrier.
 use Rattle.std.proofs.Common.{◌≡◌, inl, inr, ℕ, ◌+◌, ◌<◌, List, [], ◌∷◌, length, Option, Some, refl, sym, ap, ◌∙◌, subst}
 use Rattle.graph_model.specs.declared.id.Id.{Id}
 use Rattle.graph_model.specs.declared.val.Val.{Val}
@@ -52,7 +52,7 @@ module _ (m n : Memory) (c : Core) (valid : IsValid c) (runs : RunsLocked c.g0 c
   abbrev a : Account
   a = account c.history
 
-  -- the state behind all records
+  -- the state after all records
   abbrev behind : State
   behind = valid.behind
 
@@ -136,11 +136,11 @@ module _ (m n : Memory) (c : Core) (valid : IsValid c) (runs : RunsLocked c.g0 c
     abbrev entry : ℕ → UndoEntry
     entry at = entry_of c.places v.graph id at i
 
-    -- the state behind it
+    -- the state after it
     abbrev later : ℕ → State
     later at = written behind t.number (entry at)
 
-    -- it is one that the records can tell
+    -- it is one that the records can encode
     write_at : (at : ℕ) → address_of c.places id ≡ Some at
         → IsWriteAt c.pages c.first_number c.born c.places c.remaining (serial c.g0 a.sealed) v (c.before + length a.sealed) t.number (locks_of (serial c.g0 a.sealed) t) (all_records c) now behind id at i x
     write_at at place = writes_at a c valid (two_phase_ordered c.g0 c.history runs.plain runs.two_phase) s t write.active id at i x place write.within write.seen write.free (write.black at place i)

@@ -1,4 +1,4 @@
--- One entry more is translated.
+-- One more entry is translated.
 use Rattle.std.proofs.Common.{◌≡◌, ◌++◌, map, take, drop, get_or, set, sym, ap, ◌∙◌, add-one, refl}
 use Rattle.log_machine.specs.declared.UndoEntry.{UndoEntry}
 use Rattle.log_machine.specs.Translation.{translated_entry}

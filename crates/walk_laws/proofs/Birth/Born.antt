@@ -105,7 +105,7 @@ named_births ps words own names a b has has' same =
     let equal : one.0 ≡ other.0 = sym (births_name ps words names one.0 a one.1) ∙ ap id_of same ∙ births_name ps words names other.0 b other.1 in
     same_Some a b (sym one.1 ∙ ap (address_of ps) equal ∙ other.1)
 
--- The births of the objects of both spaces, told by their places.
+-- The births of the objects of both spaces, as their places give them.
 record HaveBirths (s : State) (k : Collection) (next : ℕ) (places remaining : Places) (words : List ℕ) : Type 0 where
   pub own : HaveOwnBirths words (addresses places ++ addresses remaining)
   pub here : AreBornBefore next words s.base (addresses places)
@@ -151,7 +151,7 @@ old_before {words = words} next is originals births at has true was (to, leads, 
     subst (λ (b : ℕ). (b ≡ 0) ⊎ IsBornBefore next b) kept (base_or_before next is births.here to current)
 old_before next is originals births at has false unmoved stands = births.left at (unmoved_left is.from at has unmoved)
 
--- told of the same lists by other names
+-- stated of the same lists by other names
 born_in_both : {s : State} {k : Collection} {places remaining : Places} {words : List ℕ} (next : ℕ) (is : IsCollecting s k places remaining words) → AreOriginals k words is.from.starts
     → HaveBirths s k next places remaining words → (walked : IsCollectionWalked words s.base s.used (emptied s k)) → addresses places ≡ walked.starts → is.from.starts ≡ walked.olds
     → AreBornInBoth next words s.base s.used (emptied s k) walked

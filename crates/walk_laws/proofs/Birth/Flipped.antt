@@ -1,4 +1,4 @@
--- A flip leaves words that tell births.
+-- A flip leaves words that give births.
 use Rattle.std.proofs.Common.{◌≡◌, ◌⊎◌, ℕ, ◌+◌, ◌<◌, ◌≤◌, inl, inr, List, [], ◌∷◌, ◌++◌, Some, refl, sym, ap, ◌∙◌, subst, arith}
 use Rattle.std.specs.Prelude.{Contains, not, slice_index}
 use Rattle.std.specs.FinSet.{contains}
@@ -126,7 +126,7 @@ flip_originals {s} {n} {k} {places} {chosen} {remaining} {words} flip begun amon
       },
     )
 
--- A flip leaves words that tell births.
+-- A flip leaves words that give births.
 pub flip_births : {s n : State} {k : Collection} {places chosen remaining : Places} {words : List ℕ} → IsFlipping s places chosen remaining words → HasBegun s n k places chosen remaining words
     → AreAmong k.moved (addresses places) → HaveOwnNames places → AreNamedByBirth places words → AreNamedByBirth (chosen ++ remaining) words
     → TellsBirths n (places_from words chosen (other_base s)) remaining (flipped_words s words (addresses chosen))

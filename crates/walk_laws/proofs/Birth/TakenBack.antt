@@ -1,4 +1,4 @@
--- Births behind writes that are taken back.
+-- Births after writes that are taken back.
 use Rattle.std.proofs.Common.{◌≡◌, ℕ, ◌+◌, ◌<◌, ◌≤◌, inl, inr, Bool, true, false, List, [], ◌∷◌, ◌++◌, Option, None, Some, refl, sym, ap, ◌∙◌, subst, arith}
 use Rattle.std.specs.Prelude.{Contains, slice_index}
 use Rattle.std.specs.FinSet.{contains}
@@ -84,7 +84,7 @@ names_back s places remaining words us spaces laid backed (Some k) run names =
 here_among : (places remaining : Places) (at : ℕ) → Contains (addresses places) at → Contains (addresses (places ++ remaining)) at
 here_among places remaining at has = subst (λ (xs : List ℕ). Contains xs at) (sym (addresses-append places remaining)) (Contains-append_left (addresses places) (addresses remaining) at has)
 
--- an object there has as many fields behind a write
+-- an object there has as many fields after a write
 write_length : {s : State} {k : Collection} {places remaining : Places} {words : List ℕ} {object field word : ℕ} (is : IsCollecting s k places remaining words) → IsHereWrite places words object field word
     → (at : ℕ) → Contains is.from.starts at → (moved : Bool) → contains k.moved at ≡ moved → StandsOrForwards words (addresses places) at moved → old_length (with_word words object field word) at ≡ old_length words at
 write_length {places = places} {remaining = remaining} {words = words} {object} {field} {word} is write at has true was (to, leads, current) =
@@ -116,7 +116,7 @@ forward_one words starts at to true leads (other, is, has) = let same : other �
     one equal = cc
 forward_one words starts at to false leads (n, stands) = let clash = sym leads ∙ (object_header words at n stands).0 in cc
 
--- the from-space still tells all births
+-- the from-space still gives all births
 originals_back : (s : State) (places remaining : Places) (words : List ℕ) (us : List UndoEntry) → AreSpaces s words → IsLaidOut s places remaining words → AreBacked places words us → (o : Option Collection) → s.collection ≡ o
     → HasOriginals s words o → HasOriginals s (taken_back us words) o
 originals_back s places remaining words us spaces laid backed None none has = tt
@@ -138,7 +138,7 @@ originals_back s places remaining words us spaces laid backed (Some k) run (olds
       },
     )
 
--- Births are told behind the writes.
+-- Births are known after the writes.
 pub births_back : (s : State) (places remaining : Places) (words : List ℕ) (us : List UndoEntry) → AreSpaces s words → IsLaidOut s places remaining words → AreBacked places words us
     → TellsBirths s places remaining words → TellsBirths s places remaining (taken_back us words)
 births_back s places remaining words us spaces laid backed tells = record {

@@ -35,7 +35,7 @@ distance_here s at b is = ap (distance s at) is
 distance_there : (s : State) (at : ℕ) (b : Bool) → b ≡ true → distance s at b ≡ space_words s.pages + (at - other_base s)
 distance_there s at b is = ap (distance s at) is
 
--- how far they stand tells two such addresses apart
+-- how far they stand distinguishes two such addresses
 distance_one : (s : State) → IsSpaced s → (a b : ℕ) → LiesInEither s a → LiesInEither s b → distance s a (in_other_space s a) ≡ distance s b (in_other_space s b) → a ≡ b
 distance_one s spaced a b (inl (low, high)) (inl (low', high')) same =
     let one = distance_here s a (in_other_space s a) (current_not_other s spaced a low high) in

@@ -56,7 +56,7 @@ laid_none s words name none walked =
       from = subst (λ o. MatchOption o (nothing ≡ nothing) (λ k. IsFromSpace s k (places_by name starts) nothing words)) (sym none) refl;
     }
 
--- the used words end within what a reference can tell
+-- the used words end within what a reference can reach
 used_top : {s : State} {words : List ℕ} → AreSpaces s words → s.base + s.used ≤ 2097152
 used_top {s} spaces = let room = spaced_more s (owed s) spaces.spaced spaces.spaced.room in let small = spaces.small in omega (arith, room, small)
 

@@ -1,4 +1,4 @@
--- A heap behind writes that are taken back.
+-- A heap after writes that are taken back.
 use Rattle.std.proofs.Common.{◌≡◌, ℕ, ◌+◌, List, [], ◌++◌, Option, None, Some, refl, sym, ◌∙◌, subst}
 use Rattle.std.specs.Prelude.{MatchOption}
 use Rattle.heap_spaces.specs.Collection.{Collection}
@@ -33,7 +33,7 @@ committed_laid s places words g none stands =
       from = subst (λ o. MatchOption o (nothing ≡ nothing) (λ k. IsFromSpace s k places nothing words)) (sym none) refl;
     }
 
--- A graph stands behind the writes that stood where they were taken back.
+-- A graph that stands where writes are taken back stands in the words after them.
 pub held_back : (s : State) (places remaining : Places) (words : List ℕ) (us : List UndoEntry) (g : Graph) → AreSpaces s words → IsLaidOut s places remaining words → AreBacked places words us
     → StandsCompleted 0 0 places remaining g us words s → (o : Option Collection) → s.collection ≡ o → HoldsGraph s places remaining (taken_back us words) g
 held_back s places remaining words us g spaces laid backed stands None none =

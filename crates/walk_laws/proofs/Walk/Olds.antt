@@ -50,7 +50,7 @@ chain_met words starts from at (a ∷ rest) (n, same, long, more) forwarded =
 
 -- As words that are laid out have them.
 
--- An object of the from-space is forwarded to a current one or stands, with so many fields.
+-- An object of the from-space is forwarded to a current one or stands, with `n` fields.
 pub record IsOldObject (words starts : List ℕ) (at : ℕ) (moved : Bool) (n : ℕ) : Type 0 where
   pub forwarded : StandsOrForwards words starts at moved
   pub long : old_length words at ≡ Some n

@@ -1,4 +1,4 @@
--- The objects are copied one after another, each behind the one before it.
+-- The objects are copied one after another, each to the words after the one before it.
 use Rattle.std.proofs.Common.{rules, ◌≡◌, ℕ, ◌+◌, List, length, get_or, Some, Err, take, refl, sym, ap, ◌∙◌, arith}
 use Rattle.log_records.specs.declared.copies.ObjectCopy.{ObjectCopy}
 use Rattle.object_layout.specs.Layout.{object_at}

@@ -7,7 +7,7 @@ use Rattle.flip_copy.specs.Copied.{copies_from}
 use Rattle.flip_copy.specs.Plan.{AreCopies, AreRootsIn}
 use Rattle.flip_copy.proofs.plan.copy_all.Given as goal
 
--- what is copied so far is the front of what is to be copied, whatever comes behind it
+-- what is copied so far is a prefix of what is to be copied, whatever follows it
 abbrev pub invariant-loop-at : goal.invariant-loop-at
 invariant-loop-at g l = record {
   read : IsRead g.W.Words.tells g.W.Words.extent g.W.Words.content g.W.Words.keeps g.W.Words.faults g.W.Words.stops l.initial.words l.words None;

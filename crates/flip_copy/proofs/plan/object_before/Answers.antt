@@ -1,4 +1,4 @@
--- An object of a front of the words is one of them, and has no more fields than an object has.
+-- An object of a prefix of the words is one of them, and has no more fields than an object may have.
 use Rattle.std.proofs.Common.{◌≡◌, sym, ◌∙◌, arith}
 use Rattle.std.proofs.lemmas.Option.{same_Some}
 use Rattle.object_layout.proofs.LayoutLaws.{object_small}

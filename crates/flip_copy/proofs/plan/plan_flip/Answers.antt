@@ -1,4 +1,4 @@
--- With the root object in front the roots are roots.
+-- With the root object put first the roots are roots.
 use Rattle.std.proofs.Common.{rules, ◌≡◌, List, ℕ, Err, sym, ap, ◌∙◌, subst}
 use Rattle.flip_copy.specs.declared.flip_error.FlipError.TheVariants.{NoObject}
 use Rattle.flip_copy.specs.Copied.{with_base}

@@ -1,4 +1,4 @@
--- One more word is read, and stands behind those that were.
+-- One more word is read, and follows those that were.
 use Rattle.std.proofs.Common.{◌≡◌, ℕ, List, ◌∙◌, ◌++◌, ◌∷◌, [], ◌≤◌, ◌<◌, ap, arith, get_or, length}
 use Rattle.object_layout.proofs.ReadLaws.{read_on}
 use Rattle.object_layout.proofs.Runs.{run_more}

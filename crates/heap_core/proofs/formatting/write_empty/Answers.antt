@@ -104,7 +104,7 @@ returns-in_err-write_zeros-clause-moments g c tells only =
     let second = weaker d.moment d.left_since c.close_gate.new.disk c.write_zeros.new.disk _ P (c.write_zeros.ensures.moments tells) (λ f left. zeroing s old left.0 f c.size.result (shut left.0 left.1) left.2) in
     run_then d.moment d.left_since c.args.disk.now c.close_gate.new.disk c.write_zeros.new.disk P first second
 
--- the bytes behind the plan, at the end
+-- the bytes past the plan, at the end
 pub returns-clause-outside : goal.returns-clause-outside
 returns-clause-outside g c tells =
     let d = g.D.Disk in

@@ -47,7 +47,7 @@ loop-reader-preserved g c =
       disk = reads_on g.D.Disk _ _ _ _ tt _ refl so_far.disk on.disk;
     }
 
--- A record that owns words is let go of, whichever kind it is of.
+-- A record that owns words is dropped, whichever kind it is of.
 
 pub loop-reader-preserved-in_ok-take : goal.loop-reader-preserved-in_ok-take
 loop-reader-preserved-in_ok-take g c =

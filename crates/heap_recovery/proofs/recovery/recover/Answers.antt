@@ -168,7 +168,7 @@ returns-clause-moments g c tells only s batches stored shaped =
     (λ n m. LeavesOnly d.moment d.left_since c.read_image.new.disk c.force.new.disk (λ c'. SameOutside n (n + m) now c' × (HoldsBatches (part c' n m) batches ⊎ HoldsBatches (part c' n m) (with_batch batches taken)))) roll.place roll.same_room forcing in
     opening_moments d.moment d.left_since c.args.disk.now c.read_image.new.disk c.force.new.disk (d.may_leave c.args.disk.now) now image s batches stored shaped.held read is only contents.bytes contents.moments there
 
--- What is told of an image that can't be read.
+-- What is reported of an image that can't be read.
 
 pub returns-in_err-read-clause-not_heap : goal.returns-in_err-read-clause-not_heap
 returns-in_err-read-clause-not_heap g c tells none =
@@ -209,7 +209,7 @@ returns-in_err-fault-clause-moments_not_heap g c tells only none =
     let d = g.D.Disk in
     still_moments d.moment d.left_since c.args.disk.now c.read_image.new.disk (d.bytes c.args.disk.now) (d.may_leave c.args.disk.now) IsNoHeap only none (c.read_image.ensures.disk.contents tells).moments
 
--- Behind it a crash has left the log, or the log rolled back.
+-- After it a crash has left the log, or the log rolled back.
 
 pub returns-in_err-force-clause-moments_readable : goal.returns-in_err-force-clause-moments_readable
 returns-in_err-force-clause-moments_readable g c tells only s batches state readable =
@@ -283,7 +283,7 @@ returns-clause-moments_damaged g c tells only at fault =
     let run = forced_run d.moment d.left_since read.of found.0 (d.bytes old) read found.1 found.2 old mid c.force.new.disk (d.may_leave old) (d.may_leave mid) (d.bytes mid) c.roll_back.new.self.log roll.place roll.same_room (roll.kept found.0 found.1.log) only contents.bytes contents.crash contents.moments (c.force.ensures.moments tells) in
     left_damaged d.moment d.left_since read.of found.0 (d.bytes old) read found.1 found.2 old mid c.force.new.disk run at fault
 
--- What is opened is the image's log, and what the walk finds is told of it.
+-- What is opened is the image's log, and what the walk finds is reported of it.
 
 pub returns-clause-sound : goal.returns-clause-sound
 returns-clause-sound g c tells =
@@ -368,7 +368,7 @@ returns-clause-passes_readable g c tells s batches state readable =
     finish_passes c.finish.result c.in_ok-fault.fault c.finish.ensures.damaged c.finish.ensures.whole (opening_calls s batches) _ _
     (subst (λ (n : ℕ). Passes n (g.D.Disk.passed c.args.disk.now) (g.D.Disk.passed c.force.new.disk) (Ok tt)) (one_opening s read.of batches found.0 state read.state image readable found.2) calls)
 
--- what it tells of the words comes behind the force, and all else before a write
+-- what it reports of the words comes after the force, and all else before a write
 pub returns-clause-durable_damaged : goal.returns-clause-durable_damaged
 returns-clause-durable_damaged g c tells only at is =
     let d = g.D.Disk in

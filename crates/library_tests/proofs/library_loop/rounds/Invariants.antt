@@ -5,7 +5,7 @@ use Rattle.heap_model.specs.Image.{StandsFor}
 use Rattle.library_tests.specs.Rounds.{Rounds}
 use Rattle.library_tests.proofs.library_loop.rounds.Given as goal
 
--- the disk stands for what so many rounds leave
+-- the disk stands for what that many rounds leave
 abbrev pub invariant-loop-i : goal.invariant-loop-i
 invariant-loop-i g l =
     let d = g.D.Disk in

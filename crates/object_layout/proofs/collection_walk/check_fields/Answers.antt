@@ -1,4 +1,4 @@
--- The fields of one object after another lead where they may, or the first that do not are told.
+-- The fields of one object after another lead where they may, or the first object whose fields do not is reported.
 use Rattle.std.proofs.Common.{◌≡◌, ℕ, List, ◌+◌, ◌-◌, ◌∙◌, ◌<◌, ◌++◌, Some, None, ap, sym, subst, take, drop, length, get_or, arith}
 use Rattle.std.specs.FinSet.{contains}
 use Rattle.object_layout.specs.Layout.{object_at}

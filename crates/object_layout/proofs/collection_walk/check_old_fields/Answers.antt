@@ -1,4 +1,4 @@
--- The fields of one object after another lead inside, or the first that do not are told; an object that was copied has none.
+-- The fields of one object after another lead inside, or the first object whose fields do not is reported; one that was copied has none.
 use Rattle.std.proofs.Common.{◌≡◌, ℕ, List, ◌+◌, ◌-◌, ◌∙◌, ◌<◌, Some, None, ap, sym, subst, take, drop, length, get_or, arith}
 use Rattle.object_layout.specs.Layout.{object_at}
 use Rattle.object_layout.specs.Walk.{AreInside}

@@ -1,4 +1,4 @@
--- What lies below the next address is a start; the search tells whether that one is.
+-- What lies below the next address is a start; the search finds whether that one is.
 use Rattle.std.proofs.Common.{ℕ, ◌∙◌, inl, inr, sym, subst, arith}
 use Rattle.std.specs.Prelude.{Contains}
 use Rattle.std.proofs.lemmas.Bool.{cases_lt, cases_order}

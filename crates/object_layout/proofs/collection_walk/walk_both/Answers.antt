@@ -1,4 +1,4 @@
--- Each rule is tried where those before it hold.
+-- Each rule is checked after those before it hold.
 use Rattle.std.proofs.Common.{◌≡◌, ℕ, List, ◌+◌, ◌<◌, ◌≤◌, ◌^◌, ◌∙◌, Result, Ok, Err, refl, ap, sym, subst, arith}
 use Rattle.std.specs.Prelude.{Contains, IsErrAnd, OnOk}
 use Rattle.object_layout.specs.declared.walk_error.WalkError.{WalkError}

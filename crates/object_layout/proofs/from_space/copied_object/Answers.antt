@@ -1,4 +1,4 @@
--- The forwarding word leads to a start exactly where the search finds it.
+-- The forwarding word leads to a start exactly if the search finds it.
 use Rattle.std.proofs.Common.{◌≡◌, Some, ◌∙◌, ap, sym, get_or}
 use Rattle.heap_words.specs.declared.Header.TheVariants.{Forward}
 use Rattle.heap_words.specs.Header.{header}

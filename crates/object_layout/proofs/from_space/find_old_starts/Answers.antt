@@ -1,4 +1,4 @@
--- One object more stands behind those so far, or the first that does not is told.
+-- One more object follows those so far, or the first address where none does is reported.
 use Rattle.std.proofs.Common.{◌≡◌, ℕ, List, ◌+◌, ◌<◌, ◌∙◌, Bool, Some, None, ap, sym, subst, arith}
 use Rattle.std.specs.Prelude.{if◌then◌else◌}
 use Rattle.object_layout.specs.CollectionWalk.{given, from_end, old_object, old_object_at, is_moved, words_moved, AreOldObjects, IsOldFault, old_breaks, old_sum}

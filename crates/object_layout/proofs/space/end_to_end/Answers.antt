@@ -1,4 +1,4 @@
--- One object more stands behind those so far.
+-- One more object follows those so far.
 use Rattle.std.proofs.Common.{◌≡◌, ℕ, List, ◌+◌, ◌∙◌, Some, ap, sym, subst, take, arith}
 use Rattle.object_layout.specs.Layout.{object_at}
 use Rattle.object_layout.specs.Walk.{AreEndToEnd}

@@ -1,4 +1,4 @@
--- The objects break off at the base, where it has no root, or where the loop found none.
+-- The objects break off at the base, if it has no root, or where the loop found none.
 use Rattle.std.proofs.Common.{◌≡◌, ℕ, List, ◌+◌, ◌∙◌, ap, sym, subst, take, arith}
 use Rattle.object_layout.specs.Layout.{object_at}
 use Rattle.object_layout.specs.Walk.{AreEndToEnd, IsRootAt, BreaksAt, at_root, behind}

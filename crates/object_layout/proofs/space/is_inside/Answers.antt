@@ -1,4 +1,4 @@
--- A reference leads inside where the search finds it.
+-- A reference leads inside if the search finds it.
 use Rattle.std.proofs.Common.{◌≡◌, Bool, Option, Some, is_ok, ◌∙◌, ap, sym, subst}
 use Rattle.std.specs.Prelude.{MatchBool}
 use Rattle.heap_words.specs.declared.Word.{Word}

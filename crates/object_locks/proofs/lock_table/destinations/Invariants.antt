@@ -6,6 +6,6 @@ use Rattle.object_locks.specs.Holdings.{moved}
 use Rattle.object_locks.specs.Table.{key_cmp}
 use Rattle.object_locks.proofs.lock_table.destinations.Given as goal
 
--- what the map has, and else the moves that are left
+-- what the map has, and otherwise the moves that are left
 abbrev pub invariant-loop-from : goal.invariant-loop-from
 invariant-loop-from l = (key : Key) → unwrap_or (tree.get key_cmp l.map key) (moved (drop l.from-index l.moves) key) ≡ moved l.moves key

@@ -1,4 +1,4 @@
--- The next object gets the words behind those of the objects before.
+-- The next object gets the words after those of the objects before.
 use Rattle.std.proofs.Common.{◌≡◌, ◌+◌, ◌++◌, ◌∷◌, [], ◌<◌, ◌≤◌, ◌^◌, take, get_or, length, zip, sym, ap, ◌∙◌, subst, arith}
 use Rattle.std.specs.Prelude.{All}
 use Rattle.std.proofs.lemmas.List.{take_more, take_all}

@@ -1,4 +1,4 @@
--- One write more.
+-- One more write.
 use Rattle.std.proofs.Common.{◌≡◌, ◌+◌, List, [], ◌∷◌, reverse, take, get_or, sym, ap, ◌∙◌}
 use Rattle.std.proofs.lemmas.List.{take_more, reverse-append}
 use Rattle.std.specs.BTreeSet.{insert_key}

@@ -1,4 +1,4 @@
--- The search begins with what was written and goes on until nothing waits.
+-- The search begins with what was written and continues until nothing is waiting.
 use Rattle.std.proofs.Common.{◌≡◌, ℕ, List, [], ◌≤◌, length, sym, ap, ◌∙◌, subst, arith, get_or}
 use Rattle.std.specs.Prelude.{IfOk}
 use Rattle.std.proofs.lemmas.List.{length_push}

@@ -1,4 +1,4 @@
--- One handle more holds what it holds then.
+-- One more handle holds the same object, at its new place.
 use Rattle.std.proofs.Common.{◌≡◌, ◌++◌, map, take, drop, get_or, set, None, refl, sym, ap, ◌∙◌, add-one}
 use Rattle.undo_translation.proofs.Mapped.{put_mapped}
 use Rattle.txn_table.specs.Translation.{translated_handle}

@@ -139,14 +139,14 @@ returns-in-Ok-recover-clause-rolled g c tells s batches stored shaped = c.in-Ok-
 pub returns-in-Ok-recover-clause-durable : goal.returns-in-Ok-recover-clause-durable
 returns-in-Ok-recover-clause-durable g c tells only = c.in-Ok-recover.ensures.durable tells only
 
--- An image whose log can be read is left as it was where memory was refused,
+-- An image whose log can be read is left as it was if memory ran out,
 pub returns-in-Err-clause-moments_readable : goal.returns-in-Err-clause-moments_readable
 returns-in-Err-clause-moments_readable g c tells only s batches state readable =
     let d = g.D.Disk in
     let old = d.bytes c.args.disk in
     begins d.moment d.left_since c.args.disk (IsLogLeft s batches old) (λ image left. subst (IsLogLeft s batches old) (sym (only image (g.met.D.Disk.only_now tells c.args.disk image left))) (left_same s batches state old readable))
 
--- and else opened with the calls of its recovery.
+-- and otherwise opened with the calls of its recovery.
 pub returns-in-Ok-recover-clause-passes_readable : goal.returns-in-Ok-recover-clause-passes_readable
 returns-in-Ok-recover-clause-passes_readable g c tells s batches state readable = c.in-Ok-recover.ensures.passes_readable tells s batches state readable
 

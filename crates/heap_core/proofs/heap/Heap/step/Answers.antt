@@ -149,7 +149,7 @@ returns-in-Ok-clause-passes g c tells core heap reached =
 pub returns-in-Ok-clause-still : goal.returns-in-Ok-clause-still
 returns-in-Ok-clause-still g c core heap reached no_calls = c.step_on.ensures.core.still core (heap.engine c.in_default.is) reached no_calls
 
--- It had no memory.
+-- It ran out of memory.
 
 pub returns-in-Err-NoMemory-clause-disk : goal.returns-in-Err-NoMemory-clause-disk
 returns-in-Err-NoMemory-clause-disk g c =

@@ -1,4 +1,4 @@
--- The addresses of all holdings were met in order, and then each is there once.
+-- The addresses of all holdings were visited in order, so without repeats each is there once.
 use Rattle.std.proofs.Common.{◌≡◌, eqb, map, sym, ap, ◌∙◌, subst}
 use Rattle.std.specs.List.{dedup}
 use Rattle.std.specs.BTreeSet.{IsOrdered}

@@ -4,6 +4,6 @@ use Rattle.std.specs.Map.Iter.{deref}
 use Rattle.object_locks.specs.Holdings.{moved_with}
 use Rattle.object_locks.proofs.lock_table.LockTable.rekey.Given as goal
 
--- what was met has moved
+-- the holdings visited so far have moved
 abbrev pub invariant-loop-holding : goal.invariant-loop-holding
 invariant-loop-holding l = l.table ≡ set.from_list (map (moved_with l.fn.moves) (map deref l.yielded))

@@ -1,4 +1,4 @@
--- One word more was followed.
+-- One more word was followed.
 use Rattle.std.proofs.Common.{◌++◌, ◌∷◌, [], List, ℕ, take, get_or, sym, subst}
 use Rattle.std.proofs.lemmas.List.{take_more}
 use Rattle.stability_tracker.specs.declared.search.Search.{Search}

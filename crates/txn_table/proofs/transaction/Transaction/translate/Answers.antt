@@ -1,4 +1,4 @@
--- Each part has gone along.
+-- Each part is updated.
 use Rattle.std.proofs.Common.{length, map, reverse, ap, ◌∙◌, subst, arith}
 use Rattle.std.proofs.lemmas.List.{take_at}
 use Rattle.log_machine.specs.Translation.{translated_entry, translated_list}

@@ -1,4 +1,4 @@
--- The session's slot is given up.
+-- The session's slot is emptied.
 use Rattle.std.proofs.Common.{◌<◌, length, arith}
 use Rattle.txn_table.proofs.SlotLaws.{left}
 use Rattle.txn_table.proofs.txn_table.TxnTable.end.Goals as goal

@@ -1,4 +1,4 @@
--- The session's slot has the transaction with one object more, where there is room.
+-- The session's slot has the transaction with one more object, if there is room.
 use Rattle.std.proofs.Common.{◌≡◌, ◌+◌, ◌<◌, ◌↔◌, ℕ, length, Option, Some, Result, Err, sym, subst, arith}
 use Rattle.std.specs.Prelude.{IfOk, OnOk, IfSome, IsSomeAnd}
 use Rattle.volatile_area.specs.declared.area_error.AreaError.{AreaError}

@@ -1,4 +1,4 @@
--- The session's slot has the transaction with one write more.
+-- The session's slot has the transaction with one more write.
 use Rattle.std.proofs.Common.{◌<◌, ◌∷◌, length, Some, sym, subst, arith}
 use Rattle.txn_table.specs.declared.txn_table.TxnTable.TheInside.{Inside}
 use Rattle.txn_table.specs.Table.{TransactionState, Changes}

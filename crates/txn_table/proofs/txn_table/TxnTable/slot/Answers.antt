@@ -1,4 +1,4 @@
--- The slot says what the session has, and there is none for session 0 and for those behind the last.
+-- The slot says what the session has, and there is none for session 0 and for those after the last.
 use Rattle.std.proofs.Common.{None, sym, ap, ◌∙◌, length, List, Option, arith, get_or}
 use Rattle.std.specs.Option.{option_copied}
 use Rattle.txn_table.specs.Table.{TransactionState}

@@ -1,4 +1,4 @@
--- All slots were met.
+-- All slots were visited.
 use Rattle.std.proofs.Common.{arith}
 use Rattle.txn_table.proofs.GoneAlong.{gone_all}
 use Rattle.txn_table.proofs.txn_table.TxnTable.translate.Goals as goal

@@ -1,4 +1,4 @@
--- The transaction in the slot has gone along, if there is one.
+-- The transaction in the slot is updated, if there is one.
 use Rattle.std.proofs.Common.{◌+◌, ◌<◌, length, Option, None, Some, refl, sym, subst, arith}
 use Rattle.std.specs.Prelude.{slice_set}
 use Rattle.txn_table.specs.declared.txn_table.TxnTable.TheInside.{Inside}

@@ -1,4 +1,4 @@
--- The search of the starts finds just what is one.
+-- The search of the starts finds exactly the starts.
 use Rattle.std.proofs.Common.{Bool, ◌↔◌, sym, subst}
 use Rattle.std.specs.Prelude.{Contains, IsTrue}
 use Rattle.volatile_area.specs.Area.{starts_of, area_of}

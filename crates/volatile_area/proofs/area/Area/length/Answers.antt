@@ -1,4 +1,4 @@
--- The object's header tells its length.
+-- The object's header gives its length.
 use Rattle.std.proofs.Common.{◌≡◌, ◌/◌, Some, ◌∙◌, ap, sym, arith}
 use Rattle.std.specs.Prelude.{slice_index}
 use Rattle.std.proofs.lemmas.List.{get_or_read}

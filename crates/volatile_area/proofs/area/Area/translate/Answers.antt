@@ -1,4 +1,4 @@
--- The starts that are kept are those of the area, before and then.
+-- The starts that are kept are those of the area, before and after.
 use Rattle.std.proofs.Common.{ℕ, ◌≡◌, ◌<◌, length, get_or, ap, ◌∙◌, subst, arith}
 use Rattle.std.proofs.lemmas.List.{get_or_read}
 use Rattle.volatile_area.specs.Area.{starts_of, IsTranslatedIn}

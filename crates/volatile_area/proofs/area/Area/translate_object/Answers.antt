@@ -1,4 +1,4 @@
--- A field's word is one then, and with it the fields so far have gone along.
+-- A translated field is still a field's word, and with it the fields so far are translated.
 use Rattle.std.proofs.Common.{◌+◌, ◌<◌, sym, ap, ◌∙◌, subst, arith}
 use Rattle.heap_words.specs.Word.{IsFieldWord}
 use Rattle.relocation.proofs.RelocationLaws.{translated_word-meant}
