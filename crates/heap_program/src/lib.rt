@@ -14,6 +14,7 @@ mod status;
 mod summary;
 
 pub use dispatch::run_alone;
+pub use heap_core::Heap;
 pub use output::{WriteError, write_graph, write_line};
 pub use play::{Halt, play_ending, play_line};
 pub use playing::{FIRST, LOG_BYTES, read_input};

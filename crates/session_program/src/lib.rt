@@ -7,4 +7,5 @@ mod ending;
 mod parts;
 mod serving;
 
+pub use heap_program::{Heap, Status};
 pub use serving::serve;

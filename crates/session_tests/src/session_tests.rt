@@ -1,10 +1,8 @@
 //! Sessions over memory.
 use crate::pieces::Pieces;
 use disk_model::{Disk, FuseDisk, MemoryDisk, Pick};
-use heap_core::Heap;
 use heap_io::{MemorySink, MemorySource, Source};
-use heap_program::Status;
-use session_program::serve;
+use session_program::{Heap, Status, serve};
 use std::alloc::{AllocError, Global};
 use std::fmt::Debug;
 use std::process::Abort;

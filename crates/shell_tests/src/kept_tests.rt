@@ -2,8 +2,7 @@
 use crate::playing::{ONE_COMMIT, PICKS, disk_of, expect_played, make_disk, play_on, same};
 use disk_model::{MemoryDisk, Pick};
 use graph_model::{Event, Refusal, Reply};
-use heap_core::Heap;
-use heap_program::Status;
+use heap_program::{Heap, Status};
 use heap_recovery::At;
 use std::alloc::{AllocError, Global};
 use std::process::Abort;

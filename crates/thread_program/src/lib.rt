@@ -7,4 +7,5 @@ mod program;
 mod threads;
 mod writing;
 
+pub use heap_program::Status;
 pub use program::run;

@@ -2,13 +2,13 @@
 use crate::meeting::Sign;
 use crate::playing::{Played, disk_of, expect_again, image_of, lines_of_session, run_on, same};
 use disk_model::{MemoryDisk, Pick};
-use heap_program::Status;
 use heap_workers::Gate;
 use std::alloc::{AllocError, Global};
 use std::process::Abort;
 use std::sync::Wait;
 use std::test::Fail;
 use std::thread::Threads;
+use thread_program::Status;
 
 /// Two sessions that write into one object, of which the second one begins another transaction after that.
 const AT_ONCE: &str =

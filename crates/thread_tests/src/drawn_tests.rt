@@ -1,12 +1,12 @@
 //! Drawn scripts are played by threads, and then what they made is played alone: the same is written, and the same bytes are left.
 use crate::drawn::{SESSIONS, SHARED, draw_script};
 use crate::playing::{Played, count_lines, expect_again, image_of, run_well, same};
-use heap_program::Status;
 use std::alloc::Global;
 use std::process::Abort;
 use std::sync::Wait;
 use std::test::Fail;
 use std::thread::Threads;
+use thread_program::Status;
 
 /// How many scripts a test draws: few enough for its minute. Code that is only tried is a hundred times slower.
 const SCRIPTS: u64 = 50;

@@ -6,13 +6,13 @@ use crate::playing::{
     same,
 };
 use disk_model::{Disk, MemoryDisk, Pick};
-use heap_program::Status;
 use heap_workers::OpenGate;
 use std::alloc::{AllocError, Global};
 use std::process::Abort;
 use std::sync::Wait;
 use std::test::Fail;
 use std::thread::Threads;
+use thread_program::Status;
 
 /// How many scripts a test draws: few enough for its minute. Code that is only tried is a hundred times slower.
 const SCRIPTS: u64 = 50;

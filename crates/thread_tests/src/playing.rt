@@ -2,7 +2,6 @@
 use disk_model::{MemoryDisk, Pick};
 use heap_core::{Heap, OpenError};
 use heap_io::{MemorySink, MemorySource};
-use heap_program::Status;
 use heap_workers::{Gate, OpenGate};
 use std::alloc::{AllocError, Global};
 use std::fmt::Debug;
@@ -10,7 +9,7 @@ use std::process::Abort;
 use std::str;
 use std::sync::Wait;
 use std::thread::Threads;
-use thread_program::run;
+use thread_program::{Status, run};
 
 /// The command that makes the heap of the tests. Its log is short, since code that is only tried plays slowly on a large one.
 const FORMAT: &str = "heap format 4 65536 1";

@@ -5,7 +5,6 @@ use crate::playing::{
     lines_of_session, run_on, run_well, same,
 };
 use disk_model::{MemoryDisk, Pick};
-use heap_program::Status;
 use heap_workers::{COLLECTOR, FLUSHER, Gate};
 use std::alloc::{AllocError, Global};
 use std::process::Abort;
@@ -13,6 +12,7 @@ use std::sync::Wait;
 use std::sync::atomic::{AtomicU64, Ordering};
 use std::test::Fail;
 use std::thread::Threads;
+use thread_program::Status;
 
 /// Two sessions, each of which writes into an object of its own, and a collection, whose scans are left out.
 const ONE_EACH: &str =

@@ -5,13 +5,13 @@ use crate::playing::{
 };
 use disk_model::{MemoryDisk, Pick};
 use heap_core::At;
-use heap_program::Status;
 use heap_workers::OpenGate;
 use std::alloc::{AllocError, Global};
 use std::process::Abort;
 use std::sync::Wait;
 use std::test::Fail;
 use std::thread::Threads;
+use thread_program::Status;
 
 /// Two sessions, each of which commits a write into an object of its own.
 const ONE_EACH: &str =
