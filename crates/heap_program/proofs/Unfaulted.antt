@@ -14,7 +14,7 @@ use Rattle.heap_program.specs.declared.play.Halt.{Halt}
 use Rattle.heap_program.specs.declared.play.Halt.TheVariants as halt
 use Rattle.heap_program.specs.declared.status.Status.{Status}
 use Rattle.heap_program.specs.declared.status.Status.TheVariants as status
-use Rattle.heap_program.specs.Causes.{CountsStay, IsFaultless}
+use Rattle.heap_program.specs.Causes.{CountsStay, IsFaultless, IsFaultlessLoad}
 use Rattle.heap_program.specs.Headline.{IsEndOfPlay}
 use Rattle.heap_program.specs.StatusOf.{format_status, open_status, halt_status}
 
@@ -28,6 +28,17 @@ halt_faulty halt.Stopped none = none
 -- nor is the disk's own fault
 pub not_disk : (s : Status) → IsFaultless s → s ≢ status.DiskFault
 not_disk s none is = subst IsFaultless is none
+
+-- of a load likewise
+pub load_not_disk : (s : Status) → IsFaultlessLoad s → s ≢ status.DiskFault
+load_not_disk s none is = subst IsFaultlessLoad is none
+
+-- a load that halts without a fault of the disk has a line that was not written
+pub load_halt : (h : Halt) → IsFaultlessLoad (halt_status h) → halt_status h ≡ status.WriteFault
+load_halt halt.NoMemory none = absurd none
+load_halt halt.WriteFault none = refl
+load_halt halt.DiskFault none = absurd none
+load_halt halt.Stopped none = absurd none
 
 -- a play without a fault is done
 pub faultless_done : (s : Status) → IsEndOfPlay s → IsFaultless s → s ≡ status.Done

@@ -75,6 +75,11 @@ IsFaultless status.NotHeap = Unit {0}
 IsFaultless (status.Damaged at) = Unit {0}
 IsFaultless (status.TooSmall size need) = Unit {0}
 
+-- Those of a load: the lines of its events go nowhere, so its output fails only at the summary, once all events were made without a fault.
+abbrev pub IsFaultlessLoad : Status → Type 0
+IsFaultlessLoad status.WriteFault = Unit {0}
+IsFaultlessLoad s = IsFaultless s
+
 -- The statuses of a run that has opened a disk, or could not.
 abbrev pub IsOpenedEnd : Status → Type 0
 IsOpenedEnd status.Done = Unit {0}

@@ -18,7 +18,7 @@ use Rattle.command_words.specs.declared.commands.Command.TheVariants as asked
 use Rattle.command_words.specs.declared.commands.Numbers.{Numbers}
 use Rattle.heap_program.specs.declared.status.Status.{Status}
 use Rattle.heap_program.specs.declared.status.Status.TheVariants as status
-use Rattle.heap_program.specs.Causes.{IsFaultless, IsOpenedEnd}
+use Rattle.heap_program.specs.Causes.{IsFaultless, IsFaultlessLoad, IsOpenedEnd}
 use Rattle.heap_program.specs.Headline.{made_super, graph_text, restarts_asked, CanPlay, IsEndOfPlay, IsFormatted, IsNotMade}
 use Rattle.heap_program.specs.Play.{WroteFront}
 
@@ -77,7 +77,7 @@ MeetsNoFault (asked.Format n) s = s ≢ status.DiskFault
 MeetsNoFault (asked.Play fresh stop) s = IsFaultless s
 MeetsNoFault (asked.Threads fresh tries) s = IsFaultless s
 MeetsNoFault asked.Graph s = s ≢ status.DiskFault
-MeetsNoFault (asked.Load seed count fresh) s = IsFaultless s
+MeetsNoFault (asked.Load seed count fresh) s = IsFaultlessLoad s
 
 -- the line of a format, with the size of the image in bytes
 abbrev pub formatted_line : Super → List ℕ

@@ -5,7 +5,7 @@ ghost use Rattle.disk_model.specs.Moments.{LeavesOnly};
 ghost use Rattle.image_plan.specs.Plan.{image_size};
 ghost use Rattle.command_words.specs.Limits.{IsPages};
 ghost use Rattle.command_words.specs.declared.commands.Command.TheVariants as asked;
-ghost use Rattle.heap_program.specs.Causes.{StreamCause, RunsDisk, CountsStay, IsFaultless, IsOpenedEnd};
+ghost use Rattle.heap_program.specs.Causes.{StreamCause, RunsDisk, CountsStay, IsFaultlessLoad, IsOpenedEnd};
 ghost use Rattle.heap_program.specs.Commands.{IsEndOf};
 ghost use Rattle.heap_program.specs.Headline.{OfTold, IsEndOfPlay, CanPlay, IsUntouching, EndsUnmade, BlamesNoImage};
 ghost use Rattle.heap_program.specs.Load.{PlaysLoad, RunsLoad, SummarizesSome};
@@ -40,7 +40,7 @@ pub fn run_load<D: Disk, K: Sink>(
     ensures small_told { (pages : ℕ) → fresh ≡ Some pages → D.extent disk < image_size pages LOG_BYTES → EndsUnmade (Status.TooSmall (D.extent disk) (image_size pages LOG_BYTES)) result.0 }
     ensures write_fault { StreamCause (K.faults sink.old) (K.faults sink.new) (result.0 ≡ Status.WriteFault) }
     ensures disk_fault { RunsDisk D.Disk disk result.1 (result.0 ≡ Status.DiskFault) }
-    ensures unfaulted { IsFaultless result.0 → CountsStay D.Disk disk result.1 }
+    ensures unfaulted { IsFaultlessLoad result.0 → CountsStay D.Disk disk result.1 }
     ensures untouched { IsUntouching result.0 → (result.1 ≡ disk) × (sink.new ≡ sink.old) }
 
     ensures loads { OfTold D.tells (D.bytes disk) (D.may_leave disk) (RunsLoad D.Disk fresh seed count disk result.1 result.0 K.tells (K.written sink.old) (K.written sink.new)) }
@@ -82,7 +82,7 @@ fn load_whole<D: Disk, K: Sink>(
 
     ensures end { IsOpenedEnd result.0 }
     ensures disk { RunsDisk D.Disk disk result.1 (result.0 ≡ Status.DiskFault) }
-    ensures unfaulted { IsFaultless result.0 → CountsStay D.Disk disk result.1 }
+    ensures unfaulted { IsFaultlessLoad result.0 → CountsStay D.Disk disk result.1 }
     ensures sink { StreamCause (K.faults sink.old) (K.faults sink.new) (result.0 ≡ Status.WriteFault) }
     ensures restarts { IsTrue D.tells → D.restarts result.1 ≡ D.restarts disk }
     ensures unwritten { ¬ BlamesNoImage result.0 → sink.new ≡ sink.old }

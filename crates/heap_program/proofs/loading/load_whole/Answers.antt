@@ -28,8 +28,8 @@ use Rattle.heap_program.proofs.Statuses.{written_end, halt_end, halt_not_done, o
 use Rattle.heap_program.proofs.LoadRuns.{load_is, load_reached, unwritten_summary, wrote_summary, summarizes, no_line_failed}
 use Rattle.heap_program.proofs.Reopened.{reads_only, refused_memory}
 use Rattle.heap_program.proofs.RunLaws.{end_sound}
-use Rattle.heap_program.proofs.Unfaulted.{counts_on, keeps_counts, open_counts, halt_faulty, not_disk}
-use Rattle.heap_program.specs.Causes.{IsFaultless}
+use Rattle.heap_program.proofs.Unfaulted.{counts_on, keeps_counts, open_counts, load_halt, load_not_disk}
+use Rattle.heap_program.specs.Causes.{IsFaultlessLoad}
 use Rattle.heap_program.proofs.loading.load_whole.Goals as goal
 
 pub returns-in-Err-clause-played : goal.returns-in-Err-clause-played
@@ -240,7 +240,7 @@ returns-in-Err-play_load-clause-opens_once g c tells fault = absurd (c.in-Ok.ens
 
 -- no fault of the disk was ignored
 pub returns-in-Err-clause-unfaulted : goal.returns-in-Err-clause-unfaulted
-returns-in-Err-clause-unfaulted g c none = open_counts g.D.Disk c.args.disk c.in-Err.disk c.in-Err.e c.in-Err.ensures.disk (not_disk _ (subst IsFaultless c.from.ensures none))
+returns-in-Err-clause-unfaulted g c none = open_counts g.D.Disk c.args.disk c.in-Err.disk c.in-Err.e c.in-Err.ensures.disk (load_not_disk _ (subst IsFaultlessLoad c.from.ensures none))
 
 pub returns-in-Ok-play_load-clause-unfaulted : goal.returns-in-Ok-play_load-clause-unfaulted
 returns-in-Ok-play_load-clause-unfaulted g c none =
@@ -248,4 +248,5 @@ returns-in-Ok-play_load-clause-unfaulted g c none =
     rw c.close.ensures (counts_on d _ _ _ (keeps_counts d c.args.disk c.in-Ok.heap.disk tt c.in-Ok.ensures.disk) (c.in-Ok-play_load.ensures.disk.still refl))
 
 pub returns-in-Err-play_load-clause-unfaulted : goal.returns-in-Err-play_load-clause-unfaulted
-returns-in-Err-play_load-clause-unfaulted g c none = absurd (halt_faulty c.in-Err-play_load.halt (subst IsFaultless c.from-in-Err-play_load.ensures none))
+returns-in-Err-play_load-clause-unfaulted g c none =
+    absurd (no_line_failed c.in-Err-play_load.halt (load_halt c.in-Err-play_load.halt (subst IsFaultlessLoad c.from-in-Err-play_load.ensures none)) c.in-Err-play_load.ensures.sink.cause)

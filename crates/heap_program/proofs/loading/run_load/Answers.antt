@@ -4,8 +4,8 @@ use Rattle.heap_program.specs.Load.{PlaysLoad}
 use Rattle.heap_program.proofs.CommandLaws.{opened_load, format_load}
 use Rattle.heap_program.proofs.PlayOpen.{new_stored, no_calls}
 use Rattle.heap_program.proofs.RunLaws.{large_made, end_sound}
-use Rattle.heap_program.proofs.Unfaulted.{counts_on, keeps_counts, format_counts, not_disk}
-use Rattle.heap_program.specs.Causes.{IsFaultless}
+use Rattle.heap_program.proofs.Unfaulted.{counts_on, keeps_counts, format_counts, load_not_disk}
+use Rattle.heap_program.specs.Causes.{IsFaultlessLoad}
 use Rattle.heap_program.proofs.loading.run_load.Goals as goal
 
 pub returns-in-None-clause-ends : goal.returns-in-None-clause-ends
@@ -63,4 +63,4 @@ returns-in-Ok-clause-unfaulted g c none =
     counts_on d _ _ _ (keeps_counts d c.args.disk c.in-Ok.disk tt c.in-Ok.ensures.disk) (c.load_whole-in-Ok.ensures.unfaulted none)
 
 pub returns-in-Err-clause-unfaulted : goal.returns-in-Err-clause-unfaulted
-returns-in-Err-clause-unfaulted g c none = format_counts g.D.Disk c.args.disk c.in-Err.disk c.in-Err.e c.in-Err.ensures.disk (not_disk _ (subst IsFaultless c.from.ensures none))
+returns-in-Err-clause-unfaulted g c none = format_counts g.D.Disk c.args.disk c.in-Err.disk c.in-Err.e c.in-Err.ensures.disk (load_not_disk _ (subst IsFaultlessLoad c.from.ensures none))
