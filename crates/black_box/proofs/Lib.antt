@@ -1,5 +1,7 @@
+mod Ends
 mod FitLaws
 mod History
+mod Left
 mod NumberLaws
 mod Runs
 mod Shorter

@@ -1,5 +1,5 @@
 -- What a play leaves, restarted and printed.
-use Rattle.std.proofs.Common.{◌≡◌, ◌⊎◌, inl, inr, ℕ, Bool, true, List, [], ◌++◌, length, take, None, Some, Ok, refl, sym, ap, ◌∙◌, subst}
+use Rattle.std.proofs.Common.{◌≡◌, ◌⊎◌, inl, inr, ℕ, Bool, List, [], ◌++◌, length, take, None, Some, Ok, refl, sym, ap, ◌∙◌, subst}
 use Rattle.std.specs.Prelude.{IsTrue}
 use Rattle.std.specs.List.{AllByRecursion}
 use Rattle.std.specs.Option.{option_to_list}
@@ -12,20 +12,14 @@ use Rattle.graph_model.specs.Canon.{canon}
 use Rattle.graph_model.specs.Graph.{Graph, new_graph}
 use Rattle.graph_model.specs.History.{sealed, commits, account, IsOfSession}
 use Rattle.graph_model.specs.Transaction.{Transaction, serial, serial_replies}
-use Rattle.graph_words.specs.Places.{Places}
 use Rattle.image_plan.specs.declared.superblock.Super.{Super}
-use Rattle.log_records.specs.declared.Record.{Record}
-use Rattle.page_redo.specs.Pages.{Pages}
 use Rattle.commit_order.specs.SerialOrder.{HasPlainReplies}
 use Rattle.core_laws.proofs.Crash.Image.{commits-sealed}
 use Rattle.core_laws.proofs.Run.Calls.{of_session_front}
 use Rattle.core_laws.proofs.Run.Events.{run_reached}
 use Rattle.heap_model.specs.Core.{Core, IsRun}
 use Rattle.heap_model.specs.CoreRuns.{after_events}
-use Rattle.heap_model.specs.Image.{IsShaped}
-use Rattle.heap_model.specs.Opening.{IsFound}
 use Rattle.heap_model.specs.Ending.{ending}
-use Rattle.heap_model.proofs.Opening.Opened.{saying_law}
 use Rattle.heap_model.proofs.Run.Calls.{same_run}
 use Rattle.heap_model.proofs.Step.Calls.{whole_run, run_step}
 use Rattle.script_text.specs.declared.line.Line.{Line}
@@ -34,8 +28,7 @@ use Rattle.script_text.specs.Script.{script}
 use Rattle.heap_program.specs.declared.status.Status.{Status}
 use Rattle.heap_program.specs.declared.status.Status.TheVariants as status
 use Rattle.heap_program.specs.Causes.{IsInputError}
-use Rattle.heap_program.specs.Commands.{PrintsGraph}
-use Rattle.heap_program.specs.Headline.{Runs, IsUnmade, HasMade, StopsOpening, PlaysScript, made_super, made_core}
+use Rattle.heap_program.specs.Headline.{Runs, IsUnmade, IsNotMade, HasMade, StopsOpening, PlaysScript, made_super, made_core}
 use Rattle.heap_program.specs.Play.{MadeAll, IsCutBy, IsRunning, lines_text, WroteFront}
 use Rattle.heap_program.specs.Playable.{IsReadFrom}
 use Rattle.heap_program.specs.Stored.{IsStored, stored_core, stored_calls}
@@ -46,6 +39,7 @@ use Rattle.black_box.specs.Stores.{Stores}
 use Rattle.black_box.specs.Told.{HaveReplies, TellsRun, MakesNone, text_of}
 use Rattle.black_box.proofs.FitLaws.{run_fits, replies_so_far}
 use Rattle.black_box.proofs.History.{run_events, ending_ends}
+use Rattle.black_box.proofs.Left.{legal_stores, prefix_stores}
 
 -- the events that were made are a run
 made_run : (c d : Core) (made : List Event) → (MadeAll c made d ⊎ ((reply : Reply) × IsCutBy reply c made d)) → IsRun c made d
@@ -78,19 +72,6 @@ sealed_first : (c : Core) → take (length (sealed c.history)) (commits c.histor
 sealed_first c = take-append_seam (sealed c.history) (option_to_list (account c.history).in_doubt)
 
 module _ {D : Type 0} (g : Ghosts D) where
-  -- The graph that is read from a disk, whatever is found there.
-  abbrev pub PrintsEach : D → D → Status → Bool → List ℕ → List ℕ → Type 0
-  PrintsEach old new result told text text' =
-      (s : Super) (batches : List (List Record)) (stored : Pages) → (shaped : IsShaped s batches stored (g.bytes old)) → (born : Bool) (places : Places) (graph : Graph) → IsFound s batches stored shaped.log born places graph
-      → PrintsGraph g s batches stored graph old new result told text text'
-
-  -- the graph that is printed is the one that is stored
-  pub prints_stored : (graph : Graph) (old new : D) (result : Status) (told : Bool) (text text' : List ℕ) → IsTrue told → Stores g graph old → PrintsEach old new result told text text' → result ≡ status.Done → text' ≡ text ++ text_of graph
-  prints_stored graph old new result told text text' sink stores prints done =
-      let it = stores.stored in
-      let shaped : IsShaped it.super it.batches it.pages (g.bytes old) = record { log = it.legal.log.shaped; held = it.legal.held } in
-      ((prints it.super it.batches it.pages shaped true it.places it.graph it.found).written sink).whole done ∙ ap (λ (x : Graph). text ++ text_of x) stores.is
-
   -- A play, and any image that a crash leaves of it.
   tells_script : (begins : Graph) (calls : ℕ) (c : Core) (told : Bool) (left : List ℕ) (old new again : D) (result : Status) (hears : Bool) (before after : List ℕ) → IsTrue told → IsTrue hears → c.g0 ≡ begins → c.history ≡ [] → IsRunning c
       → PlaysScript g None (IsReadFrom told left) calls c old new result hears before after → g.may_leave new (g.bytes again) → Only (g.bytes again) (g.may_leave again)
@@ -105,8 +86,7 @@ module _ {D : Type 0} (g : Ghosts D) where
       let kept = played.disk.kept (g.bytes again) leaves in
       let first = kept.1 in
       let stands = first.stands in
-      let legal = stands.says.legal in
-      let found = saying_law stands.super stands.batches stands.stored legal stands.says.seen stands.says.shows in
+      let there = legal_stores g again stands.super stands.batches stands.stored stands.says.legal stands.says.seen stands.says.shows stands.held only in
       let written = played.prints.written sink in
       let Front : Graph → List Transaction → Type 0 = λ x ts. WroteFront before (lines_text d.history ++ text_of (serial x ts)) after in
       let last = ap (λ n. take n (commits d.history)) (played.prints.all refl) ∙ sealed_first d in
@@ -116,12 +96,8 @@ module _ {D : Type 0} (g : Ghosts D) where
       let at_end = run_reached c d made running.reached one run in (
         plays.lines,
         ap script (sym (plays.script.own tells)) ∙ plays.script.script,
-        found.1,
-        record {
-          stored = record { super = stands.super; batches = stands.batches; pages = stands.stored; legal = record { log = legal; held = stands.held }; places = found.0; graph = found.1; found = found.2 };
-          is = refl;
-          only = only;
-        },
+        there.0,
+        there.1,
         record {
           history = d.history;
           made = record {
@@ -139,7 +115,7 @@ module _ {D : Type 0} (g : Ghosts D) where
           count = kept.0;
           least = first.kept;
           most = first.some;
-          graph = found.3 ∙ stands.says.graph ∙ ap (λ (x : Graph). canon (serial x (take kept.0 (commits d.history)))) same;
+          graph = there.2 ∙ stands.says.graph ∙ ap (λ (x : Graph). canon (serial x (take kept.0 (commits d.history)))) same;
           certain = commits-sealed d at_end.sound;
           done = λ done.
               let ended = all_made calls c made behind d (played.run.done done) in
@@ -159,6 +135,14 @@ module _ {D : Type 0} (g : Ghosts D) where
   tells_new pages told left old new again result hears before after tells sink (inr plays) leaves only =
       let image = g.bytes plays.made in
       inr (tells_script new_graph 0 (made_core pages image) told left plays.made new again result hears before after tells sink refl refl (record { reached = made_reached pages image plays.format.empty.log.shaped.limits; unfailed = refl }) plays.plays leaves only)
+
+  -- after it a graph is stored, or no heap was made
+  pub new_stores : (pages : ℕ) (is_script : List Line → Type 0) (old new again : D) (result : Status) (hears : Bool) (before after : List ℕ) → Runs g (Some pages) None is_script old new result hears before after → g.may_leave new (g.bytes again)
+      → Only (g.bytes again) (g.may_leave again) → IsNotMade g (made_super pages) old new result hears before after ⊎ ((kept : Graph) × Stores g kept again)
+  new_stores pages is_script old new again result hears before after (inl unmade) leaves only = inl unmade
+  new_stores pages is_script old new again result hears before after (inr plays) leaves only =
+      let played = plays.plays.played in
+      inr (prefix_stores g again played.run.core (played.disk.kept (g.bytes again) leaves) only)
 
   -- A play on the heap on the disk.
   pub tells_stored : (begins : Graph) (told : Bool) (left : List ℕ) (old new again : D) (result : Status) (hears : Bool) (before after : List ℕ) → IsTrue told → IsTrue hears → Stores g begins old → Runs g None None (IsReadFrom told left) old new result hears before after

@@ -1,5 +1,5 @@
 -- What a run in threads leaves, restarted and printed.
-use Rattle.std.proofs.Common.{◌≡◌, ◌⊎◌, inl, inr, ⊎_elim, ℕ, Bool, List, [], ◌∷◌, ◌++◌, length, take, Some, Ok, Result, refl, sym, ap, ◌∙◌, subst, append-nil, append_assoc}
+use Rattle.std.proofs.Common.{◌≡◌, ◌⊎◌, inl, inr, ℕ, Bool, List, [], ◌∷◌, ◌++◌, length, take, Some, Ok, Result, refl, sym, ap, ◌∙◌, subst, append-nil, append_assoc}
 use Rattle.std.specs.Prelude.{IsTrue}
 use Rattle.std.specs.List.{AllByRecursion}
 use Rattle.std.specs.declared.alloc.AllocError.{AllocError}
@@ -10,12 +10,10 @@ use Rattle.graph_model.specs.declared.reply.Entry.{Entry}
 use Rattle.graph_model.specs.Canon.{canon}
 use Rattle.graph_model.specs.Graph.{Graph, new_graph}
 use Rattle.graph_model.specs.History.{sealed, commits}
-use Rattle.graph_model.specs.Transaction.{Transaction, serial, serial_replies}
+use Rattle.graph_model.specs.Transaction.{serial, serial_replies}
 use Rattle.commit_order.specs.SerialOrder.{HasPlainReplies}
 use Rattle.core_laws.proofs.Run.Events.{run_reached}
 use Rattle.heap_model.specs.Core.{Core, IsRun}
-use Rattle.heap_model.specs.Ending.{ending}
-use Rattle.heap_model.proofs.Opening.Opened.{saying_law}
 use Rattle.heap_model.proofs.Run.Calls.{same_run, step_history}
 use Rattle.heap_model.proofs.Step.Calls.{run_append}
 use Rattle.log_machine.proofs.ListLaws.{AllByRecursion-front}
@@ -23,9 +21,8 @@ use Rattle.script_text.specs.declared.line.Line.{Line}
 use Rattle.script_text.specs.Script.{script}
 use Rattle.thread_play.specs.Worked.{IsWorked}
 use Rattle.heap_program.specs.declared.status.Status.{Status}
-use Rattle.heap_program.specs.declared.status.Status.TheVariants as status
-use Rattle.heap_program.specs.Headline.{made_super, made_core}
-use Rattle.heap_program.specs.Play.{MadeAll, IsRunning, lines_text, WroteFront}
+use Rattle.heap_program.specs.Headline.{IsNotMade, made_super, made_core}
+use Rattle.heap_program.specs.Play.{IsRunning, lines_text, WroteFront}
 use Rattle.heap_program.specs.Playable.{IsReadFrom}
 use Rattle.heap_program.proofs.CoreSteps.{made_reached}
 use Rattle.heap_program.proofs.PrintedImage.{whole_count}
@@ -35,6 +32,7 @@ use Rattle.black_box.specs.Stores.{Stores}
 use Rattle.black_box.specs.Told.{EndsScript, MakesNone, events_of, text_of}
 use Rattle.black_box.specs.Workers.{TellsWorkers}
 use Rattle.black_box.proofs.History.{ending_ends}
+use Rattle.black_box.proofs.Left.{legal_stores, prefix_stores}
 use Rattle.black_box.proofs.Runs.{made_none}
 
 -- a run adds an entry for each of its events
@@ -72,18 +70,13 @@ module _ {D : Type 0} (g : Ghosts D) where
       let kept = played.disk.kept (g.bytes again) leaves in
       let first = kept.1 in
       let stands = first.stands in
-      let legal = stands.says.legal in
-      let found = saying_law stands.super stands.batches stands.stored legal stands.says.seen stands.says.shows in
+      let there = legal_stores g again stands.super stands.batches stands.stored stands.says.legal stands.says.seen stands.says.shows stands.held only in
       let written = runs.written sink in
       let none = ap (λ (h : List Entry). length h) fresh in (
         plays.lines,
         ap script (sym (plays.script.own tells)) ∙ plays.script.script,
-        found.1,
-        record {
-          stored = record { super = stands.super; batches = stands.batches; pages = stands.stored; legal = record { log = legal; held = stands.held }; places = found.0; graph = found.1; found = found.2 };
-          is = refl;
-          only = only;
-        },
+        there.0,
+        there.1,
         record {
           history = d.history;
           sent = together.between.history;
@@ -98,7 +91,7 @@ module _ {D : Type 0} (g : Ghosts D) where
           count = kept.0;
           least = first.kept;
           most = first.some;
-          graph = found.3 ∙ stands.says.graph ∙ ap (λ (x : Graph). canon (serial x (take kept.0 (commits d.history)))) same;
+          graph = there.2 ∙ stands.says.graph ∙ ap (λ (x : Graph). canon (serial x (take kept.0 (commits d.history)))) same;
           done = λ done.
               let settled = done_settled tries plays.lines c made d result running.reached running.unfailed runs.sessions together done in (
                 (together.done done).0,
@@ -117,3 +110,11 @@ module _ {D : Type 0} (g : Ghosts D) where
       let image = g.bytes plays.made in
       inr (workers_script new_graph tries 0 (made_core pages image) told left plays.made new again result hears before after tells sink refl refl
       (record { reached = made_reached pages image plays.format.empty.log.shaped.limits; unfailed = refl }) plays.plays leaves only)
+
+  -- after it a graph is stored, or no heap was made
+  pub workers_store : (pages tries : ℕ) (is_script : List Line → Type 0) (old new again : D) (result : Status) (hears : Bool) (before after : List ℕ) → RunsTogether g (Some pages) tries is_script old new result hears before after → g.may_leave new (g.bytes again)
+      → Only (g.bytes again) (g.may_leave again) → IsNotMade g (made_super pages) old new result hears before after ⊎ ((kept : Graph) × Stores g kept again)
+  workers_store pages tries is_script old new again result hears before after (inl unmade) leaves only = inl unmade
+  workers_store pages tries is_script old new again result hears before after (inr plays) leaves only =
+      let played = plays.plays.played in
+      inr (prefix_stores g again played.runs.core (played.disk.kept (g.bytes again) leaves) only)

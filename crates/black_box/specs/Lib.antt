@@ -1,4 +1,5 @@
 pub mod Asked
+pub mod Ends
 pub mod Stores
 pub mod Tale
 pub mod Tales

@@ -3,8 +3,8 @@ ghost use Rattle.std.specs.Prelude.{◌≡◌, ◌⊎◌, Ok, IfOk, OnOk, IfErr,
 ghost use Rattle.script_text.specs.Script.{script};
 ghost use Rattle.black_box.specs.Asked.{AskPlay, AskGraph, IsReason};
 
+use crate::given::GivenSource;
 use command_words::{Command, CommandError, read_command};
-use heap_io::MemorySource;
 use script_text::{Line, ScriptError, read_script};
 use std::alloc::{AllocError, Global};
 
@@ -86,15 +86,15 @@ pub(crate) fn read_asked(
     play: &[String],
     graph: &[String],
     bytes: &[u8],
-) -> Result<(Vec<Line>, MemorySource), Unasked>
+) -> Result<(Vec<Line>, GivenSource), Unasked>
     ensures reads { IfOk result (λ read. script bytes.now ≡ Ok read.0.items) }
-    ensures source { IfOk result (λ read. read.1.left ≡ bytes.now) }
+    ensures source { IfOk result (λ read. read.1 ≡ bytes.now) }
     ensures asked { OnOk result (AskPlay (map string_bytes play.now) × AskGraph (map string_bytes graph.now)) }
     ensures refused { IfErr result (λ why. IsReason why (map string_bytes play.now) (map string_bytes graph.now) bytes.now) }
 {
     read_play(alloc, play)?;
     read_graph(alloc, graph)?;
     let lines = read_script(alloc, bytes)?;
-    let source = MemorySource::of(bytes.to_vec(alloc)?, Vec::new(alloc));
+    let source = GivenSource::of(alloc, bytes.to_vec(alloc)?);
     Ok((lines, source))
 }

@@ -1,8 +1,9 @@
-//! Runs of the program on one disk, with a crash after each of them: what is printed in the end follows from what the runs wrote. The clauses are
-//! stated in terms of the plain model alone, and follow from the public clauses of `run`.
+//! Runs of the program on one disk, with a crash after each of them: what is printed in the end follows from what the runs wrote, and is on the disk.
+//! Histories are told in terms of the plain model alone. All clauses follow from the public clauses of `run`.
 #![tactic(auto)]
 
 mod asking;
+mod given;
 mod one_run;
 mod threads;
 mod told_run;

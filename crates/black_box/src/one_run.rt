@@ -1,12 +1,18 @@
 //! One play on a new heap.
-ghost use Rattle.std.specs.Prelude.{◌≡◌, ◌⊎◌, ◌++◌, ℕ, List, None, Some, Ok, map, string_bytes, IsTrue};
+ghost use Rattle.std.specs.Prelude.{◌≡◌, ◌⊎◌, ◌++◌, ℕ, List, None, Some, Ok, Err, map, string_bytes, IsTrue};
+ghost use Rattle.black_box.specs.Ends.{EndsPlay};
+ghost use Rattle.black_box.specs.Stores.{IsSameDisk, StoresWritten};
 ghost use Rattle.black_box.specs.Told.{TellsRun, MakesNone, text_of};
 ghost use Rattle.command_words.specs.Command.{command};
 ghost use Rattle.command_words.specs.declared.commands.Command.TheVariants as asked;
+ghost use Rattle.counts.specs.Count.{Rose};
 ghost use Rattle.disk_model.specs.Disk.{Only};
 ghost use Rattle.graph_model.specs.Graph.{Graph, new_graph};
+ghost use Rattle.heap_program.specs.Causes.{DiskRose};
+ghost use Rattle.heap_program.specs.Stored.{IsStored};
 ghost use Rattle.script_text.specs.Script.{script};
 ghost use Rattle.script_text.specs.declared.line.Line.{Line};
+ghost use Rattle.script_text.specs.declared.script.ScriptError.TheVariants.{Fault};
 
 use disk_model::Disk;
 use heap_io::{Sink, Source};
@@ -43,6 +49,20 @@ pub fn play_then_graph<
         → (MakesNone result.0 × (K.written lines.new ≡ K.written lines.old))
         ⊎ ((read : List Line) × (script (S.left source.old) ≡ Ok read)
         × (kept : Graph) × TellsRun new_graph read result.0 (K.written lines.old) (K.written lines.new) kept × (K.written text.new ≡ K.written text.old ++ text_of kept)) }
+    // The disk that is given back is the one that was handed in, restarted once.
+    ensures same_disk { (pages : ℕ) → command (map string_bytes play.now) ≡ Some (asked.Play (Some pages) None) → command (map string_bytes graph.now) ≡ Some asked.Graph → IsSameDisk D.Disk 1 disk result.2 }
+    // It holds the graph that was printed, and nothing is unsynced, unless the play made no heap and wrote nothing.
+    ensures leaves { IsTrue D.tells → Only (D.bytes disk) (D.may_leave disk) → IsTrue K.tells
+        → (pages : ℕ) → command (map string_bytes play.now) ≡ Some (asked.Play (Some pages) None) → command (map string_bytes graph.now) ≡ Some asked.Graph → result.1 ≡ Status.Done
+        → (MakesNone result.0 × (K.written lines.new ≡ K.written lines.old)) ⊎ StoresWritten D.Disk result.2 (K.written text.old) (K.written text.new) }
+    // It does so in each case, if it held a heap before.
+    ensures keeps { IsTrue D.tells → Only (D.bytes disk) (D.may_leave disk) → IsTrue K.tells → IsStored (D.bytes disk)
+        → (pages : ℕ) → command (map string_bytes play.now) ≡ Some (asked.Play (Some pages) None) → command (map string_bytes graph.now) ≡ Some asked.Graph → result.1 ≡ Status.Done
+        → StoresWritten D.Disk result.2 (K.written text.old) (K.written text.new) }
+    // What the play's status blames is so: the script is bad there, a stream or the disk failed, or the disk is too small.
+    ensures ends { IsTrue D.tells → Only (D.bytes disk) (D.may_leave disk) → IsTrue S.tells
+        → (pages : ℕ) → command (map string_bytes play.now) ≡ Some (asked.Play (Some pages) None) → EndsPlay (D.extent disk) pages (λ line. script (S.left source.old) ≡ Err (Fault line)) (Rose (S.faults source.old) (S.faults source.new))
+        (Rose (K.faults lines.old) (K.faults lines.new)) (DiskRose (D.faults disk) (D.stops disk) (D.faults result.2) (D.stops result.2)) result.0 }
 {
     let (played, mut disk) = run(rt, alloc, play, disk, source, lines, gate);
     disk.restart();

@@ -1,11 +1,13 @@
 //! One run in threads on a new heap.
 ghost use Rattle.std.specs.Prelude.{◌≡◌, ◌⊎◌, ◌++◌, ℕ, List, Some, Ok, map, string_bytes, IsTrue};
+ghost use Rattle.black_box.specs.Stores.{IsSameDisk, StoresWritten};
 ghost use Rattle.black_box.specs.Told.{MakesNone, text_of};
 ghost use Rattle.black_box.specs.Workers.{TellsWorkers};
 ghost use Rattle.command_words.specs.Command.{command};
 ghost use Rattle.command_words.specs.declared.commands.Command.TheVariants as asked;
 ghost use Rattle.disk_model.specs.Disk.{Only};
 ghost use Rattle.graph_model.specs.Graph.{Graph, new_graph};
+ghost use Rattle.heap_program.specs.Stored.{IsStored};
 ghost use Rattle.script_text.specs.Script.{script};
 ghost use Rattle.script_text.specs.declared.line.Line.{Line};
 
@@ -44,6 +46,16 @@ pub fn threads_then_graph<
         → (MakesNone result.0 × (K.written lines.new ≡ K.written lines.old))
         ⊎ ((read : List Line) × (script (S.left source.old) ≡ Ok read)
         × (kept : Graph) × TellsWorkers new_graph tries read result.0 (K.written lines.old) (K.written lines.new) kept × (K.written text.new ≡ K.written text.old ++ text_of kept)) }
+    // The disk that is given back is the one that was handed in, restarted once.
+    ensures same_disk { (pages tries : ℕ) → command (map string_bytes threads.now) ≡ Some (asked.Threads (Some pages) tries) → command (map string_bytes graph.now) ≡ Some asked.Graph → IsSameDisk D.Disk 1 disk result.2 }
+    // It holds the graph that was printed, and nothing is unsynced, unless the run made no heap and wrote nothing.
+    ensures leaves { IsTrue D.tells → Only (D.bytes disk) (D.may_leave disk) → IsTrue K.tells
+        → (pages tries : ℕ) → command (map string_bytes threads.now) ≡ Some (asked.Threads (Some pages) tries) → command (map string_bytes graph.now) ≡ Some asked.Graph → result.1 ≡ Status.Done
+        → (MakesNone result.0 × (K.written lines.new ≡ K.written lines.old)) ⊎ StoresWritten D.Disk result.2 (K.written text.old) (K.written text.new) }
+    // It does so in each case, if it held a heap before.
+    ensures keeps { IsTrue D.tells → Only (D.bytes disk) (D.may_leave disk) → IsTrue K.tells → IsStored (D.bytes disk)
+        → (pages tries : ℕ) → command (map string_bytes threads.now) ≡ Some (asked.Threads (Some pages) tries) → command (map string_bytes graph.now) ≡ Some asked.Graph → result.1 ≡ Status.Done
+        → StoresWritten D.Disk result.2 (K.written text.old) (K.written text.new) }
 {
     let (played, mut disk) = run(rt, alloc, threads, disk, source, lines, gate);
     disk.restart();

@@ -1,6 +1,6 @@
 //! Any number of plays, one after another.
-ghost use Rattle.std.specs.Prelude.{◌≡◌, ◌⊎◌, ◌++◌, ℕ, List, None, Some, Ok, map, string_bytes, IsTrue};
-ghost use Rattle.black_box.specs.Stores.{Stores};
+ghost use Rattle.std.specs.Prelude.{◌≡◌, ◌⊎◌, ◌+◌, ◌++◌, ℕ, List, length, None, Some, Ok, map, string_bytes, IsTrue};
+ghost use Rattle.black_box.specs.Stores.{IsSameDisk, Stores, StoresWritten};
 ghost use Rattle.black_box.specs.Told.{TellsRun, MakesNone, text_of};
 ghost use Rattle.black_box.specs.Tales.{TellsTurn, TellTurns};
 ghost use Rattle.command_words.specs.Command.{command};
@@ -40,6 +40,7 @@ fn play_turn<
 >(rt: &R, alloc: Global, play: &[String], disk: D, turn: &mut Turn<S, K>, gate: &G) -> D
     ensures tells { IsTrue D.tells → IsTrue S.tells → IsTrue K.tells → command (map string_bytes play.now) ≡ Some (asked.Play None None)
         → (begins : Graph) → Stores D.Disk begins disk → (kept : Graph) × Stores D.Disk kept result × TellsTurn S.left K.written begins turn.old turn.new kept }
+    ensures same_disk { command (map string_bytes play.now) ≡ Some (asked.Play None None) → IsSameDisk D.Disk 1 disk result }
 {
     let (status, mut disk) = run(
         rt,
@@ -65,6 +66,7 @@ fn play_turns<
 >(rt: &R, alloc: Global, play: &[String], mut disk: D, turns: &mut [Turn<S, K>], gate: &G) -> D
     ensures tell { IsTrue D.tells → IsTrue S.tells → IsTrue K.tells → command (map string_bytes play.now) ≡ Some (asked.Play None None)
         → (begins : Graph) → Stores D.Disk begins disk → (kept : Graph) × Stores D.Disk kept result × TellTurns S.left K.written begins turns.old turns.new kept }
+    ensures same_disk { command (map string_bytes play.now) ≡ Some (asked.Play None None) → IsSameDisk D.Disk (length turns.old) disk result }
 {
     for turn in turns.iter_mut() {
         disk = play_turn(rt, alloc, play, disk, turn, gate);
@@ -103,6 +105,15 @@ pub fn plays_then_graph<
         ⊎ ((read : List Line) × (script (S.left first.old.source) ≡ Ok read)
         × (made : Graph) × TellsRun new_graph read status (K.written first.old.sink) (K.written first.new.sink) made
         × (kept : Graph) × TellTurns S.left K.written made turns.old turns.new kept × (K.written text.new ≡ K.written text.old ++ text_of kept))) }
+    // The disk that is given back is the one that was handed in, restarted after each play.
+    ensures same_disk { (pages : ℕ) → command (map string_bytes fresh.now) ≡ Some (asked.Play (Some pages) None) → command (map string_bytes play.now) ≡ Some (asked.Play None None)
+        → command (map string_bytes graph.now) ≡ Some asked.Graph → IsSameDisk D.Disk (length turns.old + 1) disk result.1 }
+    // It holds the graph that was printed, and nothing is unsynced, unless the first play made no heap and wrote nothing.
+    ensures leaves { IsTrue D.tells → Only (D.bytes disk) (D.may_leave disk) → IsTrue S.tells → IsTrue K.tells
+        → (pages : ℕ) → command (map string_bytes fresh.now) ≡ Some (asked.Play (Some pages) None) → command (map string_bytes play.now) ≡ Some (asked.Play None None)
+        → command (map string_bytes graph.now) ≡ Some asked.Graph → result.0 ≡ Status.Done
+        → (status : Status) × (first.new.status ≡ Some status)
+        × ((MakesNone status × (K.written first.new.sink ≡ K.written first.old.sink)) ⊎ StoresWritten D.Disk result.1 (K.written text.old) (K.written text.new)) }
 {
     let (status, mut disk) = run(
         rt,

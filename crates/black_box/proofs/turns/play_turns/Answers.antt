@@ -1,7 +1,9 @@
 use Rattle.std.proofs.Common.{◌≡◌, ◌∙◌, ◌+◌, ◌<◌, List, [], ◌∷◌, ◌++◌, length, length-set, take, get_or, set, get_or-set_other, sym, ap, subst, arith, ◌≢◌}
 use Rattle.std.proofs.lemmas.List.{take_all, take_more, take_more_set}
+use Rattle.black_box.specs.Stores.{IsSameDisk}
 use Rattle.black_box.specs.Tales.{TellTurns}
 use Rattle.black_box.specs.declared.turns.Turn.{Turn}
+use Rattle.black_box.proofs.Left.{same_after}
 use Rattle.black_box.proofs.TurnLaws.{tell_more}
 use Rattle.black_box.proofs.turns.play_turns.Goals as goal
 
@@ -30,10 +32,18 @@ loop-turn-preserved g c =
           let before : take i first ++ turn ∷ [] ≡ take (i + 1) first = ap (λ x. take i first ++ x ∷ []) untouched ∙ sym (take_more first i item test) in
           let after : take i now ++ turn' ∷ [] ≡ take (i + 1) (set now i turn') = sym (take_more_set now i turn' within) in
           (one.0, one.1, subst (λ ts. Tell ts (take (i + 1) (set now i turn')) begins one.0) before (subst (λ us. Tell (take i first ++ turn ∷ []) us begins one.0) after more)),
+      λ play.
+          let more : 1 + i ≡ i + 1 = omega arith in
+          subst (λ n. IsSameDisk g.D.Disk n c.args.disk c.play_turn-disk.result) more (same_after g.D.Disk 1 i c.args.disk c.loop-turn.disk c.play_turn-disk.result (inv.3 play) (c.play_turn-disk.ensures.same_disk play)),
     )
 
 pub returns : goal.returns
 returns g c = record {
+  same_disk = λ play.
+      let test = c.loop-turn-test.false in
+      let same = c.loop-turn.invariant.0 in
+      let all : c.loop-turn.turn-index ≡ length c.args.turns.now = omega arith in
+      subst (λ n. IsSameDisk g.D.Disk n c.args.disk c.loop-turn.disk) all (c.loop-turn.invariant.3 play);
   tell = λ tells source sink play begins stores.
       let i = c.loop-turn.turn-index in
       let now = c.loop-turn.turns in
