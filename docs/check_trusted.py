@@ -8,7 +8,8 @@ on what the traits promise that the call is generic in, as the disk's. Their num
 texts and of the clauses', so that what has to be believed changes only where the page does. Each definition of specs/ has to be one that some
 contract rests on, free of proofs, and no contract may rest on one of proofs/. A record that README.md or that page quotes has to be quoted as it
 stands. It prints what is wrong, and nothing if all is well. With --list it prints the definitions behind one clause, or behind all with --list run, by
-file; with --text it prints the definitions themselves, with their comments: all that has to be read to believe the clause.
+file; with --text it prints the clause, the traits of its call, the types of the code and the definitions themselves, with their comments: all that has to
+be read to know what the clause says.
 """
 import collections
 import functools
@@ -20,9 +21,11 @@ import sys
 
 TOP = os.path.dirname(os.path.dirname(os.path.realpath(__file__)))
 PAGE = "docs/GUARANTEE.md"
-# the calls whose clauses are the theorems: where each stands, and its clauses with a row of their own
+# the calls whose clauses are the theorems, and where each stands
 RUN = "crates/thread_program/src/program.rt", "run"
-BOX = {"one_tale": ("crates/black_box/src/told_run.rt", "play_script_then_graph"), "one_history": ("crates/black_box/src/one_run.rt", "play_then_graph")}
+BOX = ("crates/black_box/src/told_run.rt", "play_script_then_graph"), ("crates/black_box/src/one_run.rt", "play_then_graph")
+# the clauses that have a row of their own, besides that of all clauses of the call
+ROWS = "one_tale", "one_history", "crash_safe", "headline"
 TOKEN = re.compile(r"[^\s(){}\[\],;]+")
 USE = re.compile(r"^(?:pub )?use ([\w.]+)\.\{(.*)\}$")
 ALIAS = re.compile(r"^(?:pub )?use ([\w.]+) as (\w+)$")
@@ -131,7 +134,7 @@ def ghosts(crate, name):
 
 
 def closure(seeds):
-    """The definitions that these rest on, each as (module, name)."""
+    """The definitions that these rest on, each as (module, name), and with them the types of the code, each as (crate, name)."""
     seen, types, left = set(), set(), list(seeds)
     while left:
         where, name = left.pop()
@@ -155,12 +158,16 @@ def closure(seeds):
                 found = cited(module, it)
                 if found:
                     left.append((found[0] or where, found[1]))
-    return seen
+    return seen, types
 
 
 def text_of(path):
+    return re.sub(r"^\s*//.*", "", whole_text(path), flags=re.M)
+
+
+def whole_text(path):
     with open(path, encoding="utf-8") as file:
-        return re.sub(r"^\s*//.*", "", file.read(), flags=re.M)
+        return file.read()
 
 
 def imports_of(text):
@@ -185,12 +192,12 @@ def cited_in(text, names, aliases):
     return found
 
 
-def traits(text, call):
+def traits(text, call, read=None):
     """The traits that the call is generic in, by its bounds: their texts, and what they cite."""
     texts, found = [], set()
     for name in sorted(set(re.findall(r"\b[A-Z]\w*: (\w+)", re.search(rf"fn {call}<(.*?)>\(", text, re.S)[1]))):
-        for path in glob.glob(f"{TOP}/crates/*/src/**/*.rt", recursive=True):
-            whole = text_of(path)
+        for path in sorted(glob.glob(f"{TOP}/crates/*/src/**/*.rt", recursive=True)):
+            whole = (read or text_of)(path)
             it = re.search(rf"^pub trait {name}\b.*?^\}}", whole, re.M | re.S)
             if it:
                 texts.append(it[0])
@@ -210,6 +217,14 @@ def clauses(path, call):
     return {name or kind: ([body, *texts], cited_in(body, names, aliases) | promised) for kind, name, body in found}
 
 
+def type_texts(types):
+    """The enums and structs of these names, as the code has them."""
+    for crate, name in sorted(types):
+        found = re.search(rf"^pub (?:enum|struct) {name}\b.*?^\}}", source(crate), re.M | re.S)
+        if found:
+            yield crate, found[0]
+
+
 def size(definitions):
     """How many definitions, lines, files and crates these are."""
     files = {where for where, _ in definitions}
@@ -217,9 +232,9 @@ def size(definitions):
     return len(definitions), lines, len(files), len({it.split(".")[1] for it in files})
 
 
-def digest(texts, definitions):
-    """A digest of clauses and of definitions, comments and spaces left out."""
-    texts = sorted(texts) + sorted(modules()[where].items[name].text for where, name in definitions)
+def digest(texts, definitions, types):
+    """A digest of clauses, of definitions and of types, comments and spaces left out."""
+    texts = sorted(texts) + sorted(modules()[where].items[name].text for where, name in definitions) + [it for _, it in type_texts(types)]
     return hashlib.sha256("\n".join(" ".join(it.split()) for it in texts).encode()).hexdigest()[:12]
 
 
@@ -236,8 +251,8 @@ def rows():
 
 def check_table(behind):
     said = rows()
-    for name, (texts, definitions) in behind.items():
-        now = (*size(definitions), digest(texts, definitions))
+    for name, (texts, (definitions, types)) in behind.items():
+        now = (*size(definitions), digest(texts, definitions, types))
         if said.get(name) != now:
             yield f"{PAGE}: the row of `{name}` is | {' | '.join(map(str, now))} |, and the page has {said.get(name)}"
 
@@ -258,7 +273,7 @@ def check_specs():
         text = text_of(path)
         names, aliases = imports_of(text)
         seeds |= set(names.values()) | cited_in(text, {}, aliases)
-    used = closure(seeds)
+    used, _ = closure(seeds)
     for where, module in modules().items():
         path = os.path.relpath(module.path, TOP)
         for item in dict.fromkeys(module.items.values()):
@@ -285,19 +300,25 @@ def paragraphs(path):
             yield it, ITEM.match(first)[1] if first else None
 
 
-def write_out(definitions):
-    """Prints definitions with their comments, those of the lowest crates first."""
-    with open(f"{TOP}/crates.txt", encoding="utf-8") as file:
-        order = [line.split(":")[0].split()[0] for line in file if ":" in line and not line.startswith("#")]
+def write_out(path, call, name, definitions, types):
+    """Prints a clause, or all of a call, then the traits that the call is generic in, the types of the code, and the definitions, lowest crates first."""
+    for clause, (texts, _) in clauses(path, call).items():
+        if name in (clause, call):
+            print(f"==== {call}, {clause}\n\n{texts[0]}\n")
+    for it in traits(whole_text(f"{TOP}/{path}"), call, whole_text)[0]:
+        print(f"==== the trait of the code\n\n{it}\n")
+    for crate, it in type_texts(types):
+        print(f"==== {crate}, a type of the code\n\n{it}\n")
+    order = [line.split(":")[0].split()[0] for line in whole_text(f"{TOP}/crates.txt").split("\n") if ":" in line and not line.startswith("#")]
     by_file = collections.defaultdict(set)
-    for where, name in definitions:
-        by_file[where].add(name)
+    for where, it in definitions:
+        by_file[where].add(it)
     for where in sorted(by_file, key=lambda it: (order.index(it.split(".")[1]), it)):
         print(f"==== {os.path.relpath(modules()[where].path, TOP)}\n")
-        given = {name: it for it, name in paragraphs(modules()[where].path)}
-        for name, item in modules()[where].items.items():
-            if name in by_file[where]:
-                print(f"{given.get(name, item.text)}\n")
+        given = {it: text for text, it in paragraphs(modules()[where].path)}
+        for it, item in modules()[where].items.items():
+            if it in by_file[where]:
+                print(f"{given.get(it, item.text)}\n")
 
 
 def check_quotes():
@@ -312,21 +333,31 @@ def check_quotes():
                 yield f"{page}: the record {name} is not quoted as it stands"
 
 
+def asked(behind, calls):
+    """Prints what stands behind the clause or call that the words name."""
+    name = sys.argv[2]
+    path, call = next((it for it in calls if name == it[1] or name in clauses(*it)), (None, None))
+    if not call:
+        sys.exit(f"check_trusted: no call has a clause {name}; with rows of their own are {', '.join(behind)}")
+    definitions, types = behind[name][1] if name in behind else closure(clauses(path, call)[name][1])
+    if sys.argv[1] == "--text":
+        write_out(path, call, name, definitions, types)
+    else:
+        show(definitions)
+        print(*size(definitions))
+    return 0
+
+
 def main():
-    found = clauses(*RUN)
-    told = {name: clauses(*call)[name] for name, call in BOX.items()}
-    told |= {name: found[name] for name in ("crash_safe", "headline")}
-    behind = {name: (texts, closure(cited)) for name, (texts, cited) in told.items()}
-    behind["run"] = [it for texts, _ in found.values() for it in texts], closure(set().union(*(cited for _, cited in found.values())))
-    if sys.argv[1:2] in (["--list"], ["--text"]):
-        name = sys.argv[2]
-        definitions = behind[name][1] if name in behind else closure(found[name][1])
-        if sys.argv[1] == "--text":
-            write_out(definitions)
-        else:
-            show(definitions)
-            print(*size(definitions))
-        return 0
+    calls, behind = (RUN, *BOX), {}
+    for path, call in calls:
+        found = clauses(path, call)
+        behind |= {name: (texts, closure(cited)) for name, (texts, cited) in found.items() if name in ROWS}
+        behind[call] = list(dict.fromkeys(it for texts, _ in found.values() for it in texts)), closure(set().union(*(cited for _, cited in found.values())))
+    if sys.argv[1:2] in (["--list"], ["--text"]) and len(sys.argv) == 3:
+        return asked(behind, calls)
+    if sys.argv[1:]:
+        sys.exit(__doc__.split("\n")[2].strip())
     wrong = [*check_table(behind), *check_specs(), *check_imports(), *check_quotes()]
     print(*wrong, sep="\n", end="\n" * bool(wrong))
     return bool(wrong)

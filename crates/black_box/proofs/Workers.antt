@@ -19,7 +19,7 @@ use Rattle.heap_model.proofs.Step.Calls.{run_append}
 use Rattle.log_machine.proofs.ListLaws.{AllByRecursion-front}
 use Rattle.script_text.specs.declared.line.Line.{Line}
 use Rattle.script_text.specs.Script.{script}
-use Rattle.thread_play.specs.Worked.{IsWorked}
+use Rattle.thread_program.specs.Together.{IsWorked}
 use Rattle.heap_program.specs.declared.status.Status.{Status}
 use Rattle.heap_program.specs.Headline.{IsNotMade, made_super, made_core}
 use Rattle.heap_program.specs.Play.{IsRunning, lines_text, WroteFront}

@@ -10,7 +10,7 @@ use Rattle.graph_model.specs.Transaction.{serial, serial_replies}
 use Rattle.commit_order.specs.Heard.{replies_of_commits}
 use Rattle.commit_order.specs.SerialOrder.{HasPlainReplies}
 use Rattle.script_text.specs.declared.line.Line.{Line}
-use Rattle.thread_play.specs.Worked.{IsWorked}
+use Rattle.thread_program.specs.Together.{IsWorked}
 use Rattle.heap_program.specs.Play.{lines_text, WroteFront}
 use Rattle.heap_program.specs.declared.status.Status.{Status}
 use Rattle.heap_program.specs.declared.status.Status.TheVariants.{Done}

@@ -25,7 +25,7 @@ use Rattle.heap_model.specs.CoreRuns.{after_events, total_calls}
 use Rattle.heap_model.specs.Ending.{ending, all_events}
 use Rattle.heap_model.specs.Image.{StandsFor}
 use Rattle.script_text.specs.declared.line.Line.{Line}
-use Rattle.thread_play.specs.Worked.{IsWorked}
+pub use Rattle.thread_play.specs.Worked.{IsWorked}
 use Rattle.heap_program.specs.declared.status.Status.{Status}
 use Rattle.heap_program.specs.declared.status.Status.TheVariants as status
 use Rattle.heap_program.specs.Causes.{Unharmed}
