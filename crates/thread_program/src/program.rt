@@ -71,6 +71,8 @@ pub fn run<D: Disk + Send, S: Source, K: Sink, G: Gate + Sync, R: Threads + Wait
 
     // A run that ends before it makes or opens a heap leaves the disk and the sink as they were.
     ensures untouched { IsUntouching result.0 → (result.1 ≡ disk) × (sink.new ≡ sink.old) }
+    // So do words that are no command, also if memory runs out for them.
+    ensures unasked { command (map string_bytes words.now) ≡ None → (result.1 ≡ disk) × (sink.new ≡ sink.old) }
     // One that plays no script leaves the source as it was; one that plays a script and is done has read it to the end.
     ensures unread { ((asked : Command) → command (map string_bytes words.now) ≡ Some asked → IsPlay asked → ⊥) → source.new ≡ source.old }
     ensures read_whole { IsTrue S.tells → (asked : Command) → command (map string_bytes words.now) ≡ Some asked → IsPlay asked → result.0 ≡ Status.Done → S.left source.new ≡ [] }
