@@ -17,7 +17,7 @@ use Rattle.heap_core.specs.Causes.{reply_device}
 use Rattle.heap_core.specs.HeapState.{heap_disk}
 use Rattle.heap_program.specs.Causes.{DiskRose}
 use Rattle.heap_program.proofs.Causes.{reply_rose}
-use Rattle.shared_heap.specs.Follows.{IsCaused, IsUncut}
+use Rattle.thread_play.specs.Follows.{IsCaused, IsUncut}
 
 -- What rose after some calls has risen since before them, if it has not fallen.
 pub rose_from : (f s m n f' s' : ℕ) → f ≤ m → s ≤ n → m + n ≤ f' + s' → DiskRose m n f' s' → DiskRose f s f' s'

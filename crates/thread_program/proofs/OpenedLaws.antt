@@ -26,7 +26,7 @@ use Rattle.core_laws.proofs.Run.Calls.{of_session_front}
 use Rattle.core_laws.proofs.Run.Ending.{ending_of_session}
 use Rattle.core_laws.proofs.Run.Events.{run_reached}
 use Rattle.disk_model.proofs.KeepsLaws.{rose_until}
-use Rattle.shared_heap.specs.Follows.{events_of, StaysDisk, Reaches, ReachesOn, Follows}
+use Rattle.thread_play.specs.Follows.{events_of, StaysDisk, Reaches, ReachesOn, Follows}
 use Rattle.heap_program.specs.Causes.{DiskRose, CountsStay}
 use Rattle.heap_program.proofs.Causes.{disk_rose_since}
 use Rattle.heap_program.specs.Headline.{IsEndOfPlay}

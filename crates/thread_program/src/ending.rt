@@ -8,7 +8,7 @@ ghost use Rattle.heap_core.specs.Steps.{HeapStep, AreSteps};
 ghost use Rattle.heap_model.specs.Core.{Core, IsRun};
 ghost use Rattle.heap_program.specs.Causes.{DiskRose, CountsStay};
 ghost use Rattle.image_plan.specs.declared.superblock.Super.{Super};
-ghost use Rattle.shared_heap.specs.Follows.{StaysDisk};
+ghost use Rattle.thread_play.specs.Follows.{StaysDisk};
 ghost use Rattle.thread_program.specs.Ended.{EndsBy, is_played_out};
 
 use disk_model::Disk;

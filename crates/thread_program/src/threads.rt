@@ -19,7 +19,7 @@ ghost use Rattle.heap_recovery.specs.Faults.{IsLeftOf};
 ghost use Rattle.script_text.specs.declared.line.Line.{Line};
 ghost use Rattle.script_text.specs.declared.script.ScriptError.TheVariants.{Fault};
 ghost use Rattle.script_text.specs.Script.{script};
-ghost use Rattle.shared_heap.specs.Follows.{StaysDisk};
+ghost use Rattle.thread_play.specs.Follows.{StaysDisk};
 ghost use Rattle.thread_program.specs.Together.{RunsByWorkers, StepsTogether, IsPlayedTogether, EndsUnwritten, PrintsTogether, PrintsSomeTogether, RunsTogether};
 
 use crate::ending::make_ending;
