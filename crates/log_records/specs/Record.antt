@@ -27,6 +27,10 @@ spelling Collected = 10 ∷ []
 abbrev pub spellings : List Record → List ℕ
 spellings records = flat_map spelling records
 
+-- the record of one copy
+abbrev pub copy_record : ObjectCopy → Record
+copy_record copy = Copy copy.from copy.to copy.words
+
 -- the bytes begin with the record's spelling
 abbrev pub Begins : List ℕ → Record → Type 0
 Begins bytes rec = (rest : List ℕ) × (bytes ≡ spelling rec ++ rest)

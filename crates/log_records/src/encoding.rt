@@ -3,12 +3,12 @@ ghost use Rattle.std.specs.Prelude.{◌≡◌, ◌+◌, ◌*◌, ◌≤◌, ◌�
 ghost use Rattle.std.specs.Int.{w16, w32, w64, to_le_bytes};
 ghost use Rattle.log_records.specs.declared.Record.TheVariants.{Update, Commit, End, Scan, Flip};
 ghost use Rattle.log_records.specs.Copies.{word_bytes, write_bytes, copy_bytes};
-ghost use Rattle.log_records.specs.Record.{spelling};
+ghost use Rattle.log_records.specs.Record.{spelling, copy_record};
 
 use crate::{
-    BASE, BASE_HEAD_BYTES, COLLECTED, COMMIT, COMMIT_BYTES, COPY, COPY_HEAD_BYTES, Copies, END,
-    END_BYTES, FIX, FLIP, FLIP_HEAD_BYTES, ObjectCopy, PUT_BYTES, Record, SCAN, SCAN_HEAD_BYTES,
-    UNDO, UPDATE, UPDATE_BYTES, WORD_BYTES, WRITE_BYTES, Writes,
+    BASE, BASE_HEAD_BYTES, COLLECTED, COMMIT, COMMIT_BYTES, COPY, COPY_HEAD_BYTES, Copies, CopyRef,
+    END, END_BYTES, FIX, FLIP, FLIP_HEAD_BYTES, ObjectCopy, PUT_BYTES, Record, SCAN,
+    SCAN_HEAD_BYTES, UNDO, UPDATE, UPDATE_BYTES, WORD_BYTES, WRITE_BYTES, Writes,
 };
 use byteorder::{ByteOrder, LittleEndian};
 use std::alloc::AllocError;
@@ -52,6 +52,16 @@ pub fn encode(rec: &Record, into: &mut Vec<u8>) -> Result<(), AllocError>
         Record::Flip { copies } => encode_flip(copies, into),
         Record::Collected => into.extend_from_slice(&[COLLECTED]),
     }
+}
+
+/// Appends the spelling of a `Copy` whose words lie elsewhere. An `Err` changes nothing, and comes only if memory has to be allocated.
+pub fn encode_copy(copy: &CopyRef<'_>, into: &mut Vec<u8>) -> Result<(), AllocError>
+    ensures ok { OnOk result (into.new.items ≡ into.old.items ++ spelling (copy_record copy.now)) }
+    ensures err { OnErr result (into.new.items ≡ into.old.items) }
+    ensures in_room { vec_len into.old + length (spelling (copy_record copy.now)) ≤ vec_capacity into.old → IsOk result }
+    ensures capacity { vec_capacity into.old ≤ vec_capacity into.new }
+{
+    encode_object(COPY, copy.from(), copy.to(), copy.words(), into)
 }
 
 // Appends the spelling of a record of an object, as a `Base` and a `Copy` are: its kind, two numbers, and the object's

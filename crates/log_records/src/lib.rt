@@ -2,6 +2,7 @@
 #![tactic(auto)]
 
 mod copies;
+mod copy_ref;
 mod decoding;
 mod encoding;
 mod object_words;
@@ -11,8 +12,9 @@ ghost use Rattle.std.specs.Prelude.{◌≡◌, ◌+◌, ◌^◌, ◌<◌, length
 ghost use Rattle.log_records.specs.Record.{spelling};
 
 pub use copies::{Copies, ObjectCopy};
+pub use copy_ref::{CopyRef, copy_length};
 pub use decoding::decode;
-pub use encoding::encode;
+pub use encoding::{encode, encode_copy};
 pub use object_words::ObjectWords;
 pub use writes::Writes;
 
