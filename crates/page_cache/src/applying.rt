@@ -1,6 +1,7 @@
 //! Puts what a new record writes on its pages. No page has it yet, so no page's LSN is compared.
 ghost use Rattle.std.specs.Prelude.{◌≡◌, ℕ, ◌*◌, ◌<◌, ◌^◌, length, slice_index};
 ghost use Rattle.std.specs.List.{enumerate_from};
+ghost use Rattle.log_records.specs.Record.{copy_record};
 ghost use Rattle.log_machine.specs.Machine.{effect, put_all};
 ghost use Rattle.log_machine.specs.Effect.{WritesBelow};
 ghost use Rattle.page_redo.specs.Pages.{touched};
@@ -8,8 +9,8 @@ ghost use Rattle.page_redo.specs.Redo.{raised_to};
 ghost use Rattle.page_cache.specs.Writing.{AreBelow, lacking};
 
 use crate::raising::raise_from;
-use log_machine::Runs;
-use log_records::Record;
+use log_machine::{Runs, forwarding_word};
+use log_records::{CopyRef, Record};
 
 /// Puts what the record of that LSN writes, and raises the LSN of each page that it touches.
 pub(crate) fn apply_record(words: &mut [u64], lsns: &mut [u64], lsn: u64, rec: &Record)
@@ -24,6 +25,25 @@ pub(crate) fn apply_record(words: &mut [u64], lsns: &mut [u64], lsn: u64, rec: &
         put_words(words, run.address(), run.words());
         raise_from(lsns, lsn, run.address(), run.words());
     }
+}
+
+/// Puts what the record of a copy of that LSN writes, the copy and then the word that leads to it, and raises the LSN of each page that it
+/// touches.
+pub(crate) fn apply_copy(words: &mut [u64], lsns: &mut [u64], lsn: u64, copy: &CopyRef<'_>)
+    requires inside { WritesBelow (length words.old) (copy_record copy.now) }
+    requires whole { length words.old ≡ 64 * length lsns.old }
+    requires fits { 64 * length lsns.old < 2 ^ 64 }
+    requires new { (p : ℕ) → slice_index lsns.old p < lsn }
+    ensures words { words.new ≡ put_all words.old (lacking lsns.old lsn (effect words.old (copy_record copy.now))) }
+    ensures lsns { lsns.new ≡ raised_to lsn lsns.old (touched (copy_record copy.now)) }
+{
+    let to = copy.to() as usize;
+    put_words(words, to, copy.words());
+    raise_from(lsns, lsn, to, copy.words());
+    let from = copy.from() as usize;
+    let forwarding = [forwarding_word(copy.to())];
+    put_words(words, from, &forwarding);
+    raise_from(lsns, lsn, from, &forwarding);
 }
 
 // Puts words from an address on.

@@ -1,6 +1,7 @@
 //! The page cache: the pages of a heap in memory, over those that are stored on a disk.
 ghost use Rattle.std.specs.Prelude.{◌≡◌, ◌≢◌, ℕ, ◌+◌, ◌*◌, ◌^◌, ◌<◌, ◌≤◌, List, length, fold, slice_index, min, nat_lt, is_err, None, Some, IsTrue, IsFalse, OnOk, OnErr, IfOk, if◌then◌else◌};
 ghost use Rattle.log_records.specs.declared.Record.{Record};
+ghost use Rattle.log_records.specs.Record.{copy_record};
 ghost use Rattle.log_machine.specs.Machine.{put_record};
 ghost use Rattle.log_machine.specs.Effect.{WritesBelow, EachWritesBelow};
 ghost use Rattle.disk_model.specs.Disk.{Only};
@@ -20,7 +21,7 @@ ghost use Rattle.page_cache.specs.Stored.{stored_pages};
 use crate::cached::CachedPages;
 use disk_model::{Disk, DiskError};
 use image_plan::Plan;
-use log_records::Record;
+use log_records::{CopyRef, Record};
 use page_store::{PageStore, ReadPagesError};
 use std::alloc::{AllocError, Global};
 
@@ -160,6 +161,17 @@ impl PageCache {
         ensures store { cache_store self.new ≡ cache_store self.old }
     {
         self.pages.apply(lsn, rec);
+    }
+
+    /// The same for the record of a copy.
+    pub fn apply_copy(&mut self, lsn: u64, copy: &CopyRef<'_>)
+        requires new { EachLacks lsn (cached self.old) }
+        requires inside { WritesBelow (length (cached self.old).words) (copy_record copy.now) }
+        ensures words { (cached self.new).words ≡ put_record (cached self.old).words (copy_record copy.now) }
+        ensures redone { cached self.new ≡ redo_record lsn (cached self.old) (copy_record copy.now) }
+        ensures store { cache_store self.new ≡ cache_store self.old }
+    {
+        self.pages.apply_copy(lsn, copy);
     }
 
     /// Puts new records on their pages in order, of which the first has that LSN.

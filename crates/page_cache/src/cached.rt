@@ -1,13 +1,14 @@
 //! Pages in memory: records are put on those that lack them.
 ghost use Rattle.std.specs.Prelude.{◌≡◌, ℕ, ◌+◌, ◌*◌, ◌<◌, ◌^◌, None, Some, length, slice_index, vec_len};
+ghost use Rattle.log_records.specs.Record.{copy_record};
 ghost use Rattle.log_machine.specs.Effect.{WritesBelow, EachWritesBelow};
 ghost use Rattle.page_redo.specs.Pages.{page_words, lsn_of};
 ghost use Rattle.page_redo.specs.Redo.{EachLacks, redo_record, redo_all};
 
-use crate::applying::apply_record;
+use crate::applying::{apply_copy, apply_record};
 use crate::putting::put_record;
 use crate::raising::raise_touched;
-use log_records::Record;
+use log_records::{CopyRef, Record};
 use page_store::PAGE_WORDS;
 use std::marker::Model;
 
@@ -117,6 +118,15 @@ impl CachedPages {
         ensures { self.new ≡ redo_record lsn self.old rec.now }
     {
         apply_record(&mut self.words, &mut self.lsns, lsn, rec);
+    }
+
+    /// The same for the record of a copy.
+    pub fn apply_copy(&mut self, lsn: u64, copy: &CopyRef<'_>)
+        requires new { EachLacks lsn self.old }
+        requires inside { WritesBelow (length self.old.words) (copy_record copy.now) }
+        ensures { self.new ≡ redo_record lsn self.old (copy_record copy.now) }
+    {
+        apply_copy(&mut self.words, &mut self.lsns, lsn, copy);
     }
 
     /// Puts new records, in order, on their pages, which all lack them. The first of them has that LSN.
