@@ -1,7 +1,7 @@
 -- A collection beside the transactions: the objects that a flip copies, and the records of a flip, of a scan, and of the scan that comes before
 -- a field is read or written.
-use Rattle.std.specs.Prelude.{ℕ, ◌*◌, ◌==◌, ◌||◌, List, [], ◌∷◌, Bool, false, length, map, filter, fold, min, sum_by, unwrap_or, slice_index, Option, None, Some, if◌then◌else◌}
-use Rattle.std.specs.List.{list_any, flat_map, range_with_len}
+use Rattle.std.specs.Prelude.{ℕ, ◌*◌, ◌==◌, ◌||◌, List, [], ◌∷◌, Bool, false, length, map, filter, fold, min, sum_by, unwrap_or, Option, None, Some, if◌then◌else◌}
+use Rattle.std.specs.List.{list_any, range_with_len}
 use Rattle.std.specs.Option.{option_map}
 use Rattle.std.specs.FinSet.{contains, items}
 use Rattle.graph_model.specs.declared.id.Id.{Id}
@@ -22,11 +22,12 @@ use Rattle.heap_spaces.specs.Collection.{Collection, page_of}
 use Rattle.heap_spaces.specs.Spaces.{SpacesState}
 use Rattle.log_records.specs.declared.copies.ObjectCopy.{ObjectCopy}
 use Rattle.log_records.specs.declared.Record.{Record}
-use Rattle.log_records.specs.declared.Record.TheVariants.{Copy, Collected}
+use Rattle.log_records.specs.declared.Record.TheVariants.{Collected}
 use Rattle.log_machine.specs.declared.UndoEntry.{UndoEntry}
 use Rattle.log_machine.specs.Machine.{State, spaces_of}
 use Rattle.graph_words.specs.Places.{Places, made_by}
 use Rattle.flip_copy.specs.Copied.{copies_in, flip_record, copied_size}
+pub use Rattle.page_scanner.specs.Copied.{copied_by, copied_in}
 use Rattle.page_scanner.specs.Scan.{scan_records}
 use Rattle.read_barrier.specs.Barrier.{barrier_page_of}
 use Rattle.heap_words.specs.declared.TheConstants.{PAGE_WORDS}
@@ -139,15 +140,7 @@ scan_event_records (Some s) words = scan_records_in s words s.collection (next_p
 
 -- Answers.
 
--- what a record copies
-abbrev pub copied_by : Record → List CopiedObject
-copied_by (Copy from to words) = record { from = from; to = to; header = slice_index words 0; words = length words } ∷ []
-copied_by rec = []
-
--- what these records copy
-abbrev pub copied_in : List Record → List CopiedObject
-copied_in records = flat_map copied_by records
-
+-- how many words the objects have that these records copy
 abbrev pub words_copied : List Record → ℕ
 words_copied records = sum_by (λ (c : CopiedObject). c.words) (copied_in records)
 

@@ -1,9 +1,12 @@
 pub mod After
+mod Chains
+pub mod Copies
 mod Errors
 mod Fields
 mod Following
 mod Headers
 mod Loops
+mod Plans
 pub mod Rising
 pub mod Steps
 pub mod Total

@@ -10,7 +10,6 @@ use Rattle.heap_words.specs.Word.{meaning}
 use Rattle.heap_spaces.specs.Collection.{Collection}
 use Rattle.heap_spaces.specs.Spaces.{SpacesState, space_words}
 use Rattle.object_layout.specs.Layout.{object_at, field_words}
-use Rattle.log_records.specs.declared.Record.{Record}
 use Rattle.log_records.specs.Record.{IsObjectWords}
 use Rattle.page_scanner.specs.Bounds.{AreGrayApart}
 use Rattle.page_scanner.specs.Scan.{from_base, in_from_space, object_words}

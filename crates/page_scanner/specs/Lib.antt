@@ -1,5 +1,9 @@
 pub mod Bounds
+pub mod Copied
+pub mod Destinations
 pub mod Heap
+pub mod PageCopies
+pub mod PageScan
 pub mod Passing
 pub mod Plan
 pub mod Scan

@@ -1,13 +1,20 @@
 -- A plan as it lies in memory.
-use Rattle.std.specs.Prelude.{◌≡◌, ℕ, ◌+◌, ◌-◌, ◌≤◌, ◌<◌, ◌&&◌, nat_le, nat_lt, nat_eq, Bool, List, length, slice_index_or, slice_set, Option, None, Some, if◌then◌else◌}
-use Rattle.std.specs.HashMap as hash
+use Rattle.std.specs.Prelude.{◌≡◌, ℕ, ◌+◌, ◌-◌, ◌≤◌, ◌<◌, ◌&&◌, nat_le, nat_lt, Bool, List, ◌++◌, length, map, slice_index_or, slice_set, Option, None, Some, if◌then◌else◌}
 use Rattle.heap_words.specs.declared.TheConstants.{PAGE_WORDS}
+use Rattle.log_records.specs.declared.Record.{Record}
+use Rattle.log_records.specs.Record.{copy_record}
 use Rattle.page_scanner.specs.declared.plan.Plan.{Plan}
+use Rattle.page_scanner.specs.Destinations.{goes_to}
+use Rattle.page_scanner.specs.PageScan.{copies_of, HaveWords}
 use Rattle.page_scanner.specs.Scan.{Planned, copied_to, copied_from}
+
+-- the records of its copies
+abbrev pub copy_records : Plan → List Record
+copy_records plan = map copy_record (copies_of plan.copies.items plan.words.items)
 
 -- what it says
 abbrev pub planned : Plan → Planned
-planned plan = record { copies = plan.copies.items; writes = plan.writes.items; size = plan.size }
+planned plan = record { copies = copy_records plan; writes = plan.writes.items; size = plan.size }
 
 -- a word address lies in the page that begins at `first`
 abbrev pub is_in_page : ℕ → ℕ → Bool
@@ -17,9 +24,16 @@ is_in_page first at = nat_le first at && nat_lt (at - first) PAGE_WORDS
 abbrev pub with_source : List (Option ℕ) → ℕ → ℕ → ℕ → List (Option ℕ)
 with_source sources first from to = if is_in_page first to then slice_set sources (to - first) (Some from) else sources
 
--- It knows where each object goes, and where each copy in the page comes from, and the copies have no more words than the largest space.
+-- that many words stand after the others
+abbrev pub HasRunAfter : List ℕ → List ℕ → ℕ → Type 0
+HasRunAfter before after n = (run : List ℕ) × (after ≡ before ++ run) × (length run ≡ n)
+
+-- It has the words of its copies, no more than the largest space, and knows where each object goes, and where each copy in the page comes from.
 pub record IsPlan (plan : Plan) : Type 0 where
-  pub going : (b : ℕ) → hash.get nat_eq plan.destinations b ≡ copied_to plan.copies.items b
-  pub places : length plan.sources ≡ PAGE_WORDS
-  pub coming : (place : ℕ) → place < PAGE_WORDS → slice_index_or plan.sources place None ≡ copied_from plan.copies.items (plan.first + place)
+  pub filled : HaveWords plan.copies.items plan.words.items
+  pub counted : plan.size ≡ length plan.words.items
   pub small : plan.size ≤ 1048576
+  pub listed : length plan.destinations ≡ length plan.copies.items
+  pub going : (b : ℕ) → goes_to plan.destinations b ≡ copied_to (copy_records plan) b
+  pub places : length plan.sources ≡ PAGE_WORDS
+  pub coming : (place : ℕ) → place < PAGE_WORDS → slice_index_or plan.sources place None ≡ copied_from (copy_records plan) (plan.first + place)

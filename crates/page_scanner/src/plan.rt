@@ -8,28 +8,28 @@ ghost use Rattle.page_scanner.specs.declared.scan_error.ScanError.TheVariants.{D
 ghost use Rattle.page_scanner.specs.Scan as plans;
 ghost use Rattle.page_scanner.specs.ScanFailure.{scan_failure};
 
+use crate::destinations::Destinations;
 use crate::reading::{field_count, header_at, read_words};
 use crate::scan_error::ScanError;
 use crate::spaces::{is_in_from_space, is_left, space_words};
-use heap_spaces::{Collection, Spaces};
+use heap_spaces::{Collection, CopiedObject, Spaces};
 use heap_words::{FIELDS_AT, Header, PAGE_WORDS, STABLE_WORDS, Word, decode, encode};
-use log_records::{ObjectWords, Record};
 use object_layout::{Words, object_at};
 use std::alloc::Global;
-use std::collections::HashMap;
 
 /// What a scan has planned so far.
 #[derive(Drop)]
 pub(crate) struct Plan {
-    pub(crate) alloc: Global,
-    /// The copies, in their order.
-    pub(crate) copies: Vec<Record>,
+    /// The objects that are copied, in their order.
+    pub(crate) copies: Vec<CopiedObject>,
+    /// The words of all copies, one after another.
+    pub(crate) words: Vec<u64>,
     /// The fields that are redirected to the current space, each by its address and its new word.
     pub(crate) writes: Vec<(u32, u64)>,
     /// How many words the copies have.
     pub(crate) size: u32,
     /// Where each object that is copied goes.
-    pub(crate) destinations: HashMap<u32, u32>,
+    pub(crate) destinations: Destinations,
     /// The address of the page's first word.
     pub(crate) first: u32,
     /// Where each copy comes from that stands in the page, by its place there.
@@ -47,11 +47,11 @@ impl Plan {
         ensures plan { IsPlan result }
     {
         Plan {
-            alloc,
             copies: Vec::new(alloc),
+            words: Vec::new(alloc),
             writes: Vec::new(alloc),
             size: 0,
-            destinations: HashMap::new(alloc),
+            destinations: Destinations::new(alloc),
             first,
             sources: [None; PAGE_WORDS as usize],
         }
@@ -201,7 +201,7 @@ impl Plan {
         requires { IsPlan self.now }
         ensures { result ≡ plans.copied_to (planned self.now).copies object }
     {
-        self.destinations.get(&object).copied()
+        self.destinations.get(object)
     }
 
     // Copies an object to the next words of the current space, and returns where that is.
@@ -231,8 +231,7 @@ impl Plan {
             return Err(ScanError::Damaged);
         }
         let to = self.next_free(spaces);
-        let run = read_words(self.alloc, words, object, object + size)?;
-        self.note(object, to, size, run)?;
+        self.append(words, object, to, size)?;
         Ok(to)
     }
 
@@ -262,20 +261,38 @@ impl Plan {
         spaces.next_free() + self.size
     }
 
-    // Plans a copy of these words.
-    fn note(&mut self, from: u32, to: u32, size: u32, run: Vec<u64>) -> Result<(), ScanError>
+    // Appends a copy of the `size` words from an address on.
+    fn append<W: Words>(
+        &mut self,
+        words: &mut W,
+        from: u32,
+        to: u32,
+        size: u32,
+    ) -> Result<(), ScanError>
         requires plan { IsPlan self.old }
         requires small { self.old.size + size ≤ 1048576 }
-        ensures copies { OnOk result (self.new.copies.items ≡ self.old.copies.items ++ CopyOf from to run.items ∷ []) }
+        requires some { 0 < size }
+        requires within { from + size ≤ W.extent words.old }
+        ensures copies { IsTrue W.tells → OnOk result ((planned self.new).copies ≡ (planned self.old).copies ++ CopyOf from to (take size (drop from (W.content words.old))) ∷ []) }
         ensures writes { OnOk result (self.new.writes.items ≡ self.old.writes.items) }
         ensures size { OnOk result (self.new.size ≡ self.old.size + size) }
         ensures plan { OnOk result (IsPlan self.new) }
         ensures first { OnOk result (self.new.first ≡ self.old.first) }
-        ensures failure { (result ≡ Err Damaged → ⊥) × (scan_failure result ≡ None) }
+        ensures possible { result ≡ Err Damaged → ⊥ }
+        ensures read { IsRead W.tells W.extent W.content W.keeps W.faults W.stops words.old words.new (scan_failure result) }
     {
-        let words = ObjectWords::new(run);
-        self.copies.push(Record::Copy { from, to, words })?;
-        self.destinations.insert(from, to)?;
+        // Words end within 32 bits.
+        let _end = words.size();
+        let place = self.words.len();
+        read_words(words, from, from + size, &mut self.words)?;
+        let header = self.words[place];
+        self.copies.push(CopiedObject {
+            from,
+            to,
+            header,
+            words: size,
+        })?;
+        self.destinations.add(from, to)?;
         self.note_source(from, to);
         self.size += size;
         Ok(())

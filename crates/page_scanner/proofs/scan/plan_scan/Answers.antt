@@ -3,6 +3,7 @@ use Rattle.std.proofs.Common.{◌≡◌, Some, Result, Ok, Err, sym, ap, ◌∙�
 use Rattle.std.specs.Prelude.{IfOk}
 use Rattle.heap_spaces.specs.Spaces.{SpacesState}
 use Rattle.std.specs.Option.{option_map}
+use Rattle.page_scanner.specs.PageScan.{records_in}
 use Rattle.page_scanner.specs.Scan.{records_of, scan_records}
 use Rattle.page_scanner.proofs.Following.{scans}
 use Rattle.page_scanner.proofs.Rising.{bounds}
@@ -18,9 +19,9 @@ returns-clause-passes g c told =
     let words = g.W.Words.content c.args.words.now in
     let k = c.args.collection.now in
     if_ok c.plan_records.result _ _
-    (λ records is s same runs.
-    let Planned : SpacesState → Type 0 = λ spaces. scan_records spaces k words c.args.page ≡ Some records.items in
-    scans s k words c.args.page records.items runs (subst Planned (sym same) is))
+    (λ planned is s same runs.
+    let Planned : SpacesState → Type 0 = λ spaces. scan_records spaces k words c.args.page ≡ Some (records_in planned) in
+    scans s k words c.args.page (records_in planned) runs (subst Planned (sym same) is))
     (c.plan_records.ensures.records told)
 
 pub returns-clause-whole : goal.returns-clause-whole
@@ -34,12 +35,12 @@ pub returns-clause-spelled : goal.returns-clause-spelled
 returns-clause-spelled g c told heap =
     let words = g.W.Words.content c.args.words.now in
     if_ok c.plan_records.result _ _
-    (λ records is. all_spelled c.args.spaces.now c.args.collection.now words c.args.page records.items heap is)
+    (λ planned is. all_spelled c.args.spaces.now c.args.collection.now words c.args.page (records_in planned) heap is)
     (c.plan_records.ensures.records told)
 
 pub returns-clause-small : goal.returns-clause-small
 returns-clause-small g c told =
     let words = g.W.Words.content c.args.words.now in
     if_ok c.plan_records.result _ _
-    (λ records is apart. bounds c.args.spaces.now c.args.collection.now words c.args.page records.items apart is)
+    (λ planned is apart. bounds c.args.spaces.now c.args.collection.now words c.args.page (records_in planned) apart is)
     (c.plan_records.ensures.records told)

@@ -1,10 +1,11 @@
 -- One field after another is followed.
 use Rattle.std.proofs.Common.{◌≡◌, ℕ, ◌+◌, ◌<◌, length, List, Err, None, Some, ap, ◌∙◌, subst, get_or, arith}
 use Rattle.heap_words.specs.Word.{meaning}
+use Rattle.object_layout.specs.Read.{IsRead}
 use Rattle.page_scanner.specs.Plan.{planned}
 use Rattle.page_scanner.specs.Scan.{follow}
 use Rattle.object_layout.proofs.ReadLaws.{read_on}
-use Rattle.page_scanner.proofs.Errors.{handed_on}
+use Rattle.page_scanner.proofs.Errors.{failure_on, handed_on}
 use Rattle.page_scanner.proofs.Loops.{follow_on, follow_stop}
 use Rattle.page_scanner.proofs.plan.Plan.follow_all.Goals as goal
 
@@ -23,6 +24,14 @@ returns-in_err-follow-clause-damaged g c told is =
     (c.in_err-follow.ensures.damaged told (ap Err (handed_on c.from_residual-in_err-follow.result _ c.from_residual-in_err-follow.ensures.1 is))) in
     c.loop-field.invariant.followed told
     ∙ follow_stop c.args.spaces.now c.args.collection.now words (planned c.loop-field.self) c.args.at c.args.source field c.args.n c.in_ok-word.word before within word stop
+
+pub returns-in_err-follow-clause-read : goal.returns-in_err-follow-clause-read
+returns-in_err-follow-clause-read g c =
+    subst (IsRead g.W.Words.tells g.W.Words.extent g.W.Words.content g.W.Words.keeps g.W.Words.faults g.W.Words.stops c.args.words.now c.follow.new.words)
+    (failure_on c.from_residual-in_err-follow.result _ c.from_residual-in_err-follow.ensures.1)
+    (read_on _ _ _ _ _ _ _ _ _ _ g.met.W.Words.keeps_on
+    (read_on _ _ _ _ _ _ _ _ _ _ g.met.W.Words.keeps_on c.loop-field.invariant.read c.in_ok-word.ensures.read)
+    c.in_err-follow.ensures.read)
 
 pub loop-field-preserved : goal.loop-field-preserved
 loop-field-preserved g c = record {
