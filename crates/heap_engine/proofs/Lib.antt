@@ -1,9 +1,11 @@
 pub mod Alone
 pub mod Applied
+pub mod Appended
 pub mod CallsCore
 pub mod DeviceCalls
 pub mod Ends
 pub mod EventCore
+pub mod FieldRefused
 pub mod FlushCore
 pub mod FlushDisk
 pub mod ForceCore
@@ -16,6 +18,7 @@ pub mod GrayPages
 pub mod Left
 pub mod Made
 pub mod ObjectFields
+pub mod PlannedScan
 pub mod ReadAnswer
 pub mod ReserveLaws
 pub mod Reserved

@@ -1,14 +1,14 @@
 -- What holds of a log still holds after more memory was allocated for it.
-use Rattle.std.proofs.Common.{◌≡◌, ℕ, ◌+◌, ◌<◌, ◌≤◌, ◌^◌, List, [], append-nil, sym, ◌∙◌, subst, arith}
+use Rattle.std.proofs.Common.{◌≡◌, ℕ, ◌+◌, ◌≤◌, List, [], append-nil, sym, ◌∙◌, subst, arith}
 use Rattle.std.proofs.lemmas.Bool.Decides.{nat_tests}
 use Rattle.gated_log.specs.declared.log.Log.{Log}
 use Rattle.gated_log.specs.LogRoom.{used_bytes}
-use Rattle.gated_log.specs.LogState.{log_room, log_tail, buffer_size, log_count, log_used, log_used_with, IsSameLog, Keeps}
+use Rattle.gated_log.specs.LogState.{log_count, log_used, log_used_with, IsSameLog, Keeps}
 use Rattle.heap_memory.specs.Leaves.{Adds}
 use Rattle.log_records.specs.declared.Record.{Record}
 use Rattle.memory_laws.proofs.Kept.Log.{keeps_same}
 use Rattle.page_redo.specs.Pages.{Pages}
-use Rattle.page_redo.specs.Redo.{EachLacks, redo_all}
+use Rattle.page_redo.specs.Redo.{EachLacks}
 
 module _ (old mid : Log) (same : IsSameLog old mid) where
   -- the records that are added to it are added to the log as it was

@@ -14,9 +14,9 @@ use Rattle.log_machine.specs.declared.UndoEntry.{UndoEntry}
 use Rattle.log_machine.specs.Machine.{field_at, abort_records, end_bytes}
 use Rattle.log_machine.proofs.AbortLaws.{abort_length}
 use Rattle.log_machine.proofs.ListLaws.{AllByRecursion-reverse}
-use Rattle.graph_model.specs.declared.reply.Refusal.TheVariants.{LogFull, Exhausted}
-use Rattle.heap_memory.specs.Refusals.{no_room, space_refusal}
-use Rattle.heap_spaces.specs.Spaces.{SpacesState, IsSpaces, free_words, open_words, with_taken}
+use Rattle.graph_model.specs.declared.reply.Refusal.TheVariants.{LogFull}
+use Rattle.heap_memory.specs.Refusals.{no_room}
+use Rattle.heap_spaces.specs.Spaces.{SpacesState, IsSpaces, open_words, with_taken}
 use Rattle.heap_engine.specs.Reserve.{WroteBelow}
 
 -- a space begins below the end of the addresses that a reference can have

@@ -1,5 +1,5 @@
 -- The event that scans the next page: which page that is, its records and its answers.
-use Rattle.std.proofs.Common.{◌≡◌, ℕ, ◌/◌, ◌<◌, List, length, Option, None, Some, Result, Ok, refl, sym, ap, ◌∙◌, subst, arith}
+use Rattle.std.proofs.Common.{◌≡◌, ℕ, ◌/◌, ◌<◌, List, Option, None, Some, Result, Ok, refl, sym, ap, ◌∙◌, subst, arith}
 use Rattle.std.specs.Prelude.{IfOk}
 use Rattle.std.specs.declared.alloc.AllocError.{AllocError}
 use Rattle.heap_spaces.specs.Collection.{Collection}
@@ -11,7 +11,7 @@ use Rattle.graph_model.specs.declared.reply.Reply.TheVariants.{Scanned, Collecte
 use Rattle.graph_model.specs.Plain.{reply_of}
 use Rattle.log_records.specs.declared.Record.{Record}
 use Rattle.heap_memory.specs.Memory.{Memory}
-use Rattle.heap_memory.specs.Collecting.{IsNextPage, page_records, copied_in, words_copied, scan_event_records, spaces_behind, collection_behind}
+use Rattle.heap_memory.specs.Collecting.{IsNextPage, page_records, scan_event_records, spaces_behind, collection_behind}
 use Rattle.heap_memory.specs.Leaves.{Leaves, Scans}
 use Rattle.heap_memory.specs.Refusals.{records_room, scan_refusal}
 use Rattle.heap_memory.specs.Replies.{scan_reply, scan_reply_of}

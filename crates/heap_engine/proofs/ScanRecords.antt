@@ -2,7 +2,7 @@
 use Rattle.std.proofs.Common.{◌≡◌, ℕ, zero, suc, ◌+◌, ◌*◌, ◌<◌, ◌≤◌, ◌==◌, ◌&&◌, Bool, true, false, List, [], ◌∷◌, ◌++◌, length, drop, Option, None, Some, nat_le, nat_lt, refl, ap, subst, arith, length-append, length-take}
 use Rattle.std.specs.Prelude.{slice_index, option_and_then, if◌then◌else◌}
 use Rattle.std.specs.List.{AllByRecursion}
-use Rattle.std.proofs.lemmas.Bool.{le-leb, lt-ltb, leb-true}
+use Rattle.std.proofs.lemmas.Bool.{le-leb, lt-ltb}
 use Rattle.std.proofs.lemmas.Option.{same_Some}
 use Rattle.std.specs.Cmp.{nat_eq_equiv}
 use Rattle.heap_words.specs.declared.Header.{Header}
@@ -20,7 +20,7 @@ use Rattle.object_layout.specs.Layout.{whole_length, object_at, field_words}
 use Rattle.object_layout.proofs.LayoutLaws.{object_small}
 use Rattle.page_scanner.specs.Scan.{Planned, nothing, copied_to, in_from_space, next_free, object_words, can_copy, with_copy, copied, can_write, written, led, led_on, follow, follow_all, is_gray, source, visit, visit_all, is_current, scan, scan_records}
 use Rattle.page_scanner.proofs.Steps.{two_steps, tested, planned_parts, IsKept, kept_scan}
-use Rattle.heap_engine.specs.Barrier.{is_page_scan, HasFewWords}
+use Rattle.heap_engine.specs.Barrier.{is_page_scan}
 use Rattle.heap_engine.proofs.ObjectFields.{fields_few}
 
 -- a record is a copy of an object
@@ -133,16 +133,3 @@ scan_shaped spaces k words page records is =
     let kept = kept_scan AreSmallCopies spaces k words (small_kept spaces k words) page plan.0 tt plan.1 in
     let few = few_writes spaces k words page plan.0 (is_current spaces page) plan.1 in
     subst (λ rs. is_page_scan page rs ≡ true) plan.2 (behind_copies page plan.0.copies plan.0.writes kept.1 few)
-
-both_parts : (a b : Bool) → (a && b) ≡ true → (a ≡ true) × (b ≡ true)
-both_parts true b is = (refl, is)
-both_parts false b is = absurd (cc is)
-
--- each copy among them has no more words than an object
-pub scan_few_words : (page : ℕ) (records : List Record) → is_page_scan page records ≡ true → AllByRecursion HasFewWords records
-scan_few_words page [] is = tt
-scan_few_words page (Scan scanned writes ∷ []) is = (tt, tt)
-scan_few_words page (Copy from to words ∷ records) is =
-    let parts = both_parts (nat_le (length words) 512) (is_page_scan page records) is in
-    (leb-true (length words) 512 parts.0, scan_few_words page records parts.1)
-scan_few_words page (rec ∷ records) is = absurd (cc is)

@@ -25,7 +25,7 @@ use Rattle.heap_memory.specs.Leaves.{Adds, Leaves, LeavesOwn, IsAsItWas, GetsAt,
 use Rattle.heap_model.specs.Lsns.{log_next_lsn}
 use Rattle.page_redo.specs.Redo.{redo_all}
 use Rattle.heap_engine.specs.declared.barrier.PagePlan.{PagePlan}
-use Rattle.heap_engine.specs.Barrier.{words_of, scanned_by, word_after, is_scan_of, CanScan, IsSoundCollection}
+use Rattle.heap_engine.specs.Barrier.{planned_records, page_in, words_of, scanned_by, word_after, is_scan_of, CanScan, IsSoundCollection}
 use Rattle.heap_engine.proofs.Left.{from_same, left_then}
 use Rattle.heap_engine.proofs.ScanBehind.{scan_spaces, scan_collection, scan_word}
 use Rattle.heap_engine.proofs.Tables.{there, told, turned}
@@ -43,16 +43,16 @@ pub record IsNoted (old : SpacesState) (runs : Option Collection) (records : Lis
   pub spaces : new ≡ spaces_behind old records
   pub collection : now ≡ collection_behind runs records
 
-pub noted : (plan : PagePlan) (old new : SpacesState) (runs mid now : Option Collection) (copies : List CopiedObject) → copies ≡ copied_in plan.records.items → mid ≡ option_map (λ k. with_copies k copies) runs
-    → new ≡ with_copied old (words_of (copied_in plan.records.items)) → now ≡ option_map (λ k. scanned_by k plan.page) mid → IsNoted old runs plan.records.items new now
+pub noted : (plan : PagePlan) (old new : SpacesState) (runs mid now : Option Collection) (copies : List CopiedObject) → copies ≡ copied_in (planned_records plan.scan) → mid ≡ option_map (λ k. with_copies k copies) runs
+    → new ≡ with_copied old (words_of (copied_in (planned_records plan.scan))) → now ≡ option_map (λ k. scanned_by k (page_in plan.scan)) mid → IsNoted old runs (planned_records plan.scan) new now
 noted plan old new runs mid now copies are kept spaces collection =
-    let scans : is_scan_of plan.page plan.records.items ≡ true = plan.scans in
+    let scans : is_scan_of (page_in plan.scan) (planned_records plan.scan) ≡ true = plan.scans in
     record {
-      spaces = spaces ∙ sym (scan_spaces plan.page plan.records.items old scans);
+      spaces = spaces ∙ sym (scan_spaces (page_in plan.scan) (planned_records plan.scan) old scans);
       collection =
           collection
-          ∙ ap (option_map (λ k. scanned_by k plan.page)) (kept ∙ ap (λ (cs : List CopiedObject). option_map (λ k. with_copies k cs) runs) are)
-          ∙ scan_collection plan.page plan.records.items runs scans;
+          ∙ ap (option_map (λ k. scanned_by k (page_in plan.scan))) (kept ∙ ap (λ (cs : List CopiedObject). option_map (λ k. with_copies k cs) runs) are)
+          ∙ scan_collection (page_in plan.scan) (planned_records plan.scan) runs scans;
     }
 
 module _ (m : Memory) (records : List Record) (ready : CanScan m records) (new : SpacesState) (now : Option Collection) (is : IsNoted m.spaces m.collection records new now) where

@@ -4,7 +4,7 @@ use Rattle.std.specs.Prelude.{IsOk, OnOk, OnErr}
 use Rattle.std.proofs.lemmas.Bool.Decides.{nat_tests}
 use Rattle.gated_log.specs.declared.log.Log.{Log}
 use Rattle.gated_log.specs.LogRoom.{used_bytes, need_bytes}
-use Rattle.gated_log.specs.LogState.{log_tail, buffer_size, log_used, log_used_with, log_need, IsBufferEmpty, IsSameLog, HasSpare, KeepsMemory}
+use Rattle.gated_log.specs.LogState.{log_tail, buffer_size, log_used, log_used_with, log_need, IsBufferEmpty, HasSpare, KeepsMemory}
 
 used_tells : (tail a b : ℕ) → 4 ≤ a → 4 ≤ b → used_bytes tail a ≡ used_bytes tail b → a ≡ b
 used_tells tail a b one two is = grind (arith, nat_tests)

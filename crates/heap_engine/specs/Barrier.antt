@@ -12,6 +12,7 @@ use Rattle.log_records.specs.declared.Record.{Record}
 use Rattle.log_records.specs.declared.Record.TheVariants.{Copy, Scan}
 use Rattle.log_records.specs.Record.{spellings}
 use Rattle.log_machine.specs.Effect.{EachWritesBelow}
+use Rattle.page_scanner.specs.PageScan.{ScanState, records_in}
 use Rattle.heap_memory.specs.Memory.{Memory}
 use Rattle.heap_memory.specs.Collecting.{copied_in, spaces_behind, collection_behind}
 
@@ -23,16 +24,20 @@ is_page_scan page (Scan scanned writes ∷ []) = scanned == page && nat_lt (leng
 is_page_scan page (Copy from to words ∷ records) = nat_le (length words) 512 && is_page_scan page records
 is_page_scan page records = false
 
--- a copy has no more words than an object has
-abbrev pub HasFewWords : Record → Type 0
-HasFewWords (Copy from to words) = length words ≤ 512
-HasFewWords rec = Unit {0}
-
 -- the same if a page is scanned, and otherwise there are none
 abbrev pub is_scan_of : Option ℕ → List Record → Bool
 is_scan_of (Some page) records = is_page_scan page records
 is_scan_of None [] = true
 is_scan_of None (rec ∷ records) = false
+
+-- the records of a scan that is planned_records, if there is one
+abbrev pub planned_records : Option ScanState → List Record
+planned_records None = []
+planned_records (Some scan) = records_in scan
+
+-- the page that it scans
+abbrev pub page_in : Option ScanState → Option ℕ
+page_in scan = option_map (λ (s : ScanState). s.page) scan
 
 -- The words.
 

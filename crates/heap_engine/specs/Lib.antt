@@ -1,3 +1,4 @@
+pub mod Appended
 pub mod Barrier
 pub mod Ending
 pub mod EngineState

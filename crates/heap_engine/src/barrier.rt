@@ -1,113 +1,125 @@
 //! The read barrier: the scan of a page that an event makes first, inside its own step, so that no transaction meets a reference to the
 //! from-space.
-ghost use Rattle.std.specs.Prelude.{◌≡◌, ℕ, ◌+◌, ◌<◌, ◌≤◌, ◌^◌, [], ◌↔◌, Option, None, Some, IfOk, OnOk, OnErr, IsTrue, fold, option_map, length, slice_index, sum_by};
-ghost use Rattle.std.specs.List.{AllByRecursion};
+ghost use Rattle.std.specs.Prelude.{◌≡◌, ℕ, ◌+◌, ◌<◌, ◌≤◌, ◌^◌, [], ◌↔◌, Option, None, Some, IfOk, IfSome, OnOk, OnErr, IsTrue, fold, option_map, length};
 ghost use Rattle.heap_memory.specs.Collecting.{copied_in};
 ghost use Rattle.heap_spaces.specs.declared.collection.CopiedObject.{CopiedObject};
 ghost use Rattle.heap_spaces.specs.Collection.{Collection};
 ghost use Rattle.heap_spaces.specs.Copying.{with_copies};
 ghost use Rattle.heap_spaces.specs.Spaces.{with_copied};
-ghost use Rattle.log_records.specs.Record.{spellings};
-ghost use Rattle.heap_engine.specs.Barrier.{is_page_scan, is_scan_of, HasFewWords, CanKeep, HasKept, AreNewTo, CanScan, words_of, copied_word, write_at, word_with, word_after, scanned_by};
+ghost use Rattle.log_records.specs.Record.{copy_record, spellings};
+ghost use Rattle.page_scanner.specs.PageScan.{records_in};
+ghost use Rattle.heap_engine.specs.Barrier.{is_page_scan, is_scan_of, page_in, planned_records, CanKeep, HasKept, AreNewTo, CanScan, words_of, copied_word, write_at, word_with, word_after, scanned_by};
 
 use crate::engine::Engine;
-use crate::log_room::bytes_of;
 use heap_spaces::{Collection, CopiedObject, Spaces};
 use log_machine::forwarding_word;
-use log_records::Record;
+use log_records::CopyRef;
 use object_layout::WordSlice;
-use page_scanner::plan_scan;
+use page_scanner::{PageScan, plan_scan};
 use read_barrier::needs_scan;
-use std::alloc::{AllocError, Global};
+use std::alloc::AllocError;
 
-/// The scan of a page as it is planned, from words that are only read. An event that needs no scan has one without records.
+/// The scan that an event makes first, if it needs one, as it is planned from words that are only read.
 #[derive(Debug, Drop)]
 pub(crate) struct PagePlan {
-    page: Option<u32>,
-    records: Vec<Record>,
-    copies: Vec<CopiedObject>,
-    // There are records exactly where there is a page, and they are those of its scan.
-    ghost scans: { IsTrue (is_scan_of page records.items) },
-    ghost low: { (p : ℕ) → page ≡ Some p → p < 2 ^ 26 },
-    ghost kept: { copies.items ≡ copied_in records.items },
+    scan: Option<PageScan>,
+    // Its records are copies of objects, and the scan after them.
+    ghost scans: { IsTrue (is_scan_of (page_in scan) (planned_records scan)) },
+    ghost low: { (p : ℕ) → page_in scan ≡ Some p → p < 2 ^ 26 },
 }
 
 impl PagePlan {
-    /// No scan. Does not allocate.
-    fn none(alloc: Global) -> PagePlan
-        ensures { result.records.items ≡ [] }
+    /// No scan.
+    fn none() -> PagePlan
+        ensures { result.scan ≡ None }
     {
-        PagePlan {
-            page: None,
-            records: Vec::new(alloc),
-            copies: Vec::new(alloc),
-        }
+        PagePlan { scan: None }
     }
 
-    /// The scan of a page that has these records.
-    fn of(alloc: Global, page: u32, records: Vec<Record>) -> Result<PagePlan, AllocError>
-        requires scan { IsTrue (is_page_scan page records.items) }
-        requires low { page < 2 ^ 26 }
-        ensures { IfOk result (λ plan. plan.records.items ≡ records.items) }
+    /// This scan.
+    fn of(scan: PageScan) -> PagePlan
+        requires scan { IsTrue (is_page_scan scan.page (records_in scan)) }
+        requires low { scan.page < 2 ^ 26 }
+        ensures { result.scan ≡ Some scan }
     {
-        let copies = copies_in(alloc, &records)?;
-        Ok(PagePlan {
-            page: Some(page),
-            records,
-            copies,
-        })
+        PagePlan { scan: Some(scan) }
     }
 
-    /// Its records.
-    pub(crate) fn records(&self) -> &[Record]
-        ensures { result.now ≡ self.now.records.items }
+    /// The scan, if there is one.
+    pub(crate) fn scan(&self) -> Option<&PageScan>
+        ensures none { result ≡ None → self.now.scan ≡ None }
+        ensures some { IfSome result (λ scan. self.now.scan ≡ Some scan.now) }
     {
-        &self.records
+        self.scan.as_ref()
     }
 
     /// What it copies.
     pub(crate) fn copies(&self) -> &[CopiedObject]
-        ensures { result.now ≡ copied_in self.now.records.items }
+        ensures { result.now ≡ copied_in (planned_records self.now.scan) }
     {
-        &self.copies
+        match &self.scan {
+            Some(scan) => scan.copies(),
+            None => &[],
+        }
+    }
+
+    /// How many words its copies have.
+    pub(crate) fn copied_words(&self) -> u64
+        ensures { result ≡ words_of (copied_in (planned_records self.now.scan)) }
+    {
+        match &self.scan {
+            Some(scan) => scan.copied_words(),
+            None => 0,
+        }
     }
 
     /// The bytes of its records.
     pub(crate) fn bytes(&self) -> u64
-        requires { length (spellings self.now.records.items) < 2 ^ 32 + 2 ^ 24 }
-        ensures { result ≡ length (spellings self.now.records.items) }
+        ensures { result ≡ length (spellings (planned_records self.now.scan)) }
     {
-        bytes_of(&self.records)
+        match &self.scan {
+            Some(scan) => scan.bytes(),
+            None => 0,
+        }
     }
 
     /// Whether it has no record.
     pub(crate) fn is_empty(&self) -> bool
-        ensures { IsTrue result ↔ (self.now.records.items ≡ []) }
+        ensures { IsTrue result ↔ (planned_records self.now.scan ≡ []) }
     {
-        self.records.is_empty()
+        self.scan.is_none()
     }
 
     /// The word that stands at an address after the scan, if this one stands there before it.
     pub(crate) fn word_behind(&self, at: u32, word: u64) -> u64
-        ensures { result ≡ word_after at word self.now.records.items }
+        ensures { result ≡ word_after at word (planned_records self.now.scan) }
     {
-        let mut behind = word;
-        for rec in &self.records {
-            behind = word_with(rec, at, behind);
+        match &self.scan {
+            Some(scan) => scanned_word(scan, at, word),
+            None => word,
         }
-        behind
     }
 }
 
-/// The word that stands at an address after a record of a scan, if this one stands there before it.
-fn word_with(rec: &Record, at: u32, word: u64) -> u64
-    ensures { result ≡ word_with at word rec.now }
+/// The word that stands at an address after a scan, if this one stands there before it.
+fn scanned_word(scan: &PageScan, at: u32, word: u64) -> u64
+    ensures { result ≡ word_after at word (records_in scan.now) }
 {
-    match rec {
-        Record::Copy { from, to, .. } if *from == at => forwarding_word(*to),
-        Record::Copy { to, words, .. } => copied_word(*to, words.as_slice(), at, word),
-        Record::Scan { writes, .. } => written_word(writes.as_slice(), at, word),
-        _ => word,
+    let mut behind = word;
+    for copy in scan.iter() {
+        behind = word_with(&copy, at, behind);
+    }
+    written_word(scan.writes(), at, behind)
+}
+
+/// The word that stands at an address after an object was copied, if this one stands there before.
+fn word_with(copy: &CopyRef<'_>, at: u32, word: u64) -> u64
+    ensures { result ≡ word_with at word (copy_record copy.now) }
+{
+    if copy.from() == at {
+        forwarding_word(copy.to())
+    } else {
+        copied_word(copy.to(), copy.words(), at, word)
     }
 }
 
@@ -132,33 +144,6 @@ fn written_word(writes: &[(u32, u64)], at: u32, word: u64) -> u64
         }
     }
     now
-}
-
-/// What these records copy.
-fn copies_in(alloc: Global, records: &[Record]) -> Result<Vec<CopiedObject>, AllocError>
-    requires { AllByRecursion HasFewWords records.now }
-    ensures { IfOk result (λ copies. copies.items ≡ copied_in records.now) }
-{
-    let mut copies = Vec::with_capacity(alloc, records.len())?;
-    for rec in records {
-        if let Record::Copy { from, to, words } = rec {
-            copies.push(copied_object(*from, *to, words.as_slice()))?;
-        }
-    }
-    Ok(copies)
-}
-
-/// What a collection keeps of an object of these words that is copied.
-fn copied_object(from: u32, to: u32, words: &[u64]) -> CopiedObject
-    requires { length words.now < 2 ^ 32 }
-    ensures { result ≡ record { from = from; to = to; header = slice_index words.now 0; words = length words.now } }
-{
-    CopiedObject {
-        from,
-        to,
-        header: words.first().copied().unwrap_or(0),
-        words: words.len() as u32,
-    }
 }
 
 /// The collection keeps these copies, which are gray from now on. An error changes nothing.
@@ -198,13 +183,13 @@ pub(crate) fn take_copies(spaces: &mut Spaces, copies: &[CopiedObject])
 
 /// The page has been scanned, and the words of its copies, which the collection keeps, are taken.
 pub(crate) fn note_scan(spaces: &mut Spaces, collection: &mut Option<Collection>, scan: &PagePlan)
-    requires { words_of (copied_in scan.now.records.items) ≤ spaces.old.owed }
-    ensures spaces { spaces.new ≡ with_copied spaces.old (words_of (copied_in scan.now.records.items)) }
-    ensures collection { collection.new ≡ option_map (λ k. scanned_by k scan.now.page) collection.old }
+    requires { words_of (copied_in (planned_records scan.now.scan)) ≤ spaces.old.owed }
+    ensures spaces { spaces.new ≡ with_copied spaces.old (words_of (copied_in (planned_records scan.now.scan))) }
+    ensures collection { collection.new ≡ option_map (λ k. scanned_by k (page_in scan.now.scan)) collection.old }
 {
     take_copies(spaces, scan.copies());
-    if let (Some(running), Some(page)) = (collection, scan.page) {
-        running.scanned(page);
+    if let (Some(running), Some(scan)) = (collection, scan.scan()) {
+        running.scanned(scan.page());
     }
 }
 
@@ -214,31 +199,31 @@ impl Engine {
 
     /// What has to be scanned before a field of the stable object at an address is read or written.
     pub(crate) fn barrier(&self, object: u32, field: u32) -> Result<PagePlan, AllocError>
-        ensures records { IfOk result (λ plan. plan.records.items ≡ barrier_records (memory self.now) object field) }
-        ensures ready { IfOk result (λ plan. CanScan (memory self.now) plan.records.items) }
+        ensures records { IfOk result (λ plan. planned_records plan.scan ≡ barrier_records (memory self.now) object field) }
+        ensures ready { IfOk result (λ plan. CanScan (memory self.now) (planned_records plan.scan)) }
     {
         match needs_scan(self.collection.as_ref(), object, field) {
             Some(page) => self.plan_page(page),
-            None => Ok(PagePlan::none(self.alloc)),
+            None => Ok(PagePlan::none()),
         }
     }
 
     /// The scan of a page of the current space, where a collection runs.
     pub(crate) fn plan_page(&self, page: u32) -> Result<PagePlan, AllocError>
         requires { page < 2 ^ 26 }
-        ensures records { IfOk result (λ plan. plan.records.items ≡ page_records (memory self.now) page) }
-        ensures ready { IfOk result (λ plan. CanScan (memory self.now) plan.records.items) }
+        ensures records { IfOk result (λ plan. planned_records plan.scan ≡ page_records (memory self.now) page) }
+        ensures ready { IfOk result (λ plan. CanScan (memory self.now) (planned_records plan.scan)) }
     {
         let Some(collection) = &self.collection else {
-            return Ok(PagePlan::none(self.alloc));
+            return Ok(PagePlan::none());
         };
         // The spaces lie in the words, and so does what is copied.
         let _end = self.spaces.next_free();
         let mut words = WordSlice::of(self.cache.as_slice());
         // Words in memory don't fail, and those of a heap in a collection can be scanned.
-        let records = plan_scan(self.alloc, &mut words, &self.spaces, collection, page).map_err(
+        let scan = plan_scan(self.alloc, &mut words, &self.spaces, collection, page).map_err(
             |_| AllocError,
         )?;
-        PagePlan::of(self.alloc, page, records)
+        Ok(PagePlan::of(scan))
     }
 }

@@ -8,17 +8,16 @@ ghost use Rattle.log_machine.specs.Collecting.{pairs_of};
 ghost use Rattle.log_machine.specs.Translation.{translated_list};
 ghost use Rattle.page_cache.specs.CacheState.{cached};
 ghost use Rattle.relocation.specs.Relocation.{IsRelocation};
-ghost use Rattle.heap_engine.specs.Barrier.{words_of};
 ghost use Rattle.heap_engine.specs.Reserve.{WroteBelow, GoAlongBelow};
 ghost use Rattle.graph_model.specs.Plain.{reply_of};
 ghost use Rattle.graph_model.specs.declared.reply.Reply.TheVariants.{Flipped, Collecting, Scanned, Collected, Idle};
 
 use crate::barrier::{keep_copies, note_scan, take_copies};
 use crate::engine::{Engine, refused};
-use crate::logging::carry_out;
+use crate::logging::{carry_out, carry_out_scan};
 use flip_copy::{FlipPlan, plan_flip};
 use graph_model::Reply;
-use heap_spaces::{Collection, CopiedObject, Spaces};
+use heap_spaces::{Collection, Spaces};
 use heap_words::FIELDS_AT;
 use log_machine::UndoEntry;
 use log_records::Record;
@@ -135,9 +134,9 @@ impl Engine {
         let reply = Reply::Scanned {
             page: u64::from(page),
             objects: scan.copies().len() as u64,
-            words: words_of(scan.copies()),
+            words: scan.copied_words(),
         };
-        carry_out(&mut self.log, &mut self.cache, scan.records());
+        carry_out_scan(&mut self.log, &mut self.cache, &scan);
         Ok(reply)
     }
 
@@ -189,18 +188,6 @@ fn change_spaces(spaces: &mut Spaces, plan: &FlipPlan) -> Reply
         objects: plan.moved().len() as u64,
         words: u64::from(spaces.used()),
     }
-}
-
-/// How many words these copies have.
-fn words_of(copies: &[CopiedObject]) -> u64
-    requires { words_of copies.now < 2 ^ 32 }
-    ensures { result ≡ words_of copies.now }
-{
-    let mut words = 0;
-    for copy in copies {
-        words += u64::from(copy.words);
-    }
-    words
 }
 
 /// The old address of each object and its new one, as locks name it.

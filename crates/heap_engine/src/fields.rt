@@ -9,13 +9,14 @@ ghost use Rattle.log_machine.specs.Machine.{field_at};
 ghost use Rattle.log_records.specs.Record.{spellings};
 ghost use Rattle.page_cache.specs.CacheState.{cached};
 ghost use Rattle.heap_memory.specs.Memory.{own, own_fields, place_word, fields_at as words_at};
+ghost use Rattle.heap_engine.specs.Barrier.{planned_records};
 ghost use Rattle.heap_engine.specs.Reserve.{can_refer};
 
 use crate::barrier::{PagePlan, keep_copies, note_scan, take_back_copies};
 use crate::engine::{Engine, refused};
 use crate::locking::{keep_write, lock_of, lock_refusal};
 use crate::log_room::{UNDO_BYTES, reserve_room};
-use crate::logging::{carry_out, carry_out_write};
+use crate::logging::{carry_out_scan, carry_out_write};
 use graph_model::{Refusal, Reply};
 use heap_words::{FIELDS_AT, Header, NO_INT, Word, decode, encode, header_of};
 use log_machine::UndoEntry;
@@ -153,7 +154,7 @@ impl Engine {
             return Err(e);
         }
         note_scan(&mut self.spaces, &mut self.collection, &scan);
-        carry_out(&mut self.log, &mut self.cache, scan.records());
+        carry_out_scan(&mut self.log, &mut self.cache, &scan);
         // The scan may have updated the field to the copy.
         let fields = fields_at(self.cache.as_slice(), object);
         let word = fields.get(field as usize).copied().unwrap_or(0);
@@ -162,10 +163,10 @@ impl Engine {
 
     /// Makes room in the log for a scan, if there is one to make, or reports why there is none.
     pub(crate) fn make_room_for(&mut self, scan: &PagePlan) -> Result<Option<Refusal>, AllocError>
-        requires few { length (spellings scan.now.records.items) < 2 ^ 32 + 2 ^ 24 }
-        ensures why { IfOk result (λ why. why ≡ records_room (memory self.old) scan.now.records.items) }
-        ensures memory { result ≡ Ok None → HasSpare self.new.log (length (spellings scan.now.records.items) + self.new.reserved) }
-        ensures room { result ≡ Ok None → log_used_with self.new.log (length (spellings scan.now.records.items)) + self.new.reserved ≤ log_room self.new.log }
+        requires few { length (spellings (planned_records scan.now.scan)) < 2 ^ 32 + 2 ^ 24 }
+        ensures why { IfOk result (λ why. why ≡ records_room (memory self.old) (planned_records scan.now.scan)) }
+        ensures memory { result ≡ Ok None → HasSpare self.new.log (length (spellings (planned_records scan.now.scan)) + self.new.reserved) }
+        ensures room { result ≡ Ok None → log_used_with self.new.log (length (spellings (planned_records scan.now.scan))) + self.new.reserved ≤ log_room self.new.log }
         ensures same { IsAsItWas (memory self.old) (memory self.new) }
     {
         if scan.is_empty() {
@@ -262,7 +263,7 @@ impl Engine {
             was,
             word,
         };
-        carry_out_write(&mut self.log, &mut self.cache, scan.records(), &update);
+        carry_out_write(&mut self.log, &mut self.cache, &scan, &update);
         self.reserved = reserved;
         Ok(Reply::Done)
     }

@@ -8,7 +8,7 @@
 //! A collection of one space into the other may run beside the transactions: it begins with a flip, each scan copies what one page leads to,
 //! and an event on an object in a page that is not scanned yet scans that page first.
 //!
-//! A change of the current space is a list of records: all are appended to the log, and then each is put on its pages with its LSN. A page is
+//! A change of the current space has records: all are appended to the log, and then each is put on its pages with its LSN. A page is
 //! stored only once the log is on the disk up to the page's LSN.
 #![tactic(auto)]
 

@@ -1,14 +1,26 @@
-use Rattle.std.proofs.Common.{rules, ◌≡◌, ◌+◌, List, length, refl, sym, ap, ◌∙◌, arith}
+use Rattle.std.proofs.Common.{rules, ◌≡◌, ◌+◌, None, Some, Option, length, refl, sym, ap, ◌∙◌}
 use Rattle.gated_log.specs.LogState.{HasSpare}
-use Rattle.log_records.specs.declared.Record.{Record}
 use Rattle.log_records.specs.Record.{spellings}
 use Rattle.std.specs.Prelude.{slice_index}
 use Rattle.std.specs.FinSet as set
 use Rattle.object_layout.specs.Layout.{field_words}
 use Rattle.page_cache.specs.CacheState.{cached, cache_store}
-use Rattle.heap_memory.specs.Collecting.{spaces_behind, collection_behind}
+use Rattle.heap_memory.specs.Collecting.{barrier_records}
 use Rattle.heap_memory.specs.Memory.{Memory}
+use Rattle.heap_engine.specs.Barrier.{planned_records}
 use Rattle.heap_engine.specs.EngineState.{memory}
+use Rattle.graph_model.specs.Plain.{busy_with}
+use Rattle.graph_model.specs.declared.reply.Refusal.{Refusal}
+use Rattle.graph_model.specs.declared.reply.Reply.TheVariants.{Refused}
+use Rattle.heap_words.specs.declared.Word.{Word}
+use Rattle.heap_words.specs.declared.Word.TheVariants as word
+use Rattle.heap_words.specs.Word.{meaning}
+use Rattle.object_locks.specs.Holder.{holder_of}
+use Rattle.object_locks.specs.declared.holding.Holding.{Holding}
+use Rattle.object_locks.specs.declared.holding.Mode.TheVariants.{Shared}
+use Rattle.heap_memory.specs.Refusals.{asked, records_room}
+use Rattle.heap_memory.specs.Replies.{word_reply}
+use Rattle.heap_engine.proofs.FieldRefused.{read_refused}
 use Rattle.heap_engine.proofs.Scanned.{same_ready, noted, noted_owes, noted_sound, got_at}
 use Rattle.heap_engine.proofs.engine.Engine.get_stable.Goals as goal
 
@@ -18,8 +30,8 @@ invariant_of-self-2-clause-owed c =
     let mid = c.make_room_for.new.self in
     let plan = c.in_ok-scan.scan in
     let is = noted plan mid.spaces c.note_scan.new.spaces mid.collection c.keep_copies.new.collection c.note_scan.new.collection c.copies.result.now c.copies.ensures c.in_ok-keep_copies.ensures.ok c.note_scan.ensures.spaces c.note_scan.ensures.collection in
-    let ready = same_ready (memory s) (memory mid) plan.records.items c.make_room_for.ensures.same c.in_ok-scan.ensures.ready in
-    noted_owes (memory mid) plan.records.items ready c.note_scan.new.spaces c.note_scan.new.collection is
+    let ready = same_ready (memory s) (memory mid) (planned_records plan.scan) c.make_room_for.ensures.same c.in_ok-scan.ensures.ready in
+    noted_owes (memory mid) (planned_records plan.scan) ready c.note_scan.new.spaces c.note_scan.new.collection is
 
 pub invariant_of-self-2-clause-gray : goal.invariant_of-self-2-clause-gray
 invariant_of-self-2-clause-gray c =
@@ -27,8 +39,8 @@ invariant_of-self-2-clause-gray c =
     let mid = c.make_room_for.new.self in
     let plan = c.in_ok-scan.scan in
     let is = noted plan mid.spaces c.note_scan.new.spaces mid.collection c.keep_copies.new.collection c.note_scan.new.collection c.copies.result.now c.copies.ensures c.in_ok-keep_copies.ensures.ok c.note_scan.ensures.spaces c.note_scan.ensures.collection in
-    let ready = same_ready (memory s) (memory mid) plan.records.items c.make_room_for.ensures.same c.in_ok-scan.ensures.ready in
-    noted_sound (memory mid) plan.records.items ready c.note_scan.new.spaces c.note_scan.new.collection is
+    let ready = same_ready (memory s) (memory mid) (planned_records plan.scan) c.make_room_for.ensures.same c.in_ok-scan.ensures.ready in
+    noted_sound (memory mid) (planned_records plan.scan) ready c.note_scan.new.spaces c.note_scan.new.collection is
 
 pub returns-clause-got : goal.returns-clause-got
 returns-clause-got c granted =
@@ -36,10 +48,10 @@ returns-clause-got c granted =
     let mid = c.make_room_for.new.self in
     let plan = c.in_ok-scan.scan in
     let now : Memory = record {
-      log = c.carry_out.new.log;
-      words = (cached c.carry_out.new.cache).words;
-      lsns = (cached c.carry_out.new.cache).lsns;
-      store = cache_store c.carry_out.new.cache;
+      log = c.carry_out_scan.new.log;
+      words = (cached c.carry_out_scan.new.cache).words;
+      lsns = (cached c.carry_out_scan.new.cache).lsns;
+      store = cache_store c.carry_out_scan.new.cache;
       spaces = c.note_scan.new.spaces;
       collection = c.note_scan.new.collection;
       table = mid.table;
@@ -47,18 +59,18 @@ returns-clause-got c granted =
       sealed = mid.sealed;
     } in
     let is = noted plan mid.spaces c.note_scan.new.spaces mid.collection c.keep_copies.new.collection c.note_scan.new.collection c.copies.result.now c.copies.ensures c.in_ok-keep_copies.ensures.ok c.note_scan.ensures.spaces c.note_scan.ensures.collection in
-    let word : c.unwrap_or-word.result ≡ slice_index (field_words (cached c.carry_out.new.cache).words c.args.object) c.args.field = search rules in
-    got_at (memory s) (memory mid) now (memory c.read_into.new.self) c.args.session c.args.h c.args.object c.args.field c.number.result c.unwrap_or-word.result c.records.result.now c.make_room_for.ensures.same
-    (c.records.ensures ∙ c.in_ok-scan.ensures.records)
+    let word : c.unwrap_or-word.result ≡ slice_index (field_words (cached c.carry_out_scan.new.cache).words c.args.object) c.args.field = search rules in
+    got_at (memory s) (memory mid) now (memory c.read_into.new.self) c.args.session c.args.h c.args.object c.args.field c.number.result c.unwrap_or-word.result (planned_records plan.scan) c.make_room_for.ensures.same
+    c.in_ok-scan.ensures.records
     (record {
-      log = c.carry_out.ensures.log;
-      words = c.carry_out.ensures.words;
-      lsns = c.carry_out.ensures.lsns;
-      store = c.carry_out.ensures.store;
+      log = c.carry_out_scan.ensures.log;
+      words = c.carry_out_scan.ensures.words;
+      lsns = c.carry_out_scan.ensures.lsns;
+      store = c.carry_out_scan.ensures.store;
       table = refl;
       locks = c.in_default-take.ensures.taken ∙ ap (set.insert mid.locks) c.lock_of-lock.ensures;
-      spaces = is.spaces ∙ ap (spaces_behind mid.spaces) (sym c.records.ensures);
-      collection = is.collection ∙ ap (collection_behind mid.collection) (sym c.records.ensures);
+      spaces = is.spaces;
+      collection = is.collection;
       sealed = refl;
     })
     c.requires.active c.number.ensures word c.read_into.ensures.left
@@ -66,6 +78,25 @@ returns-clause-got c granted =
 pub invariant_of-self-2-clause-spare : goal.invariant_of-self-2-clause-spare
 invariant_of-self-2-clause-spare c =
     let mid = c.make_room_for.new.self in
-    let spare : HasSpare mid.log (length (spellings c.in_ok-scan.scan.records.items) + mid.reserved) = search rules in
-    let same = ap (λ (rs : List Record). length (spellings rs)) c.records.ensures in
-    c.carry_out.ensures.spare mid.reserved (omega (arith, spare, same))
+    let spare : HasSpare mid.log (length (spellings (planned_records c.in_ok-scan.scan.scan)) + mid.reserved) = search rules in
+    c.carry_out_scan.ensures.spare mid.reserved spare
+
+pub returns-in-Some-2-clause-reply : goal.returns-in-Some-2-clause-reply
+returns-in-Some-2-clause-reply c =
+    let m = memory c.args.self.now in
+    let free : busy_with (holder_of m.locks (asked c.number.result Shared c.args.object)) ≡ None = ap (λ (lock : Holding). busy_with (holder_of m.locks lock)) (sym c.lock_of-lock.ensures) ∙ sym c.lock_refusal.ensures.why ∙ c.in_default.is in
+    let room : records_room m (barrier_records m c.args.object c.args.field) ≡ Some c.in-Some-2.why = ap (records_room m) (sym c.in_ok-scan.ensures.records) ∙ sym c.in_ok-why.ensures.why ∙ c.in-Some-2.is in
+    read_refused m c.args.session c.args.object c.args.field c.number.result c.in-Some-2.why c.refused-in-Some-2.result _ c.requires.active c.number.ensures c.requires.there free room c.refused-in-Some-2.ensures
+
+-- what is read is no refusal
+not_refused : (w : Option Word) (why : Refusal) → word_reply w ≡ Refused why → ⊥
+not_refused None why is = cc is
+not_refused (Some word.Null) why is = cc is
+not_refused (Some (word.Int n)) why is = cc is
+not_refused (Some (word.Stable at)) why is = cc is
+not_refused (Some (word.Volatile at)) why is = cc is
+
+pub returns-clause-refused : goal.returns-clause-refused
+returns-clause-refused c why is =
+    let read : c.read_into.result ≡ Refused why = cc is in
+    absurd (not_refused (meaning c.unwrap_or-word.result) why (sym c.read_into.ensures.reply ∙ read))

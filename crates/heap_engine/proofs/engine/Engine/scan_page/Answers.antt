@@ -1,12 +1,10 @@
-use Rattle.std.proofs.Common.{rules, ◌+◌, List, Some, length, sym, ap, ◌∙◌, arith}
+use Rattle.std.proofs.Common.{rules, ◌+◌, Some, length, sym, ◌∙◌}
 use Rattle.gated_log.specs.LogState.{HasSpare}
-use Rattle.log_records.specs.declared.Record.{Record}
 use Rattle.log_records.specs.Record.{spellings}
-use Rattle.heap_spaces.specs.declared.collection.CopiedObject.{CopiedObject}
 use Rattle.heap_memory.specs.Collecting.{spaces_behind, collection_behind}
 use Rattle.heap_memory.specs.Refusals.{scan_refusal}
 use Rattle.heap_memory.specs.Replies.{scan_reply}
-use Rattle.heap_engine.specs.Barrier.{words_of}
+use Rattle.heap_engine.specs.Barrier.{planned_records}
 use Rattle.heap_engine.specs.EngineState.{memory}
 use Rattle.heap_engine.proofs.Left.{from_same}
 use Rattle.heap_engine.proofs.Scanned.{same_ready, noted, noted_owes, noted_sound}
@@ -22,15 +20,8 @@ pub returns-in-Some-clause-reply : goal.returns-in-Some-clause-reply
 returns-in-Some-clause-reply c =
     let m = memory c.args.self.now in
     let scan = c.in_ok-scan.scan in
-    let why = page_refused m c.args.page c.requires scan.records.items c.in_ok-scan.ensures.records c.in_ok-why.field-0 c.in_ok-why.ensures.why in
+    let why = page_refused m c.args.page c.requires (planned_records scan.scan) c.in_ok-scan.ensures.records c.in_ok-why.field-0 c.in_ok-why.ensures.why in
     answers_refused (scan_refusal m (Some c.args.page)) c.in-Some.why c.refused.result (scan_reply m (Some c.args.page)) (sym why ∙ c.in-Some.is) c.refused.ensures
-
-pub words_of-requires : goal.words_of-requires
-words_of-requires c =
-    let ready = c.in_ok-scan.ensures.ready in
-    let is = c.next_free-end.ensures.sound in
-    let same = ap (λ (copies : List CopiedObject). words_of copies) c.copies-3.ensures in
-    omega (arith, same, ready.owed, is.room, is.few)
 
 pub invariant_of-self-2-clause-owed : goal.invariant_of-self-2-clause-owed
 invariant_of-self-2-clause-owed c =
@@ -38,8 +29,8 @@ invariant_of-self-2-clause-owed c =
     let mid = c.make_room_for.new.self in
     let plan = c.in_ok-scan.scan in
     let is = noted plan mid.spaces c.note_scan.new.spaces mid.collection c.keep_copies.new.collection c.note_scan.new.collection c.copies.result.now c.copies.ensures c.in_ok-keep_copies.ensures.ok c.note_scan.ensures.spaces c.note_scan.ensures.collection in
-    let ready = same_ready (memory s) (memory mid) plan.records.items c.make_room_for.ensures.same c.in_ok-scan.ensures.ready in
-    noted_owes (memory mid) plan.records.items ready c.note_scan.new.spaces c.note_scan.new.collection is
+    let ready = same_ready (memory s) (memory mid) (planned_records plan.scan) c.make_room_for.ensures.same c.in_ok-scan.ensures.ready in
+    noted_owes (memory mid) (planned_records plan.scan) ready c.note_scan.new.spaces c.note_scan.new.collection is
 
 pub invariant_of-self-2-clause-gray : goal.invariant_of-self-2-clause-gray
 invariant_of-self-2-clause-gray c =
@@ -47,8 +38,8 @@ invariant_of-self-2-clause-gray c =
     let mid = c.make_room_for.new.self in
     let plan = c.in_ok-scan.scan in
     let is = noted plan mid.spaces c.note_scan.new.spaces mid.collection c.keep_copies.new.collection c.note_scan.new.collection c.copies.result.now c.copies.ensures c.in_ok-keep_copies.ensures.ok c.note_scan.ensures.spaces c.note_scan.ensures.collection in
-    let ready = same_ready (memory s) (memory mid) plan.records.items c.make_room_for.ensures.same c.in_ok-scan.ensures.ready in
-    noted_sound (memory mid) plan.records.items ready c.note_scan.new.spaces c.note_scan.new.collection is
+    let ready = same_ready (memory s) (memory mid) (planned_records plan.scan) c.make_room_for.ensures.same c.in_ok-scan.ensures.ready in
+    noted_sound (memory mid) (planned_records plan.scan) ready c.note_scan.new.spaces c.note_scan.new.collection is
 
 pub returns-clause-scanned : goal.returns-clause-scanned
 returns-clause-scanned c objects words is =
@@ -56,24 +47,23 @@ returns-clause-scanned c objects words is =
     let mid = c.make_room_for.new.self in
     let same = c.make_room_for.ensures.same in
     let plan = c.in_ok-scan.scan in
-    let records = c.records.result.now in
+    let records = planned_records plan.scan in
     let is = noted plan mid.spaces c.note_scan.new.spaces mid.collection c.keep_copies.new.collection c.note_scan.new.collection c.copies.result.now c.copies.ensures c.in_ok-keep_copies.ensures.ok c.note_scan.ensures.spaces c.note_scan.ensures.collection in
-    page_scans (memory s) c.args.page c.requires records (c.records.ensures ∙ c.in_ok-scan.ensures.records) _
+    page_scans (memory s) c.args.page c.requires records c.in_ok-scan.ensures.records _
     (from_same (memory s) (memory mid) _ records s.table s.locks (spaces_behind s.spaces records) (collection_behind s.collection records) s.sealed same (record {
-      log = c.carry_out.ensures.log;
-      words = c.carry_out.ensures.words;
-      lsns = c.carry_out.ensures.lsns;
-      store = c.carry_out.ensures.store;
+      log = c.carry_out_scan.ensures.log;
+      words = c.carry_out_scan.ensures.words;
+      lsns = c.carry_out_scan.ensures.lsns;
+      store = c.carry_out_scan.ensures.store;
       table = same.table;
       locks = same.locks;
-      spaces = is.spaces ∙ (λ i. spaces_behind (same.spaces i) (sym c.records.ensures i));
-      collection = is.collection ∙ (λ i. collection_behind (same.collection i) (sym c.records.ensures i));
+      spaces = is.spaces ∙ (λ i. spaces_behind (same.spaces i) records);
+      collection = is.collection ∙ (λ i. collection_behind (same.collection i) records);
       sealed = same.sealed;
     }))
 
 pub invariant_of-self-2-clause-spare : goal.invariant_of-self-2-clause-spare
 invariant_of-self-2-clause-spare c =
     let mid = c.make_room_for.new.self in
-    let spare : HasSpare mid.log (length (spellings c.in_ok-scan.scan.records.items) + mid.reserved) = search rules in
-    let same = ap (λ (rs : List Record). length (spellings rs)) c.records.ensures in
-    c.carry_out.ensures.spare mid.reserved (omega (arith, spare, same))
+    let spare : HasSpare mid.log (length (spellings (planned_records c.in_ok-scan.scan.scan)) + mid.reserved) = search rules in
+    c.carry_out_scan.ensures.spare mid.reserved spare

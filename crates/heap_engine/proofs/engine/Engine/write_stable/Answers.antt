@@ -1,20 +1,27 @@
-use Rattle.std.proofs.Common.{rules, ◌≡◌, ◌+◌, ◌≤◌, ◌++◌, [], ◌∷◌, List, length, true, refl, sym, ap, ◌∙◌, subst, arith}
+use Rattle.std.proofs.Common.{rules, ◌≡◌, ◌+◌, ◌≤◌, None, Some, ◌++◌, [], ◌∷◌, length, refl, sym, ap, ◌∙◌, arith}
 use Rattle.gated_log.specs.LogState.{log_room, log_used_with, HasSpare}
 use Rattle.heap_spaces.specs.Spaces.{SpacesState}
 use Rattle.log_machine.specs.declared.UndoEntry.{UndoEntry}
 use Rattle.log_machine.specs.Machine.{field_at, words_in}
-use Rattle.log_records.specs.declared.Record.{Record}
 use Rattle.log_records.specs.declared.Record.TheVariants.{Update}
 use Rattle.log_records.specs.Record.{spellings}
 use Rattle.page_cache.specs.CacheState.{cached}
 use Rattle.std.specs.Prelude.{slice_index}
 use Rattle.std.specs.FinSet as set
-use Rattle.heap_memory.specs.Collecting.{spaces_behind, collection_behind}
 use Rattle.heap_memory.specs.Leaves.{IsAsItWas}
 use Rattle.heap_memory.specs.Memory.{Memory}
-use Rattle.heap_engine.specs.Barrier.{is_scan_of, word_after, CanScan}
+use Rattle.heap_engine.specs.Barrier.{planned_records, page_in, word_after}
 use Rattle.heap_engine.specs.EngineState.{memory}
 use Rattle.heap_engine.proofs.ObjectFields.{field_within}
+use Rattle.graph_model.specs.Plain.{busy_with}
+use Rattle.log_machine.specs.Effect.{WritesBelow}
+use Rattle.log_machine.proofs.ListLaws.{AllByRecursion-append}
+use Rattle.object_locks.specs.Holder.{holder_of}
+use Rattle.object_locks.specs.declared.holding.Holding.{Holding}
+use Rattle.object_locks.specs.declared.holding.Mode.TheVariants.{Exclusive}
+use Rattle.txn_table.specs.declared.place.Place.TheVariants.{Stable}
+use Rattle.heap_memory.specs.Refusals.{asked, write_room}
+use Rattle.heap_engine.proofs.FieldRefused.{write_refused}
 use Rattle.heap_engine.proofs.Scanned.{noted, noted_owes, noted_sound, update_bytes, wrote_at}
 use Rattle.heap_engine.proofs.Tables.{sound_same, sound_write}
 use Rattle.heap_engine.proofs.engine.Engine.write_stable.Goals as goal
@@ -24,26 +31,25 @@ invariant_of-self-2-clause-owed c =
     let s = c.args.self.now in
     let plan = c.in_ok-scan.scan in
     let is = noted plan s.spaces c.note_scan.new.spaces s.collection c.keep_copies.new.collection c.note_scan.new.collection c.copies.result.now c.copies.ensures c.in_ok-keep_copies.ensures.ok c.note_scan.ensures.spaces c.note_scan.ensures.collection in
-    noted_owes (memory s) plan.records.items c.in_ok-scan.ensures.ready c.note_scan.new.spaces c.note_scan.new.collection is
+    noted_owes (memory s) (planned_records plan.scan) c.in_ok-scan.ensures.ready c.note_scan.new.spaces c.note_scan.new.collection is
 
 pub invariant_of-self-2-clause-gray : goal.invariant_of-self-2-clause-gray
 invariant_of-self-2-clause-gray c =
     let s = c.args.self.now in
     let plan = c.in_ok-scan.scan in
     let is = noted plan s.spaces c.note_scan.new.spaces s.collection c.keep_copies.new.collection c.note_scan.new.collection c.copies.result.now c.copies.ensures c.in_ok-keep_copies.ensures.ok c.note_scan.ensures.spaces c.note_scan.ensures.collection in
-    noted_sound (memory s) plan.records.items c.in_ok-scan.ensures.ready c.note_scan.new.spaces c.note_scan.new.collection is
+    noted_sound (memory s) (planned_records plan.scan) c.in_ok-scan.ensures.ready c.note_scan.new.spaces c.note_scan.new.collection is
 
 pub invariant_of-self-2-clause-room : goal.invariant_of-self-2-clause-room
 invariant_of-self-2-clause-room c =
     let s = c.args.self.now in
     let mid = c.reserve_room.new.log in
-    let n = length (spellings c.in_ok-scan.scan.records.items) in
-    let records = c.records.result.now in
+    let n = length (spellings (planned_records c.in_ok-scan.scan.scan)) in
+    let records = planned_records c.in_ok-scan.scan.scan in
     let written = Update c.number-t.result c.args.object c.args.field c.word_behind-was.result c.args.word in
     let room : log_used_with mid (c.bytes.result + 27) + (s.reserved + 19) ≤ log_room mid = search rules in
     let size : length (spellings (records ++ written ∷ [])) ≡ c.bytes.result + 27 =
     update_bytes records c.number-t.result c.args.object c.args.field c.word_behind-was.result c.args.word
-    ∙ ap (λ (rs : List Record). length (spellings rs) + 27) c.records.ensures
     ∙ ap (λ k. k + 27) (sym c.bytes.ensures) in
     omega (arith, c.carry_out_write.ensures.used ∙ ap (log_used_with mid) size, room, c.carry_out_write.ensures.log.place.room)
 
@@ -63,16 +69,14 @@ pub returns-clause-done : goal.returns-clause-done
 returns-clause-done c was =
     let s = c.args.self.now in
     let plan = c.in_ok-scan.scan in
-    let records = c.records.result.now in
+    let records = planned_records c.in_ok-scan.scan.scan in
     let at = field_at c.args.object c.args.field in
     let mid : Memory = record (memory s) { log = c.reserve_room.new.log } in
     let same : IsAsItWas (memory s) mid =
     record { log = c.reserve_room.ensures.same; words = refl; lsns = refl; store = refl; table = refl; locks = refl; spaces = refl; collection = refl; sealed = refl } in
     let is = noted plan s.spaces c.note_scan.new.spaces s.collection c.keep_copies.new.collection c.note_scan.new.collection c.copies.result.now c.copies.ensures c.in_ok-keep_copies.ensures.ok c.note_scan.ensures.spaces c.note_scan.ensures.collection in
-    let scans = subst (λ rs. is_scan_of plan.page rs ≡ true) (sym c.records.ensures) plan.scans in
-    let ready = subst (CanScan (memory s)) (sym c.records.ensures) c.in_ok-scan.ensures.ready in
     let behind : c.word_behind-was.result ≡ word_after at (slice_index (cached s.cache).words at) records = search rules in
-    wrote_at (memory s) mid _ c.args.session c.args.object c.args.field c.number-t.result c.word_behind-was.result c.args.word plan.page records same (c.records.ensures ∙ c.in_ok-scan.ensures.records) scans ready
+    wrote_at (memory s) mid _ c.args.session c.args.object c.args.field c.number-t.result c.word_behind-was.result c.args.word (page_in plan.scan) records same c.in_ok-scan.ensures.records plan.scans c.in_ok-scan.ensures.ready
     (field_within (cached s.cache).words c.args.object c.args.field c.requires.there) behind
     (record {
       log = c.carry_out_write.ensures.log;
@@ -81,8 +85,8 @@ returns-clause-done c was =
       store = c.carry_out_write.ensures.store;
       table = refl;
       locks = c.in_default-keep_write.ensures.locked ∙ ap (set.insert s.locks) c.lock_of-lock.ensures;
-      spaces = is.spaces ∙ ap (spaces_behind s.spaces) (sym c.records.ensures);
-      collection = is.collection ∙ ap (collection_behind s.collection) (sym c.records.ensures);
+      spaces = is.spaces;
+      collection = is.collection;
       sealed = refl;
     })
     c.requires.active c.number-t.ensures c.in_default-keep_write.ensures.kept
@@ -90,11 +94,27 @@ returns-clause-done c was =
 pub invariant_of-self-2-clause-spare : goal.invariant_of-self-2-clause-spare
 invariant_of-self-2-clause-spare c =
     let s = c.args.self.now in
-    let records = c.records.result.now in
+    let records = planned_records c.in_ok-scan.scan.scan in
     let written = Update c.number-t.result c.args.object c.args.field c.word_behind-was.result c.args.word in
     let spare : HasSpare c.reserve_room.new.log (c.bytes.result + 27 + (s.reserved + 19)) = search rules in
     let size : length (spellings (records ++ written ∷ [])) ≡ c.bytes.result + 27 =
     update_bytes records c.number-t.result c.args.object c.args.field c.word_behind-was.result c.args.word
-    ∙ ap (λ (rs : List Record). length (spellings rs) + 27) c.records.ensures
     ∙ ap (λ k. k + 27) (sym c.bytes.ensures) in
     c.carry_out_write.ensures.spare (s.reserved + 19) (omega (arith, size, spare))
+
+pub word-requires : goal.word-requires
+word-requires c = let here = field_within (cached c.args.self.now.cache).words c.args.object c.args.field c.requires.there in omega (arith, here, c.from-2.ensures)
+
+pub carry_out_write-requires-clause-inside : goal.carry_out_write-requires-clause-inside
+carry_out_write-requires-clause-inside c =
+    let s = c.args.self.now in
+    let here = field_within (cached s.cache).words c.args.object c.args.field c.requires.there in
+    let update = Update c.number-t.result c.args.object c.args.field c.word_behind-was.result c.args.word in
+    AllByRecursion-append (WritesBelow (length (cached s.cache).words)) (planned_records c.in_ok-scan.scan.scan) (update ∷ []) c.in_ok-scan.ensures.ready.below ((here, tt), tt)
+
+pub returns-in-Some-2-clause-reply : goal.returns-in-Some-2-clause-reply
+returns-in-Some-2-clause-reply c =
+    let m = memory c.args.self.now in
+    let free : busy_with (holder_of m.locks (asked c.number-t.result Exclusive c.args.object)) ≡ None = ap (λ (lock : Holding). busy_with (holder_of m.locks lock)) (sym c.lock_of-lock.ensures) ∙ sym c.lock_refusal.ensures.why ∙ c.in_default.is in
+    let room : write_room m (Stable c.args.object) c.args.field ≡ Some c.in-Some-2.why = search rules in
+    write_refused m c.args.session c.args.object c.args.field c.number-t.result c.in-Some-2.why c.refused-in-Some-2.result _ c.requires.active c.number-t.ensures c.requires.there free room c.refused-in-Some-2.ensures

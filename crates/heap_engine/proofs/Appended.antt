@@ -1,0 +1,74 @@
+-- A log to which records are appended, one after another.
+use Rattle.std.proofs.Common.{◌≡◌, ℕ, ◌+◌, ◌<◌, ◌≤◌, List, [], ◌∷◌, ◌++◌, length, refl, sym, ap, ◌∙◌, subst, arith, append_assoc, length-append}
+use Rattle.std.proofs.lemmas.Bool.Decides.{nat_tests}
+use Rattle.std.proofs.lemmas.List.{append-nil}
+use Rattle.std.proofs.lemmas.List.Concat.{flat_map-append}
+use Rattle.gated_log.specs.declared.log.Log.{Log}
+use Rattle.gated_log.specs.LogRoom.{used_bytes, need_bytes}
+use Rattle.gated_log.specs.LogState.{log_room, log_tail, log_used, log_used_with, log_need, log_count, buffer_size, HasSpare, KeepsMemory, IsPlaced, Keeps}
+use Rattle.log_records.specs.declared.Record.{Record}
+use Rattle.log_records.specs.Record.{spelling, spellings}
+use Rattle.log_records.proofs.RecordLaws.{some_spelling}
+use Rattle.heap_memory.specs.Leaves.{Adds}
+use Rattle.heap_engine.specs.Appended.{IsAppended}
+use Rattle.heap_engine.proofs.Spare.{size_after}
+
+-- the bytes of records and more of them
+pub spelled_more : (records more : List Record) → length (spellings (records ++ more)) ≡ length (spellings records) + length (spellings more)
+spelled_more records more = ap length (flat_map-append spelling records more) ∙ length-append (spellings records) (spellings more)
+
+-- and of one and more
+pub spelled_first : (rec : Record) (rest : List Record) → length (spellings (rec ∷ rest)) ≡ length (spelling rec) + length (spellings rest)
+spelled_first rec rest = length-append (spelling rec) (spellings rest)
+
+-- nothing is appended
+pub appended_none : (log : Log) → IsAppended log log []
+appended_none log = record {
+  place = record { at = refl; room = refl; tail = refl; forced = refl };
+  kept = λ batches pending keeps. subst (λ (rs : List Record). Keeps log batches rs) (sym (append-nil pending)) keeps;
+  size = omega arith;
+  count = omega arith;
+  memory = omega arith;
+}
+
+-- one more record is
+pub appended_more : (old mid new : Log) (records : List Record) (rec : Record) → IsAppended old mid records → IsPlaced mid new
+    → ((batches : List (List Record)) (pending : List Record) → Keeps mid batches pending → Keeps new batches (pending ++ rec ∷ []))
+    → log_used new ≡ log_used mid + log_need mid (length (spelling rec)) → log_count new ≡ log_count mid + 1 → KeepsMemory mid new → IsAppended old new (records ++ rec ∷ [])
+appended_more old mid new records rec before place added used count memory =
+    let size = size_after mid new (length (spelling rec)) (some_spelling rec) place.tail used in
+    record {
+      place = record { at = place.at ∙ before.place.at; room = place.room ∙ before.place.room; tail = place.tail ∙ before.place.tail; forced = place.forced ∙ before.place.forced };
+      kept = λ batches pending keeps.
+          subst (λ (rs : List Record). Keeps new batches rs) (append_assoc pending records (rec ∷ [])) (added batches (pending ++ records) (before.kept batches pending keeps));
+      size = omega (arith, size, before.size, spelled_more records (rec ∷ []), spelled_first rec []);
+      count = omega (arith, count, before.count, length-append records (rec ∷ []));
+      memory = omega (arith, memory, before.memory);
+    }
+
+-- the bytes that are used then
+pub used_appended : (old new : Log) (records : List Record) → IsAppended old new records → log_used new ≡ log_used_with old (length (spellings records))
+used_appended old new records is = λ i. used_bytes (is.place.tail i) (is.size i)
+
+-- and the memory that is left
+pub spare_appended : (old new : Log) (records : List Record) (more : ℕ) → IsAppended old new records → HasSpare old (length (spellings records) + more) → HasSpare new more
+spare_appended old new records more is spare = omega (arith, is.size, is.memory, spare)
+
+pub adds_appended : (old new : Log) (records : List Record) → IsAppended old new records → Adds old new records
+adds_appended old new records is = record { place = is.place; kept = is.kept }
+
+used_next : (tail size own rest : ℕ) → 4 ≤ size → 0 < own → used_bytes tail size + need_bytes size own ≤ used_bytes tail (size + (own + rest))
+used_next tail size own rest head some = grind (arith, nat_tests)
+
+-- there is room for the next record of those for which there was room
+pub room_next : (old mid : Log) (records : List Record) (rec : Record) (rest : List Record) → IsAppended old mid records → log_used_with old (length (spellings (records ++ rec ∷ rest))) ≤ log_room old
+    → log_used mid + log_need mid (length (spelling rec)) ≤ log_room mid
+room_next old mid records rec rest is room =
+    let all : length (spellings (records ++ rec ∷ rest)) ≡ length (spellings records) + (length (spelling rec) + length (spellings rest)) = omega (arith, spelled_more records (rec ∷ rest), spelled_first rec rest) in
+    let fits : buffer_size old + length (spellings (records ++ rec ∷ rest)) ≡ buffer_size mid + (length (spelling rec) + length (spellings rest)) = omega (arith, all, is.size) in
+    let used : log_used_with old (length (spellings (records ++ rec ∷ rest))) ≡ used_bytes (log_tail mid) (buffer_size mid + (length (spelling rec) + length (spellings rest))) = λ i. used_bytes (sym is.place.tail i) (fits i) in
+    omega (arith, used_next (log_tail mid) (buffer_size mid) (length (spelling rec)) (length (spellings rest)) mid.has_head (some_spelling rec), used, room, is.place.room)
+
+-- and memory
+pub spare_next : (old mid : Log) (records : List Record) (rec : Record) (rest : List Record) → IsAppended old mid records → HasSpare old (length (spellings (records ++ rec ∷ rest))) → HasSpare mid (length (spelling rec))
+spare_next old mid records rec rest is spare = omega (arith, spelled_more records (rec ∷ rest), spelled_first rec rest, is.size, is.memory, spare)
