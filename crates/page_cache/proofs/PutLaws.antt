@@ -4,7 +4,7 @@ use Rattle.std.specs.Prelude.{map, max, nat_lt, slice_index}
 use Rattle.std.specs.List.{enumerate_from}
 use Rattle.std.proofs.lemmas.List.Elements.{filter-append}
 use Rattle.std.proofs.lemmas.List.Sums.{fold-append}
-use Rattle.std.proofs.lemmas.List.{map-append}
+use Rattle.std.proofs.lemmas.List.{map-append, take_more}
 use Rattle.log_machine.specs.Machine.{put_all}
 use Rattle.log_machine.proofs.WordsFrom.{from_more}
 use Rattle.page_redo.specs.Pages.{page_of}
@@ -52,3 +52,14 @@ pub raised_more : (lsn : ℕ) (lsns : List ℕ) (address i : ℕ) (words : List 
     ≡ set (raised_to lsn lsns (pages_of (enumerate_from address (take i words)))) (page_of (address + i)) (max (get_or (raised_to lsn lsns (pages_of (enumerate_from address (take i words)))) (page_of (address + i)) 0) lsn)
 raised_more lsn lsns address i words lt =
     ap (λ (l : List (ℕ × ℕ)). raised_to lsn lsns (pages_of l)) (from_more address i words lt) ∙ raised_on lsn lsns (enumerate_from address (take i words)) ((address + i, get_or words i 0) ∷ [])
+
+-- one more write
+pub put_write : (now : List ℕ) (writes : List (ℕ × ℕ)) (i : ℕ) → i < length writes → put_all now (take (i + 1) writes) ≡ set (put_all now (take i writes)) (get_or writes i (0, 0)).0 (get_or writes i (0, 0)).1
+put_write now writes i lt =
+    ap (put_all now) (take_more writes i (0, 0) lt) ∙ fold-append (λ (l : List ℕ) (w : ℕ × ℕ). set l w.0 w.1) now (take i writes) (get_or writes i (0, 0) ∷ [])
+
+-- and its page
+pub raised_write : (lsn : ℕ) (lsns : List ℕ) (writes : List (ℕ × ℕ)) (i : ℕ) → i < length writes
+    → raised_to lsn lsns (pages_of (take (i + 1) writes)) ≡ raised_to lsn (raised_to lsn lsns (pages_of (take i writes))) (page_of (get_or writes i (0, 0)).0 ∷ [])
+raised_write lsn lsns writes i lt =
+    ap (λ (l : List (ℕ × ℕ)). raised_to lsn lsns (pages_of l)) (take_more writes i (0, 0) lt) ∙ raised_on lsn lsns (take i writes) (get_or writes i (0, 0) ∷ [])

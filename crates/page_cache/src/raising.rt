@@ -1,5 +1,5 @@
 //! Raises the LSN of each page that a record touches.
-ghost use Rattle.std.specs.Prelude.{◌≡◌, ◌*◌, ◌<◌, ◌^◌, length};
+ghost use Rattle.std.specs.Prelude.{[], ◌∷◌, ◌≡◌, ◌*◌, ◌<◌, ◌^◌, length};
 ghost use Rattle.std.specs.List.{enumerate_from};
 ghost use Rattle.log_machine.specs.Effect.{WritesBelow};
 ghost use Rattle.page_redo.specs.Pages.{touched};
@@ -30,6 +30,14 @@ pub(crate) fn raise_from(lsns: &mut [u64], lsn: u64, address: usize, words: &[u6
 {
     for i in 0..words.len() {
         let page = (address + i) / PAGE_WORDS;
-        lsns[page] = lsns[page].max(lsn);
+        raise_page(lsns, lsn, page);
     }
+}
+
+/// Raises the LSN of a page.
+pub(crate) fn raise_page(lsns: &mut [u64], lsn: u64, page: usize)
+    requires { page < length lsns.old }
+    ensures { lsns.new ≡ raised_to lsn lsns.old (page ∷ []) }
+{
+    lsns[page] = lsns[page].max(lsn);
 }

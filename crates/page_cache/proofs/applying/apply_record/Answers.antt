@@ -1,43 +1,38 @@
-use Rattle.std.proofs.Common.{ℕ, ◌*◌, List, [], length, ap, sym, subst, ◌∙◌}
-use Rattle.std.specs.Prelude.{map}
-use Rattle.std.specs.List.{enumerate_from}
-use Rattle.log_machine.specs.Machine.{put_all}
-use Rattle.log_machine.specs.RunsLeft.{runs_left}
-use Rattle.log_machine.proofs.Addresses.{effect-addresses}
-use Rattle.log_machine.proofs.RunLaws.{run_below, runs_done}
-use Rattle.page_redo.specs.Pages.{page_of}
-use Rattle.page_redo.specs.Redo.{raised_to}
+use Rattle.std.proofs.Common.{◌≡◌, ℕ, ◌<◌, List, [], length, ap, sym, subst, ◌∙◌}
+use Rattle.log_records.specs.declared.Record.{Record}
+use Rattle.log_records.specs.declared.Record.TheVariants.{Scan}
+use Rattle.log_machine.specs.Effect.{WritesBelow}
+use Rattle.log_machine.specs.Machine.{effect, put_all}
+use Rattle.log_machine.proofs.Addresses.{effect_writes}
 use Rattle.page_redo.proofs.RedoLaws.{redo_record-words}
-use Rattle.page_cache.specs.Writing.{AreBelow, pages_of}
+use Rattle.page_cache.specs.Writing.{AreBelow}
 use Rattle.page_cache.proofs.applying.apply_record.Goals as goal
 
-pub put_words-requires : goal.put_words-requires
-put_words-requires c =
-    let run = c.in-Some.run' in
+-- where a scan's record writes below an address, so do the writes that it lists
+scan_below : (end : ℕ) (rec : Record) (page : ℕ) (writes : List (ℕ × ℕ)) → rec ≡ Scan page writes → WritesBelow end rec → AreBelow end writes
+scan_below end rec page writes is below = effect_writes (λ a. a < end) [] (Scan page writes) (subst (λ (r : Record). WritesBelow end r) is below)
+
+pub apply_writes-requires : goal.apply_writes-requires
+apply_writes-requires c =
     let end = length c.args.words.now in
-    let below = run_below end c.args.rec.now c.loop-run.yielded (runs_left c.loop-run.run-iterator) (runs_left c.next.new.self) run c.requires.inside c.loop-run.invariant.left c.in-Some.ensures.steps in
-    let words = subst (λ (l : List ℕ). AreBelow end (enumerate_from run.0 l)) (sym c.words.ensures) below in
-    let here = subst (λ (a : ℕ). AreBelow end (enumerate_from a c.words.result.now)) (sym c.address.ensures) words in
-    subst (λ (n : ℕ). AreBelow n (enumerate_from c.address.result c.words.result.now)) (sym c.loop-run.auto.words) here
+    let below = scan_below end c.args.rec.now c.in-Scan.page c.in-Scan.writes c.in-Scan.is c.requires.inside in
+    record {
+      inside = subst (λ (l : List (ℕ × ℕ)). AreBelow end l) (sym c.as_slice.ensures.writes) below;
+      whole = c.requires.whole;
+    }
 
-pub raise_from-requires-clause-inside : goal.raise_from-requires-clause-inside
-raise_from-requires-clause-inside c =
-    let run = c.in-Some.run' in
-    let end = length c.args.words.now in
-    let below = run_below end c.args.rec.now c.loop-run.yielded (runs_left c.loop-run.run-iterator) (runs_left c.next.new.self) run c.requires.inside c.loop-run.invariant.left c.in-Some.ensures.steps in
-    let words = subst (λ (l : List ℕ). AreBelow end (enumerate_from run.0 l)) (sym c.words-in-loop-run.ensures) below in
-    let here = subst (λ (a : ℕ). AreBelow end (enumerate_from a c.words-in-loop-run.result.now)) (sym c.address-in-loop-run.ensures) words in
-    let size = c.requires.whole ∙ ap (λ (n : ℕ). 64 * n) (sym c.loop-run.auto.lsns) in
-    subst (λ (n : ℕ). AreBelow n (enumerate_from c.address-in-loop-run.result c.words-in-loop-run.result.now)) size here
+pub returns-in-Scan-clause-words : goal.returns-in-Scan-clause-words
+returns-in-Scan-clause-words c =
+    let words = c.args.words.now in
+    c.apply_writes.ensures.words
+    ∙ ap (put_all words) c.as_slice.ensures.writes
+    ∙ ap (λ (r : Record). put_all words (effect words r)) (sym c.in-Scan.is)
+    ∙ sym (redo_record-words c.args.lsn (record { words = words; lsns = c.args.lsns.now }) c.args.rec.now c.requires.new)
 
-pub returns-clause-words : goal.returns-clause-words
-returns-clause-words c =
-    c.loop-run.invariant.put
-    ∙ ap (put_all c.args.words.now) (runs_done c.args.words.now c.args.rec.now c.loop-run.yielded (runs_left c.loop-run.run-iterator) c.loop-run.invariant.left c.in-None.ensures.steps.0)
-    ∙ sym (redo_record-words c.args.lsn (record { words = c.args.words.now; lsns = c.args.lsns.now }) c.args.rec.now c.requires.new)
-
-pub returns-clause-lsns : goal.returns-clause-lsns
-returns-clause-lsns c =
-    c.loop-run.invariant.raised
-    ∙ ap (λ (ws : List (ℕ × ℕ)). raised_to c.args.lsn c.args.lsns.now (pages_of ws)) (runs_done [] c.args.rec.now c.loop-run.yielded (runs_left c.loop-run.run-iterator) c.loop-run.invariant.left c.in-None.ensures.steps.0)
-    ∙ ap (λ (l : List ℕ). raised_to c.args.lsn c.args.lsns.now (map page_of l)) (effect-addresses [] c.args.rec.now)
+pub returns-in_default : goal.returns-in_default
+returns-in_default c = record {
+  words =
+      c.apply_runs.ensures.words
+      ∙ sym (redo_record-words c.args.lsn (record { words = c.args.words.now; lsns = c.args.lsns.now }) c.args.rec.now c.requires.new);
+  lsns = c.apply_runs.ensures.lsns;
+}

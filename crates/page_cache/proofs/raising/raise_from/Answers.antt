@@ -8,15 +8,12 @@ use Rattle.page_cache.proofs.raising.raise_from.Goals as goal
 pub loop-i-preserved : goal.loop-i-preserved
 loop-i-preserved c =
     let page = page_of (c.args.address + c.loop-i.i) in
-    ap (set c.loop-i.lsns page) c.max.ensures
+    c.raise_page.ensures
     ∙ ap (λ (now : List ℕ). set now page (max (get_or now page 0) c.args.lsn)) c.loop-i.invariant
     ∙ sym (raised_more c.args.lsn c.args.lsns.now c.args.address c.loop-i.i c.args.words.now c.loop-i-test.true)
 
 pub overflow_add-page : goal.overflow_add-page
 overflow_add-page c = omega (arith, below_at c.args.address _ c.loop-i.i c.args.words.now c.requires.inside c.loop-i-test.true, c.requires.fits)
 
-pub bounds-lsns-page : goal.bounds-lsns-page
-bounds-lsns-page c = omega (arith, below_at c.args.address _ c.loop-i.i c.args.words.now c.requires.inside c.loop-i-test.true, c.loop-i.auto.lsns)
-
-pub bounds-lsns-page-in-loop-i : goal.bounds-lsns-page-in-loop-i
-bounds-lsns-page-in-loop-i c = omega (arith, below_at c.args.address _ c.loop-i.i c.args.words.now c.requires.inside c.loop-i-test.true, c.loop-i.auto.lsns)
+pub raise_page-requires : goal.raise_page-requires
+raise_page-requires c = omega (arith, below_at c.args.address _ c.loop-i.i c.args.words.now c.requires.inside c.loop-i-test.true, c.loop-i.auto.lsns)

@@ -5,7 +5,7 @@ use Rattle.log_machine.proofs.RunLaws.{run_writes}
 use Rattle.log_machine.specs.RunsLeft.{runs_left}
 use Rattle.page_redo.specs.Redo.{raised_to}
 use Rattle.page_cache.specs.Writing.{pages_of}
-use Rattle.page_cache.proofs.applying.apply_record.Given as goal
+use Rattle.page_cache.proofs.applying.apply_runs.Given as goal
 
 -- the runs so far are put, their pages are raised, and the other runs are still to come
 abbrev pub invariant-loop-run : goal.invariant-loop-run
