@@ -2,7 +2,7 @@
 use Rattle.std.proofs.Common.{◌≡◌, ℕ, ◌+◌, ◌-◌, ◌%◌, ◌<◌, ◌≤◌, ◌^◌, inl, inr, Bool, true, false, List, [], ◌∷◌, ◌++◌, length, take, replicate, get_or, set, Option, None, Some, refl, sym, ap, ◌∙◌, subst, arith}
 use Rattle.std.specs.Prelude.{◌==◌, if◌then◌else◌}
 use Rattle.std.proofs.lemmas.Bool.{cases_eq, cases_lt, eqb-true}
-use Rattle.std.proofs.lemmas.List.{length-append, length-set, map-append, take-append-le, take_all, take_more, get_or_append_left, get_or-replicate, get_or-set_same, get_or-set_other}
+use Rattle.std.proofs.lemmas.List.{length-append, nil_from_length, length-replicate, length-set, map-append, take-append-le, take_all, take_more, get_or_append_left, get_or-replicate, get_or-set_same, get_or-set_other}
 use Rattle.std.proofs.lemmas.List.Sums.{fold-append}
 use Rattle.std.proofs.Math.Seq.{get_or-append_seam}
 use Rattle.page_scanner.specs.declared.destinations.Move.{Move}
@@ -73,14 +73,13 @@ other_from m b apart = which (m.from == b) refl
     which false is = is
 
 -- Chains with one more move, which is put at the head of its bucket.
-pub chained_more : (moves : List Move) (heads : List ℕ) (m : Move) → AreChained moves heads → length moves + 1 < 2 ^ 32 → m.earlier ≡ get_or heads (m.from % BUCKETS) 0
+pub chained_more : (moves : List Move) (heads : List ℕ) (m : Move) → AreChained moves heads → length heads ≡ BUCKETS → length moves + 1 < 2 ^ 32 → m.earlier ≡ get_or heads (m.from % BUCKETS) 0
     → AreChained (moves ++ m ∷ []) (set heads (m.from % BUCKETS) (length moves + 1))
-chained_more moves heads m c few first =
+chained_more moves heads m c all few first =
     let one : length (moves ++ m ∷ []) ≡ length moves + 1 = length-append moves (m ∷ []) in
-    let all = c.buckets in
     record {
       few = omega (arith, few, one);
-      buckets = length-set heads (m.from % BUCKETS) (length moves + 1) ∙ c.buckets;
+      buckets = inr (length-set heads (m.from % BUCKETS) (length moves + 1) ∙ all);
       latest = λ b. elim (cases_eq (m.from % BUCKETS) (b % BUCKETS)) [
         | inl here ↦
             let inside : m.from % BUCKETS < length heads = omega (arith, all) in
@@ -108,13 +107,37 @@ chained_more moves heads m c few first =
       ];
     }
 
--- Without moves no bucket has a head.
-pub chained_none : (moves : List Move) → moves ≡ [] → AreChained moves (replicate BUCKETS 0)
-chained_none moves none = subst (λ (ms : List Move). AreChained ms (replicate BUCKETS 0)) (sym none) (record {
-  few = omega arith;
-  buckets = refl;
+-- Heads that lead nowhere are as good as none.
+pub chained_by_none : (moves : List Move) → AreChained moves [] → AreChained moves (replicate BUCKETS 0)
+chained_by_none moves c = record {
+  few = c.few;
+  buckets = inr (length-replicate {A = ℕ} BUCKETS 0);
   latest = λ b.
       let empty : get_or (replicate BUCKETS 0) (b % BUCKETS) 0 ≡ 0 = get_or-replicate BUCKETS (b % BUCKETS) 0 0 (omega arith) in
-      subst (λ (l : ℕ). IsLink [] 0 l b) (sym empty) (record { before = omega arith; bucket = λ some. absurd (omega (arith, some)); same = refl });
+      subst (λ (l : ℕ). IsLink moves (length moves) l b) (sym empty) (c.latest b);
+  earlier = c.earlier;
+}
+
+-- Heads are there, of which each leads where it led.
+pub record AreMade (moves : List Move) (heads : List ℕ) : Type 0 where
+  pub chained : AreChained moves heads
+  pub all : length heads ≡ BUCKETS
+
+pub made_now : (moves : List Move) (heads made : List ℕ) (n : ℕ) → AreChained moves heads → length heads ≡ 0 → n ≡ 0 → made ≡ take BUCKETS heads ++ replicate (BUCKETS - n) 0
+    → AreMade moves made
+made_now moves heads made n c none zero is =
+    let empty : heads ≡ [] = nil_from_length heads none in
+    let whole : made ≡ replicate BUCKETS 0 = is ∙ ap (λ (l : List ℕ). take BUCKETS l ++ replicate (BUCKETS - n) 0) empty ∙ ap (λ k. replicate (BUCKETS - k) 0) zero in
+    rw whole (record { chained = chained_by_none moves (subst (λ (l : List ℕ). AreChained moves l) empty c); all = length-replicate {A = ℕ} BUCKETS 0 })
+
+pub made_before : (moves : List Move) (heads : List ℕ) → AreChained moves heads → (length heads ≡ 0 → ⊥) → AreMade moves heads
+made_before moves heads c some = record { chained = c; all = elim c.buckets [ inl none ↦ absurd (some none) | inr all ↦ all ] }
+
+-- Without moves there may be no heads.
+pub chained_none : (moves : List Move) (heads : List ℕ) → moves ≡ [] → heads ≡ [] → AreChained moves heads
+chained_none moves heads none empty = rw (none, empty) (record {
+  few = omega arith;
+  buckets = inl refl;
+  latest = λ b. record { before = omega arith; bucket = λ some. absurd (omega (arith, some)); same = refl };
   earlier = λ i b within here. absurd (omega (arith, within));
 })

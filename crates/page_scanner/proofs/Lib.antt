@@ -4,6 +4,7 @@ pub mod Copies
 mod Errors
 mod Fields
 mod Following
+mod Grown
 mod Headers
 mod Loops
 mod Plans

@@ -1,5 +1,5 @@
 -- Where objects go, and how that is found.
-use Rattle.std.specs.Prelude.{◌≡◌, ℕ, ◌-◌, ◌%◌, ◌<◌, ◌≤◌, ◌^◌, ◌==◌, List, length, map, fold, take, slice_index, slice_index_or, Option, None, Some, if◌then◌else◌}
+use Rattle.std.specs.Prelude.{◌≡◌, ◌⊎◌, ℕ, ◌-◌, ◌%◌, ◌<◌, ◌≤◌, ◌^◌, ◌==◌, List, length, map, fold, take, slice_index, slice_index_or, Option, None, Some, if◌then◌else◌}
 use Rattle.page_scanner.specs.declared.destinations.Move.{Move}
 use Rattle.page_scanner.specs.declared.destinations.TheConstants.{BUCKETS}
 
@@ -21,9 +21,9 @@ pub record IsLink (moves : List Move) (end link b : ℕ) : Type 0 where
   pub bucket : 0 < link → (move_at moves (link - 1)).from % BUCKETS ≡ b % BUCKETS
   pub same : goes_to (pairs (take end moves)) b ≡ goes_to (pairs (take link moves)) b
 
--- Each bucket's head leads to its last move, and each move to the one before it in its bucket.
+-- Each bucket's head leads to its last move, and each move to the one before it in its bucket. Heads that are not there yet lead nowhere.
 pub record AreChained (moves : List Move) (heads : List ℕ) : Type 0 where
   pub few : length moves < 2 ^ 32
-  pub buckets : length heads ≡ BUCKETS
+  pub buckets : length heads ≡ 0 ⊎ length heads ≡ BUCKETS
   pub latest : (b : ℕ) → IsLink moves (length moves) (slice_index heads (b % BUCKETS)) b
   pub earlier : (i b : ℕ) → i < length moves → (move_at moves i).from % BUCKETS ≡ b % BUCKETS → IsLink moves i (move_at moves i).earlier b

@@ -1,5 +1,5 @@
 //! Where the objects go that a scan copies.
-ghost use Rattle.std.specs.Prelude.{◌≡◌, ◌+◌, ◌<◌, ◌^◌, ◌++◌, [], ◌∷◌, length, OnOk};
+ghost use Rattle.std.specs.Prelude.{◌≡◌, ◌+◌, ◌%◌, ◌<◌, ◌^◌, ◌++◌, [], ◌∷◌, length, OnOk};
 
 use std::alloc::{AllocError, Global};
 use std::marker::Model;
@@ -14,8 +14,9 @@ const BUCKETS: u32 = 577;
 pub(crate) struct Destinations {
     // All moves, in their order.
     moves: Vec<Move>,
-    // For each bucket, one more than the place of its last move, or 0.
-    heads: [u32; BUCKETS as usize],
+    // For each bucket, one more than the place of its last move, or 0. Empty until there is a move: most pages lead to no object that is left to be
+    // copied, and need no table.
+    heads: Vec<u32>,
 }
 
 // An object goes from one address to another.
@@ -36,7 +37,7 @@ impl Model for Destinations {
 
     ghost view = { λ s. pairs s.moves.items };
 
-    ghost invariant = { λ s. AreChained s.moves.items s.heads };
+    ghost invariant = { λ s. AreChained s.moves.items s.heads.items };
 }
 
 impl Destinations {
@@ -48,7 +49,7 @@ impl Destinations {
     {
         Destinations {
             moves: Vec::new(alloc),
-            heads: [0; BUCKETS as usize],
+            heads: Vec::new(alloc),
         }
     }
 
@@ -56,7 +57,7 @@ impl Destinations {
     pub(crate) fn get(&self, from: u32) -> Option<u32>
         ensures { result ≡ goes_to self.now from }
     {
-        let mut link = self.heads[(from % BUCKETS) as usize];
+        let mut link = self.heads.get(bucket_of(from)).copied().unwrap_or(0);
         while link > 0 {
             let candidate = self.moves[(link - 1) as usize];
             if candidate.from == from {
@@ -72,10 +73,21 @@ impl Destinations {
         requires { length self.old + 1 < 2 ^ 32 }
         ensures { OnOk result (self.new ≡ self.old ++ (from, to) ∷ []) }
     {
-        let bucket = (from % BUCKETS) as usize;
+        if self.heads.is_empty() {
+            self.heads.resize(BUCKETS as usize, 0)?;
+        }
+        let bucket = bucket_of(from);
         let earlier = self.heads[bucket];
         self.moves.push(Move { from, to, earlier })?;
         self.heads[bucket] = self.moves.len() as u32;
         Ok(())
     }
+}
+
+/// The bucket of the objects that stood at an address.
+fn bucket_of(from: u32) -> usize
+    ensures bucket { result ≡ from % BUCKETS }
+    ensures few { result < 577 }
+{
+    (from % BUCKETS) as usize
 }

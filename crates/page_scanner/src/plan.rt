@@ -15,7 +15,10 @@ use crate::spaces::{is_in_from_space, is_left, space_words};
 use heap_spaces::{Collection, CopiedObject, Spaces};
 use heap_words::{FIELDS_AT, Header, PAGE_WORDS, STABLE_WORDS, Word, decode, encode};
 use object_layout::{Words, object_at};
-use std::alloc::Global;
+use std::alloc::{AllocError, Global};
+
+// The words of a small object.
+const FEW_WORDS: usize = 4;
 
 /// What a scan has planned so far.
 #[derive(Drop)]
@@ -230,9 +233,26 @@ impl Plan {
         if !self.can_copy(spaces, collection, object, size) {
             return Err(ScanError::Damaged);
         }
+        if self.copies.is_empty() {
+            self.make_room()?;
+        }
         let to = self.next_free(spaces);
         self.append(words, object, to, size)?;
         Ok(to)
+    }
+
+    // Allocates memory for as many copies as a page has words, since a page that leads to one object is likely to lead to many.
+    fn make_room(&mut self) -> Result<(), AllocError>
+        requires plan { IsPlan self.old }
+        ensures planned { planned self.new ≡ planned self.old }
+        ensures plan { IsPlan self.new }
+        ensures first { self.new.first ≡ self.old.first }
+    {
+        let few = PAGE_WORDS as usize;
+        self.copies.reserve(few)?;
+        self.words.reserve(FEW_WORDS * few)?;
+        self.writes.reserve(few)?;
+        Ok(())
     }
 
     // Whether an object of `size` words is left to be copied, and there is room for it.
