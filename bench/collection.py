@@ -6,7 +6,8 @@
 The heap is a list of directories of 509 leaves each, reached from the root; N is how many directories the short one has, 16 if left out, and
 at most 32. Each run begins on a copy of the same file. Whole runs are timed by the processor time of the program, which other work on the
 machine changes least, and the least of 9 runs counts; the time of a run on an empty script, which opens the heap and prints its graph, is
-taken off. Pauses are the processor time of `heap session` between a line and its answer, as Linux tells it. It needs gcc, measures, and judges
+taken off. Beside the C program 30 rounds count, in each of which all take their turn. Its memory was written before its clock began, so that what is timed are
+collections after others and a force, whose memory the log has kept; what is taken off is a run with as many scans that have nothing to do in their place. Pauses are the processor time of `heap session` between a line and its answer, as Linux tells it. It needs gcc, measures, and judges
 nothing. With --quick the program is that which is compiled with nothing proved; it has checks at each step, and its times say little.
 """
 import os
@@ -21,9 +22,9 @@ QUICK = ["--quick"] * (sys.argv[1:2] == ["--quick"])
 BUILT = os.path.join(TOP, ".build", *["quick"] * bool(QUICK))
 HEAP, SESSION = os.path.join(BUILT, "heap_shell"), os.path.join(BUILT, "heap_session")
 RUNS = 9
+ROUNDS = 30
 PAUSES = 15
 LEAVES = 509
-LOG = 12 * 1_048_576
 COLLECTIONS = 6
 
 
@@ -54,37 +55,51 @@ def words_of(directories, leaf_words):
     return 6 + directories * (512 + LEAVES * leaf_words)
 
 
+def log_bytes(directories, leaf_words):
+    """Room for the transactions that make the heap, and for two rounds of collections of it."""
+    objects = directories * (LEAVES + 1)
+    return 1_048_576 + (2 * COLLECTIONS + 2) * (8 * words_of(directories, leaf_words) + 60 * objects)
+
+
 def build(name, directories, leaf_words=4):
     """A heap of so many directories, kept in a file of this name. Its objects are in the spaces for the first time."""
     pages = words_of(directories, leaf_words) // 64 + 8
-    run(["format", str(pages), str(LOG), "1"])
+    run(["format", str(pages), str(log_bytes(directories, leaf_words)), "1"])
     for made in range(directories):
         run(["play"], directory(leaf_words, made == 0))
     os.replace("heap.img", name)
 
 
-def timed(name, text, wanted):
-    """The least seconds of processor time of a script on a copy of the heap. So many answers have the wanted word."""
+def timed_once(name, text, wanted):
+    """The seconds of processor time of a script on a copy of the heap. So many answers have the wanted word."""
     word, count = wanted
-    times = []
-    for _ in range(RUNS):
-        shutil.copyfile(name, "heap.img")
-        before = spent()
-        replies = run(["play"], text)
-        times.append(spent() - before)
-        if replies.count(f" {word}") != count:
-            sys.exit(f"collection: {replies.count(f' {word}')} answers are {word}, and not {count}")
-    return min(times)
+    shutil.copyfile(name, "heap.img")
+    before = spent()
+    replies = run(["play"], text)
+    seconds = spent() - before
+    if replies.count(f" {word}") != count:
+        sys.exit(f"collection: {replies.count(f' {word}')} answers are {word}, and not {count}")
+    return seconds
+
+
+def timed(name, text, wanted):
+    """The least seconds of processor time of a script on a copy of the heap."""
+    return min(timed_once(name, text, wanted) for _ in range(RUNS))
+
+
+def scans(directories, leaf_words=4):
+    """How many scans a collection needs at most."""
+    return words_of(directories, leaf_words) // 64 + 3
 
 
 def collections(directories, leaf_words=4):
     """Collections one after another, each with a scan for every page."""
-    return ("flip\n" + "scan\n" * (words_of(directories, leaf_words) // 64 + 3)) * COLLECTIONS
+    return ("flip\n" + "scan\n" * scans(directories, leaf_words)) * COLLECTIONS
 
 
-def collecting(name, directories, leaf_words=4):
+def collecting(name, directories):
     """The seconds of the collections alone."""
-    whole = timed(name, collections(directories, leaf_words), ("collected", COLLECTIONS))
+    whole = timed(name, collections(directories), ("collected", COLLECTIONS))
     return whole - timed(name, "", ("collected", 0))
 
 
@@ -93,17 +108,35 @@ def by_size(n):
     build("long", 2 * n)
     short, long = collecting("short", n), collecting("long", 2 * n)
     print(f"a collection of {2 * n * (LEAVES + 1)} live objects takes {long / short:.2f} times as long as one of {n * (LEAVES + 1)}")
-    return short
 
 
 def copies_of_c(directories, leaf_words):
     args = ["./collection", "log", str(directories), str(leaf_words), str(COLLECTIONS)]
-    return min(float(subprocess.run(args, stdout=subprocess.PIPE, check=True).stdout) for _ in range(RUNS))
+    return float(subprocess.run(args, stdout=subprocess.PIPE, check=True).stdout)
 
 
-def beside_c(n, leaf_words, ours):
-    words, c = COLLECTIONS * words_of(n, leaf_words), copies_of_c(n, leaf_words)
-    print(f"leaves of {leaf_words} words: {words / ours / 1e6:.1f} million words copied a second, the C program {words / c / 1e6:.1f}: ratio {c / ours:.2f}")
+def beside_c(n, leaf_words):
+    """Copies of a heap whose leaves have so many words. Larger leaves are fewer, so that about as many words are copied."""
+    n = max(1, 4 * n // leaf_words)
+    build("copied", n, leaf_words)
+    before, again = collections(n, leaf_words) + "force\n", collections(n, leaf_words)
+    idle = "scan\n" * (COLLECTIONS * (scans(n, leaf_words) + 1))
+    rounds = [
+        (
+            timed_once("copied", before + again, ("collected", 2 * COLLECTIONS)),
+            timed_once("copied", before + idle, ("collected", COLLECTIONS)),
+            timed_once("copied", again, ("collected", COLLECTIONS)),
+            timed_once("copied", "", ("collected", 0)),
+            copies_of_c(n, leaf_words),
+        )
+        for _ in range(ROUNDS)
+    ]
+    both, base, first, empty, c = map(min, zip(*rounds))
+    words, ours = COLLECTIONS * words_of(n, leaf_words), both - base
+    print(
+        f"leaves of {leaf_words} words: {words / ours / 1e6:.1f} million words copied a second, the C program {words / c / 1e6:.1f}: ratio {c / ours:.2f};"
+        f" {c / (first - empty):.2f} in first collections, with new memory for the log and the text of their lines"
+    )
 
 
 def reads(count):
@@ -185,9 +218,9 @@ def main():
     subprocess.run([*heap, "session"], stdin=subprocess.DEVNULL, stdout=subprocess.PIPE, check=True)
     subprocess.run(["gcc", "-O2", "-o", "collection", f"{TOP}/bench/collection.c"], check=True)
     print(f"load {os.getloadavg()[0]:.1f}")
-    beside_c(n, 4, by_size(n))
-    build("wide", n, 7)
-    beside_c(n, 7, collecting("wide", n, 7))
+    by_size(n)
+    for leaf_words in (4, 7, 16, 64):
+        beside_c(n, leaf_words)
     without, within = reads(10_000)
     print(f"a read beside a collection, of a page with nothing gray: {within / without:.2f} times as long as without one")
     by_heap(n)
