@@ -3,7 +3,7 @@
 use crate::playing::{Played, disk_of, expect_played, make_disk, play_on, same};
 use crate::stop_tests::{
     DRAWN, DRAWN_LINES, FLUSH_STOPPED, FORCE_CALLS, FORCED_INSIDE, FOUR, OBJECTS_FORCED_INSIDE,
-    ONE, Told, check_played, draw_script, ending_of,
+    ONE, Sessions, Told, check_played, draw_script, ending_of,
 };
 use disk_model::Pick;
 use heap_program::Status;
@@ -27,14 +27,14 @@ fn make_stored(alloc: Global) -> Result<Vec<u8>, AllocError> {
     disk.contents().to_vec(alloc)
 }
 
-/// What is inserted after the lines of a script, in turn.
+/// How the lines of a script end, in turn, and what is inserted after them.
 type Flushes = [&'static str; 5];
 
 /// Both pages, after each line.
-const EACH: Flushes = ["flush 0\nflush 1\n"; 5];
+const EACH: Flushes = ["\nflush 0\nflush 1\n"; 5];
 
 /// A page after some lines, so that both have records after what is stored of them, of which some are on the disk and some are not.
-const SOME: Flushes = ["", "", "flush 0\n", "", "flush 1\n"];
+const SOME: Flushes = ["\n", "\n", "\nflush 0\n", "\n", "\nflush 1\n"];
 
 /// The lines of flushes that are neither refused nor cut short.
 const FLUSH_LINES: [&str; 8] = [
@@ -50,26 +50,46 @@ const FLUSH_LINES: [&str; 8] = [
 
 fn with_flushes(alloc: Global, script: &str, flushes: &Flushes) -> Result<String, AllocError> {
     let mut flushed = String::new(alloc);
-    for (i, line) in script.lines().enumerate() {
-        write!(flushed, "{line}\n{}", flushes[i % 5])?;
+    let mut place: usize = 0;
+    for line in script.lines() {
+        flushed.push_str(line)?;
+        flushed.push_str(flushes[place % 5])?;
+        place = place.wrapping_add(1);
     }
     Ok(flushed)
 }
 
-/// Leaves out the lines of flushes, since the slow heap has no pages. Of one that stopped it leaves that.
+fn expect_flushed(rt: &impl Abort, line: &str) {
+    same(rt, (line, FLUSH_LINES.contains(&line)), (line, true));
+}
+
+/// What is left of a line: of one of a flush nothing, since the slow heap has no pages, unless it stopped.
+fn left_of<'a>(rt: &impl Abort, line: &'a str) -> Option<&'a str> {
+    if !line.starts_with("flush ") {
+        return Some(line);
+    }
+    if line.ends_with(" -> stopped") {
+        return Some(FLUSH_STOPPED);
+    }
+    expect_flushed(rt, line);
+    None
+}
+
+/// Leaves out the lines of flushes.
 fn without_flushes(rt: &impl Abort, alloc: Global, output: &[u8]) -> Result<Vec<u8>, AllocError> {
     let text = str::from_utf8(output).unwrap_or("");
     let mut kept = String::new(alloc);
     for line in text.lines() {
-        if !line.starts_with("flush ") {
-            writeln!(kept, "{line}")?;
-        } else if line.ends_with(" -> stopped") {
-            kept.push_str(FLUSH_STOPPED)?;
-        } else {
-            same(rt, (line, FLUSH_LINES.contains(&line)), (line, true));
+        if let Some(left) = left_of(rt, line) {
+            push_line(&mut kept, left)?;
         }
     }
     Ok(kept.into_bytes())
+}
+
+fn push_line(text: &mut String, line: &str) -> Result<(), AllocError> {
+    text.push_str(line)?;
+    text.push('\n')
 }
 
 /// A script with flushes, what the slow heap answers to it without them, and the heap that it is played on.
@@ -87,10 +107,14 @@ impl<'a> Flushed<'a> {
         script: &'a str,
         flushes: &Flushes,
     ) -> Result<Flushed<'a>, Fail> {
+        let flushed = with_flushes(alloc, script, flushes)?;
+        let image = make_stored(alloc)?;
+        // The slow heap comes last, since the proof of each way out that drops it takes long.
+        let told = Told::of(rt, alloc, script)?;
         Ok(Flushed {
-            told: Told::of(rt, alloc, script)?,
-            script: with_flushes(alloc, script, flushes)?,
-            image: make_stored(alloc)?,
+            told,
+            script: flushed,
+            image,
         })
     }
 
@@ -112,16 +136,29 @@ impl<'a> Flushed<'a> {
 
     /// Plays it without a stop. Such a play ends with these lines of its own.
     fn expect_whole(&self, rt: &impl Abort, alloc: Global, ending: &str) -> Result<(), AllocError> {
+        let output = self.told.whole(ending)?;
         let played = self.play(rt, alloc, "heap play", Pick::Newest)?;
-        let mut output = self.told.lines.clone()?.into_bytes();
-        output.extend_from_slice(ending.as_bytes())?;
-        output.extend_from_slice(&self.told.heap.text(self.told.heap.sealed())?)?;
         expect_played(rt, &played, Status::Done, &output);
         Ok(())
     }
 
-    /// Stops it after that many calls, and then the recovery at each of its own and after them, which changes nothing. Returns whether the first
-    /// stop came.
+    /// Stops the recovery that follows a stop after that many calls at each of its own calls and after them, which changes nothing.
+    fn expect_again(
+        &self,
+        rt: &impl Abort,
+        alloc: Global,
+        once: &Played,
+        (pick, calls): (Pick, usize),
+    ) -> Result<(), AllocError> {
+        for again in 0..=FORCE_CALLS {
+            let line = format!(in alloc; "heap play --stop {calls} --again {again}")?;
+            let twice = self.play(rt, alloc, line.as_str(), pick)?;
+            expect_played(rt, &twice, once.status, &once.output);
+        }
+        Ok(())
+    }
+
+    /// Stops it after that many calls, and then the recovery. Returns whether the first stop came.
     fn stops(
         &self,
         rt: &impl Abort,
@@ -131,12 +168,23 @@ impl<'a> Flushed<'a> {
     ) -> Result<bool, Fail> {
         let line = format!(in alloc; "heap play --stop {calls}")?;
         let once = self.play(rt, alloc, line.as_str(), pick)?;
-        for again in 0..=FORCE_CALLS {
-            let line = format!(in alloc; "heap play --stop {calls} --again {again}")?;
-            let twice = self.play(rt, alloc, line.as_str(), pick)?;
-            expect_played(rt, &twice, once.status, &once.output);
-        }
+        self.expect_again(rt, alloc, &once, (pick, calls))?;
         Ok(check_played(rt, &self.told, &once, pick, calls)?.0)
+    }
+
+    /// Stops it at each of that many calls and after them.
+    fn check_stops(
+        &self,
+        rt: &impl Abort,
+        alloc: Global,
+        pick: Pick,
+        calls: usize,
+    ) -> Result<(), Fail> {
+        for stop in 0..=calls {
+            let stopped = self.stops(rt, alloc, pick, stop)?;
+            same(rt, (stop, stopped), (stop, stop < calls));
+        }
+        Ok(())
     }
 }
 
@@ -153,11 +201,7 @@ struct Stored {
 fn check_flushed(rt: &impl Abort, alloc: Global, stored: &Stored, pick: Pick) -> Result<(), Fail> {
     let flushed = Flushed::of(rt, alloc, stored.script, stored.flushes)?;
     flushed.expect_whole(rt, alloc, stored.ending)?;
-    for stop in 0..=stored.calls {
-        let stopped = flushed.stops(rt, alloc, pick, stop)?;
-        same(rt, (stop, stopped), (stop, stop < stored.calls));
-    }
-    Ok(())
+    flushed.check_stops(rt, alloc, pick, stored.calls)
 }
 
 /// An object that lies on the first two pages is made and then written at both ends, by a transaction that commits and by one that is taken back.
@@ -269,30 +313,41 @@ fn stored_objects_are_promoted_or_gone_from_filled_bytes(rt: HostRuntime) -> Res
 }
 
 /// Four pages, after some lines.
-const FOUR_PAGES: Flushes = ["", "flush 0\n", "flush 1\nflush 2\n", "", "flush 3\n"];
+const FOUR_PAGES: Flushes = [
+    "\n",
+    "\nflush 0\n",
+    "\nflush 1\nflush 2\n",
+    "\n",
+    "\nflush 3\n",
+];
 
-/// Plays drawn scripts of these sessions with flushes and without a stop.
-fn check_whole_flushed(
+/// Plays a drawn script of these sessions with flushes and without a stop.
+fn check_drawn(
     rt: &impl Abort,
     alloc: Global,
-    sessions: [u32; 4],
-    flushes: &Flushes,
+    script: &str,
+    sessions: &Sessions,
 ) -> Result<(), Fail> {
+    let flushed = Flushed::of(rt, alloc, script, &FOUR_PAGES)?;
+    let ending = ending_of(alloc, &flushed.told, sessions)?;
+    flushed.expect_whole(rt, alloc, ending.as_str())?;
+    Ok(())
+}
+
+fn check_whole(rt: &impl Abort, alloc: Global, sessions: &Sessions) -> Result<(), Fail> {
     for seed in 0..DRAWN {
         let script = draw_script(alloc, seed, sessions, DRAWN_LINES)?;
-        let flushed = Flushed::of(rt, alloc, script.as_str(), flushes)?;
-        let ending = ending_of(alloc, &flushed.told, sessions)?;
-        flushed.expect_whole(rt, alloc, ending.as_str())?;
+        check_drawn(rt, alloc, script.as_str(), sessions)?;
     }
     Ok(())
 }
 
 #[test]
 fn flushes_leave_drawn_scripts_their_answers(rt: HostRuntime) -> Result<(), Fail> {
-    check_whole_flushed(&rt, rt.alloc(), ONE, &FOUR_PAGES)
+    check_whole(&rt, rt.alloc(), &ONE)
 }
 
 #[test]
 fn flushes_leave_four_drawn_sessions_their_answers(rt: HostRuntime) -> Result<(), Fail> {
-    check_whole_flushed(&rt, rt.alloc(), FOUR, &FOUR_PAGES)
+    check_whole(&rt, rt.alloc(), &FOUR)
 }

@@ -74,14 +74,6 @@ const FULL_LOG_RUNS: [Run; 4] = [
     ),
 ];
 
-#[test]
-fn the_smallest_logs_keep_room_for_each_end(rt: HostRuntime) -> Result<(), Fail> {
-    let alloc = rt.alloc();
-    let disk = make_disk(alloc, SMALL_IMAGE, Pick::Newest)?;
-    expect_runs(&rt, alloc, disk, &FULL_LOG_RUNS)?;
-    Ok(())
-}
-
 /// A heap is made, played on and printed. The next number follows the log's greatest, and seals are counted from the opening on.
 const KEPT_RUNS: [Run; 8] = [
     FORMATTED,
@@ -135,10 +127,14 @@ const LAST_NUMBER_RUNS: [Run; 2] = [
     ),
 ];
 
+/// The runs of one heap each.
+const HEAPS: [&[Run]; 3] = [&FULL_LOG_RUNS, &KEPT_RUNS, &LAST_NUMBER_RUNS];
+
 #[test]
-fn a_heap_is_made_played_on_and_printed(rt: HostRuntime) -> Result<(), Fail> {
-    image_of(&rt, rt.alloc(), &KEPT_RUNS)?;
-    image_of(&rt, rt.alloc(), &LAST_NUMBER_RUNS)?;
+fn heaps_are_made_played_on_and_printed(rt: HostRuntime) -> Result<(), Fail> {
+    for runs in &HEAPS {
+        image_of(&rt, rt.alloc(), runs)?;
+    }
     Ok(())
 }
 
@@ -175,13 +171,24 @@ const STORED_RUNS: [Run; 7] = [
     ("heap graph", "", Status::Done, "graph 1\n0: - 8 5 -\n"),
 ];
 
+/// Runs command lines on a heap.
+fn expect_runs_on(
+    rt: &impl Abort,
+    alloc: Global,
+    image: &[u8],
+    pick: Pick,
+    runs: &[Run],
+) -> Result<(), Fail> {
+    let disk = disk_of(alloc, image.to_vec(alloc)?, pick, RECORD_BYTES, None)?;
+    expect_runs(rt, alloc, disk, runs)?;
+    Ok(())
+}
+
 #[test]
 fn a_stored_page_is_gone_on_with_in_the_next_run(rt: HostRuntime) -> Result<(), Fail> {
-    let alloc = rt.alloc();
+    let image = image_of(&rt, rt.alloc(), &[FORMATTED])?;
     for pick in &PICKS {
-        let image = image_of(&rt, alloc, &[FORMATTED])?;
-        let disk = disk_of(alloc, image, *pick, RECORD_BYTES, None)?;
-        expect_runs(&rt, alloc, disk, &STORED_RUNS)?;
+        expect_runs_on(&rt, rt.alloc(), &image, *pick, &STORED_RUNS)?;
     }
     Ok(())
 }
@@ -214,33 +221,47 @@ fn heap_with_a_loser(rt: &impl Abort, alloc: Global) -> Result<Vec<u8>, Fail> {
     )
 }
 
-/// Runs that are stopped in their opening, and again in the one after it.
-const CUT_OFF: [Run; 4] = [
-    ("heap play --stop 0", ONE_COMMIT, Status::Done, TAKEN_BACK),
-    ("heap play --stop 1", ONE_COMMIT, Status::Done, TAKEN_BACK),
-    ("heap play --stop 2", ONE_COMMIT, Status::Done, TAKEN_BACK),
-    (
-        "heap play --stop 3 --again 1",
-        ONE_COMMIT,
-        Status::Done,
-        TAKEN_BACK,
-    ),
+/// Runs that are stopped in their opening, and again in the one after it, each before one that prints the graph.
+const CUT_OFF: [[Run; 2]; 4] = [
+    [
+        ("heap play --stop 0", ONE_COMMIT, Status::Done, TAKEN_BACK),
+        AS_COMMITTED,
+    ],
+    [
+        ("heap play --stop 1", ONE_COMMIT, Status::Done, TAKEN_BACK),
+        AS_COMMITTED,
+    ],
+    [
+        ("heap play --stop 2", ONE_COMMIT, Status::Done, TAKEN_BACK),
+        AS_COMMITTED,
+    ],
+    [
+        (
+            "heap play --stop 3 --again 1",
+            ONE_COMMIT,
+            Status::Done,
+            TAKEN_BACK,
+        ),
+        AS_COMMITTED,
+    ],
 ];
 
 const TAKEN_BACK: &str = "recovered 0\ngraph 1\n0: 7 - - -\n";
 
-const AS_COMMITTED: [Run; 1] = [("heap graph", "", Status::Done, "graph 1\n0: 7 - - -\n")];
+const AS_COMMITTED: Run = ("heap graph", "", Status::Done, "graph 1\n0: 7 - - -\n");
+
+fn expect_cut_off(rt: &impl Abort, alloc: Global, image: &[u8], pick: Pick) -> Result<(), Fail> {
+    for runs in &CUT_OFF {
+        expect_runs_on(rt, alloc, image, pick, runs)?;
+    }
+    Ok(())
+}
 
 #[test]
 fn an_opening_that_is_stopped_recovers_none_of_the_run(rt: HostRuntime) -> Result<(), Fail> {
-    let alloc = rt.alloc();
-    let image = heap_with_a_loser(&rt, alloc)?;
+    let image = heap_with_a_loser(&rt, rt.alloc())?;
     for pick in &PICKS {
-        for run in &CUT_OFF {
-            let disk = disk_of(alloc, image.clone()?, *pick, RECORD_BYTES, None)?;
-            let disk = expect_runs(&rt, alloc, disk, &[*run])?;
-            expect_runs(&rt, alloc, disk, &AS_COMMITTED)?;
-        }
+        expect_cut_off(&rt, rt.alloc(), &image, *pick)?;
     }
     Ok(())
 }
@@ -261,7 +282,8 @@ fn a_disk_has_the_bytes_of_the_image_or_is_left_alone(rt: HostRuntime) -> Result
     let alloc = rt.alloc();
     let small = make_disk(alloc, SMALL_IMAGE - 1, Pick::Newest)?;
     let small = expect_runs(&rt, alloc, small, &TOO_SMALL)?;
-    same(&rt, small.contents().iter().all(|byte| *byte == 0), true);
+    let zeros = vec![in alloc; 0u8; SMALL_IMAGE - 1]?;
+    same(&rt, small.contents() == zeros.as_slice(), true);
     image_of(&rt, alloc, &[FORMATTED])?;
     Ok(())
 }
@@ -339,7 +361,8 @@ fn a_fault_in_a_force_ends_the_run_and_fails_the_heap(rt: HostRuntime) -> Result
     let alloc = rt.alloc();
     let image = image_of(&rt, alloc, &[FORMATTED])?;
     expect_runs(&rt, alloc, disk_with(alloc, &image, Some(2))?, &FAULT_RUNS)?;
-    expect_failed(&rt, alloc, disk_with(alloc, &image, Some(2))?)
+    expect_failed(&rt, alloc, disk_with(alloc, &image, Some(2))?)?;
+    Ok(())
 }
 
 /// Five events of which the last one meets a fault.
@@ -361,17 +384,23 @@ fn step(rt: &impl Abort, heap: &mut Heap<MemoryDisk>, event: Event) -> Result<Re
     heap.step(event)
 }
 
+fn open(rt: &impl Abort, alloc: Global, disk: MemoryDisk) -> Heap<MemoryDisk> {
+    match Heap::open(alloc, disk) {
+        Ok(heap) => heap,
+        Err(_) => panic!(rt; "not opened"),
+    }
+}
+
 /// A step after the fifth entry reports it.
-fn expect_failed(rt: &impl Abort, alloc: Global, disk: MemoryDisk) -> Result<(), Fail> {
-    let Ok(mut heap) = Heap::open(alloc, disk) else {
-        panic!(rt; "not opened");
-    };
+const FAILED: Reply = Reply::Refused {
+    why: Refusal::Failed { entry: 5 },
+};
+
+fn expect_failed(rt: &impl Abort, alloc: Global, disk: MemoryDisk) -> Result<(), AllocError> {
+    let mut heap = open(rt, alloc, disk);
     for event in &FIVE {
         step(rt, &mut heap, *event)?;
     }
-    let failed = Reply::Refused {
-        why: Refusal::Failed { entry: 5 },
-    };
-    same(rt, step(rt, &mut heap, Event::Force)?, failed);
+    same(rt, step(rt, &mut heap, Event::Force)?, FAILED);
     Ok(())
 }

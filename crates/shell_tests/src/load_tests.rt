@@ -1,10 +1,6 @@
 //! Loads: what they print, that equal ones print the same, and how they end on disks and sinks that fail.
-use crate::playing::{
-    PICKS, Played, RECORD_BYTES, disk_of, expect_played, make_disk, run_failing, run_words,
-    words_of,
-};
+use crate::playing::{PICKS, Played, RECORD_BYTES, disk_of, expect_played, make_disk, run_failing};
 use disk_model::{Disk, FuseDisk, MemoryDisk, Pick};
-use heap_io::{MemorySink, MemorySource};
 use heap_program::Status;
 use std::alloc::{AllocError, Global};
 use std::process::Abort;
@@ -14,8 +10,6 @@ use std::test::Fail;
 const SMALL_DISK: usize = 1_050_752;
 
 const LARGE_DISK: usize = 1_183_808;
-
-const SMALL_SINK: usize = 1_024;
 
 const TWO_ROUNDS: &str =
     "load 1 2\nevents 17\nsealed 1\naborted 1\nrefused 0\ncollected 0\nobjects 2\n";
@@ -98,15 +92,11 @@ fn load_stopped(
     disk: MemoryDisk,
     passes: u64,
 ) -> Result<(Played, MemoryDisk), AllocError> {
-    let words = words_of(alloc, "heap load 1 2")?;
-    let mut source = MemorySource::of(Vec::new(alloc), Vec::new(alloc));
-    let mut sink = MemorySink::of(alloc, SMALL_SINK, Vec::new(alloc))?;
     let fuse = FuseDisk::new(disk, passes);
-    let (status, fuse) = run_words(alloc, &words, fuse, &mut source, &mut sink)?;
+    let (played, fuse) = run_failing(alloc, "heap load 1 2", b"", fuse, (None, None))?;
     let mut disk = fuse.into_inner();
     disk.restart();
-    let output = sink.bytes().to_vec(alloc)?;
-    Ok((Played { status, output }, disk))
+    Ok((played, disk))
 }
 
 /// The graph of a heap on which a load of two rounds was stopped, without its commit and with it.
@@ -118,38 +108,77 @@ const KEPT: &str = "graph 2\n0: - - - @1\n1: 2 - -\n";
 fn check_stopped(
     rt: &impl Abort,
     alloc: Global,
-    (pick, passes): (Pick, u64),
-    (status, output): (Status, &str),
+    pick: Pick,
+    stop: &Stop,
     graph: &str,
-) -> Result<(), Fail> {
-    let made = make_disk(alloc, SMALL_DISK, pick)?;
-    let made = load_on(alloc, "heap format 1 65536 1", made)?.1;
-    let (played, disk) = load_stopped(alloc, made, passes)?;
-    expect_played(rt, &played, status, output.as_bytes());
+) -> Result<(), AllocError> {
+    let made = load_on(
+        alloc,
+        "heap format 1 65536 1",
+        make_disk(alloc, SMALL_DISK, pick)?,
+    )?
+    .1;
+    let (played, disk) = load_stopped(alloc, made, stop.passes)?;
+    expect_played(rt, &played, stop.status, stop.output.as_bytes());
     let printed = load_on(alloc, "heap graph", disk)?.0;
     expect_played(rt, &printed, Status::Done, graph.as_bytes());
     Ok(())
 }
 
-/// After how many calls a load stops, and which graph is there then, by each pick: the commit is in doubt in the last sync.
-const STOPS: [(u64, [&str; 4]); 4] = [
-    (0, [LOST; 4]),
-    (1, [LOST; 4]),
-    (2, [LOST; 4]),
-    (3, [LOST, KEPT, LOST, KEPT]),
+/// After how many calls a load stops, how it ends, and which graph is there then, by each pick.
+#[derive(Clone, Copy)]
+struct Stop {
+    passes: u64,
+    status: Status,
+    output: &'static str,
+    graphs: [&'static str; 4],
+}
+
+/// The commit is in doubt in the last sync, and behind that no stop comes.
+const STOPS: [Stop; 5] = [
+    Stop {
+        passes: 0,
+        status: Status::DiskFault,
+        output: "",
+        graphs: [LOST; 4],
+    },
+    Stop {
+        passes: 1,
+        status: Status::DiskFault,
+        output: "",
+        graphs: [LOST; 4],
+    },
+    Stop {
+        passes: 2,
+        status: Status::DiskFault,
+        output: "",
+        graphs: [LOST; 4],
+    },
+    Stop {
+        passes: 3,
+        status: Status::DiskFault,
+        output: "",
+        graphs: [LOST, KEPT, LOST, KEPT],
+    },
+    Stop {
+        passes: 4,
+        status: Status::Done,
+        output: TWO_ROUNDS,
+        graphs: [KEPT; 4],
+    },
 ];
+
+fn check_stop(rt: &impl Abort, alloc: Global, stop: &Stop) -> Result<(), AllocError> {
+    for i in 0..4usize {
+        check_stopped(rt, alloc, PICKS[i], stop, stop.graphs[i])?;
+    }
+    Ok(())
+}
 
 #[test]
 fn a_stopped_load_leaves_its_commit_or_not(rt: HostRuntime) -> Result<(), Fail> {
-    for (passes, graphs) in &STOPS {
-        for (pick, graph) in PICKS.iter().zip(graphs.iter()) {
-            let faulty = (Status::DiskFault, "");
-            check_stopped(&rt, rt.alloc(), (*pick, *passes), faulty, graph)?;
-        }
-    }
-    for pick in &PICKS {
-        let whole = (Status::Done, TWO_ROUNDS);
-        check_stopped(&rt, rt.alloc(), (*pick, 4), whole, KEPT)?;
+    for stop in &STOPS {
+        check_stop(&rt, rt.alloc(), stop)?;
     }
     Ok(())
 }

@@ -6,6 +6,7 @@ use heap_program::{Status, run_alone};
 use std::alloc::{AllocError, Global};
 use std::fmt::Debug;
 use std::process::Abort;
+use std::str;
 
 /// The bytes of a heap of one page a space.
 pub const DISK_BYTES: usize = 1_050_752;
@@ -25,7 +26,7 @@ pub struct Played {
     pub output: Vec<u8>,
 }
 
-pub fn words_of(alloc: Global, line: &str) -> Result<Vec<String>, AllocError> {
+fn words_of(alloc: Global, line: &str) -> Result<Vec<String>, AllocError> {
     let mut words = Vec::new(alloc);
     for word in line.split_whitespace() {
         words.push(String::from_str(alloc, word)?)?;
@@ -34,7 +35,7 @@ pub fn words_of(alloc: Global, line: &str) -> Result<Vec<String>, AllocError> {
 }
 
 /// A list of one call, which is to fail, or of none.
-pub fn list_of(alloc: Global, call: Option<u64>) -> Result<Vec<u64>, AllocError> {
+fn list_of(alloc: Global, call: Option<u64>) -> Result<Vec<u64>, AllocError> {
     let mut calls = Vec::new(alloc);
     if let Some(call) = call {
         calls.push(call)?;
@@ -60,7 +61,7 @@ pub fn make_disk(alloc: Global, bytes: usize, pick: Pick) -> Result<MemoryDisk, 
 }
 
 /// Runs the program alone, on a command line that is no `threads` command.
-pub fn run_words<D: Disk + Drop>(
+fn run_words<D: Disk + Drop>(
     alloc: Global,
     words: &[String],
     disk: D,
@@ -73,20 +74,39 @@ pub fn run_words<D: Disk + Drop>(
     }
 }
 
-/// Runs a command line on a disk of memory, with a source and a sink whose call of that number fails.
-pub fn run_failing(
+fn source_of(alloc: Global, script: &[u8], fails: Option<u64>) -> Result<MemorySource, AllocError> {
+    Ok(MemorySource::of(script.to_vec(alloc)?, list_of(alloc, fails)?))
+}
+
+fn sink_of(alloc: Global, fails: Option<u64>) -> Result<MemorySink, AllocError> {
+    MemorySink::of(alloc, SINK_BYTES, list_of(alloc, fails)?)
+}
+
+/// Runs the words of a command line, and takes what was written.
+fn run_to<D: Disk + Drop>(
+    alloc: Global,
+    words: &[String],
+    disk: D,
+    source: &mut MemorySource,
+    sink: &mut MemorySink,
+) -> Result<(Played, D), AllocError> {
+    let (status, disk) = run_words(alloc, words, disk, source, sink)?;
+    let output = sink.bytes().to_vec(alloc)?;
+    Ok((Played { status, output }, disk))
+}
+
+/// Runs a command line on a disk, with a source and a sink whose call of that number fails.
+pub fn run_failing<D: Disk + Drop>(
     alloc: Global,
     line: &str,
     script: &[u8],
-    disk: MemoryDisk,
+    disk: D,
     (read, write): (Option<u64>, Option<u64>),
-) -> Result<(Played, MemoryDisk), AllocError> {
+) -> Result<(Played, D), AllocError> {
     let words = words_of(alloc, line)?;
-    let mut source = MemorySource::of(script.to_vec(alloc)?, list_of(alloc, read)?);
-    let mut sink = MemorySink::of(alloc, SINK_BYTES, list_of(alloc, write)?)?;
-    let (status, disk) = run_words(alloc, &words, disk, &mut source, &mut sink)?;
-    let output = sink.bytes().to_vec(alloc)?;
-    Ok((Played { status, output }, disk))
+    let mut source = source_of(alloc, script, read)?;
+    let mut sink = sink_of(alloc, write)?;
+    run_to(alloc, &words, disk, &mut source, &mut sink)
 }
 
 /// Runs it with streams that don't fail.
@@ -108,6 +128,11 @@ pub fn play(
 ) -> Result<Played, AllocError> {
     let disk = make_disk(alloc, bytes, pick)?;
     Ok(play_on(alloc, line, script, disk)?.0)
+}
+
+/// What was printed before a restart, and behind the words that follow it.
+pub fn split_restarted(output: &[u8]) -> Option<(&str, &str)> {
+    str::from_utf8(output).ok()?.split_once("recovered ")
 }
 
 /// Compares what was found. The tests call it, since the proof of an assertion of their own would take each of them longer.

@@ -1,13 +1,12 @@
 //! What the program prints of scripts, on disks that stop or fail and with streams that fail.
 use crate::playing::{
     DISK_BYTES, ONE_COMMIT, PICKS, Played, RECORD_BYTES, disk_of, expect_played, make_disk, play,
-    play_on, run_failing, same,
+    play_on, run_failing, same, split_restarted,
 };
 use disk_model::Pick;
 use heap_program::Status;
 use std::alloc::{AllocError, Global};
 use std::process::Abort;
-use std::str;
 use std::test::Fail;
 
 /// The command that makes a heap of one page a space.
@@ -21,11 +20,16 @@ fn expect_output(
     pick: Pick,
     (lines, end): (&str, &str),
 ) -> Result<(), AllocError> {
+    let output = joined(alloc, lines, end)?;
     let played = play(alloc, line, script, (DISK_BYTES, pick))?;
-    let mut output = String::from_str(alloc, lines)?;
-    output.push_str(end)?;
     expect_played(rt, &played, Status::Done, output.as_bytes());
     Ok(())
+}
+
+fn joined(alloc: Global, lines: &str, end: &str) -> Result<String, AllocError> {
+    let mut output = String::from_str(alloc, lines)?;
+    output.push_str(end)?;
+    Ok(output)
 }
 
 /// Scripts, each with the lines of its events and what follows them.
@@ -145,12 +149,23 @@ struct Stopped {
     ends: &'static [(&'static str, [&'static str; 4])],
 }
 
-fn check_stopped(rt: &impl Abort, alloc: Global, stopped: &Stopped) -> Result<(), Fail> {
+fn check_stop(
+    rt: &impl Abort,
+    alloc: Global,
+    stopped: &Stopped,
+    line: &str,
+    ends: &[&str; 4],
+) -> Result<(), AllocError> {
+    let words = (line, stopped.script);
+    for i in 0..4usize {
+        expect_output(rt, alloc, words, PICKS[i], (stopped.lines, ends[i]))?;
+    }
+    Ok(())
+}
+
+fn check_stopped(rt: &impl Abort, alloc: Global, stopped: &Stopped) -> Result<(), AllocError> {
     for (line, ends) in stopped.ends {
-        for (pick, end) in PICKS.iter().zip(ends.iter()) {
-            let words = (*line, stopped.script);
-            expect_output(rt, alloc, words, *pick, (stopped.lines, *end))?;
-        }
+        check_stop(rt, alloc, stopped, line, ends)?;
     }
     Ok(())
 }
@@ -196,7 +211,8 @@ const TOGETHER: Stopped = Stopped {
 #[test]
 fn a_stop_in_a_force_leaves_its_commits_or_not(rt: HostRuntime) -> Result<(), Fail> {
     check_stopped(&rt, rt.alloc(), &ONE)?;
-    check_stopped(&rt, rt.alloc(), &TOGETHER)
+    check_stopped(&rt, rt.alloc(), &TOGETHER)?;
+    Ok(())
 }
 
 const NONE_LEFT: &str = "recovered 0\ngraph 1\n0: - - - -\n";
@@ -236,7 +252,8 @@ const VOLATILE: Stopped = Stopped {
 #[test]
 fn forced_and_stored_words_are_taken_back(rt: HostRuntime) -> Result<(), Fail> {
     check_stopped(&rt, rt.alloc(), &FORCED)?;
-    check_stopped(&rt, rt.alloc(), &VOLATILE)
+    check_stopped(&rt, rt.alloc(), &VOLATILE)?;
+    Ok(())
 }
 
 const LOSERS_STOPPED: &str =
@@ -280,7 +297,8 @@ const LOSERS: Stopped = Stopped {
 
 #[test]
 fn losers_side_by_side_are_taken_back(rt: HostRuntime) -> Result<(), Fail> {
-    check_stopped(&rt, rt.alloc(), &LOSERS)
+    check_stopped(&rt, rt.alloc(), &LOSERS)?;
+    Ok(())
 }
 
 const STOPPED_LOST: &str = "flush 0 -> stopped\nrecovered 0\ngraph 1\n0: - - - -\n";
@@ -312,7 +330,8 @@ const SEALED_AND_STORED: Stopped = Stopped {
 
 #[test]
 fn a_commit_that_a_flush_forces_comes_back(rt: HostRuntime) -> Result<(), Fail> {
-    check_stopped(&rt, rt.alloc(), &SEALED_AND_STORED)
+    check_stopped(&rt, rt.alloc(), &SEALED_AND_STORED)?;
+    Ok(())
 }
 
 /// A page is written and stored four times, with a force before each store.
@@ -338,17 +357,21 @@ const STORES_LEFT: [(u64, usize); 8] = [
 
 /// How many stores a play that stopped printed. Its transaction is never sealed, and nothing of it comes back.
 fn stores_in(played: &Played) -> Option<usize> {
-    let text = str::from_utf8(&played.output).ok()?;
-    let (lines, rest) = text.split_once("recovered ")?;
+    let (lines, rest) = split_restarted(&played.output)?;
     if rest != "0\ngraph 1\n0: - - - -\n" {
         return None;
     }
-    Some(
-        lines
-            .lines()
-            .filter(|line| *line == "flush 0 -> flushed 0")
-            .count(),
-    )
+    Some(count_stores(lines))
+}
+
+fn count_stores(lines: &str) -> usize {
+    let mut count: usize = 0;
+    for line in lines.lines() {
+        if line == "flush 0 -> flushed 0" {
+            count = count.saturating_add(1);
+        }
+    }
+    count
 }
 
 /// Stops plays of the script.
@@ -394,54 +417,48 @@ fn a_bad_script_leaves_the_disk(rt: HostRuntime) -> Result<(), Fail> {
     Ok(())
 }
 
-/// Plays a script on a disk of that many bytes, with streams whose calls of these numbers fail, and compares how that ends.
-fn status_of(
-    alloc: Global,
-    bytes: usize,
-    script: &[u8],
-    fails: (Option<u64>, Option<u64>),
-) -> Result<(Status, bool), AllocError> {
-    let disk = make_disk(alloc, bytes, Pick::Newest)?;
-    let played = run_failing(alloc, FRESH, script, disk, fails)?.0;
-    Ok((played.status, played.output.is_empty()))
-}
+/// A script of that many empty lines on a disk of that many bytes, the failing calls of the source and of the sink, how its play ends, and whether
+/// it writes nothing.
+type Play = (usize, usize, (Option<u64>, Option<u64>), (Status, bool));
 
-/// The bytes of a disk, the failing calls of the source and of the sink, and how a play of an empty script ends there, which writes nothing.
-const FAULTS: [(usize, Option<u64>, Option<u64>, Status); 3] = [
-    (DISK_BYTES, Some(1), None, Status::ReadFault),
-    (DISK_BYTES, None, Some(1), Status::WriteFault),
+const PLAYS_OF_EMPTY_LINES: [Play; 5] = [
+    // Each fault has its status.
+    (0, DISK_BYTES, (Some(1), None), (Status::ReadFault, true)),
+    (0, DISK_BYTES, (None, Some(1)), (Status::WriteFault, true)),
     (
+        0,
         DISK_BYTES - 1,
-        None,
-        None,
-        Status::TooSmall {
-            size: 1_050_751,
-            need: 1_050_752,
-        },
+        (None, None),
+        (
+            Status::TooSmall {
+                size: 1_050_751,
+                need: 1_050_752,
+            },
+            true,
+        ),
+    ),
+    // A script may have a mebibyte.
+    (1_048_576, DISK_BYTES, (None, None), (Status::Done, false)),
+    (
+        1_048_577,
+        DISK_BYTES,
+        (None, None),
+        (Status::Script { line: 0 }, true),
     ),
 ];
 
-#[test]
-fn each_fault_has_its_status(rt: HostRuntime) -> Result<(), Fail> {
-    for (bytes, read, write, status) in &FAULTS {
-        let found = status_of(rt.alloc(), *bytes, b"", (*read, *write))?;
-        same(&rt, found, (*status, true));
-    }
-    Ok(())
+/// How a play of a row ends, and whether it writes nothing.
+fn status_of(alloc: Global, row: &Play) -> Result<(Status, bool), AllocError> {
+    let script = vec![in alloc; b'\n'; row.0]?;
+    let disk = make_disk(alloc, row.1, Pick::Newest)?;
+    let played = run_failing(alloc, FRESH, &script, disk, row.2)?.0;
+    Ok((played.status, played.output.is_empty()))
 }
 
-/// A script may have a mebibyte.
-const LENGTHS: [(usize, Status, bool); 2] = [
-    (1_048_576, Status::Done, false),
-    (1_048_577, Status::Script { line: 0 }, true),
-];
-
 #[test]
-fn a_script_may_have_a_mebibyte(rt: HostRuntime) -> Result<(), Fail> {
-    for (bytes, status, silent) in &LENGTHS {
-        let script = vec![in rt.alloc(); b'\n'; *bytes]?;
-        let found = status_of(rt.alloc(), DISK_BYTES, &script, (None, None))?;
-        same(&rt, found, (*status, *silent));
+fn each_fault_and_a_script_that_is_too_long_has_its_status(rt: HostRuntime) -> Result<(), Fail> {
+    for row in &PLAYS_OF_EMPTY_LINES {
+        same(&rt, status_of(rt.alloc(), row)?, row.3);
     }
     Ok(())
 }
@@ -460,8 +477,7 @@ fn expect_fault(
     let fails = Some(CALLS_BEFORE_OPENING + 1);
     let disk = disk_of(alloc, zeros, Pick::Newest, RECORD_BYTES, fails)?;
     let played = play_on(alloc, line, FORCED_INSIDE, disk)?.0;
-    let mut output = String::from_str(alloc, FORCED_INSIDE_LINES)?;
-    output.push_str(end)?;
+    let output = joined(alloc, FORCED_INSIDE_LINES, end)?;
     expect_played(rt, &played, status, output.as_bytes());
     Ok(())
 }

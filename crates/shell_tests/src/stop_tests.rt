@@ -1,6 +1,6 @@
 //! A script played with a stop at each of its device calls, by each pick of a restart: a commit prefix comes back that
 //! has all that were acknowledged. What is expected comes from the slow heap, which has no log and no disk.
-use crate::playing::{ONE_COMMIT, Played, expect_played, play, same};
+use crate::playing::{ONE_COMMIT, Played, expect_played, play, same, split_restarted};
 use disk_model::Pick;
 use graph_model::{Entry, Event};
 use heap_program::Status;
@@ -9,7 +9,6 @@ use slow_heap::SlowHeap;
 use std::alloc::{AllocError, Global};
 use std::ops::Range;
 use std::process::Abort;
-use std::str;
 use std::test::Fail;
 
 /// The bytes of a heap of sixteen pages a space.
@@ -75,28 +74,52 @@ impl<'a> Told<'a> {
             forces: Vec::new(alloc),
         };
         for line in &read_script(alloc, script.as_bytes())? {
-            match line {
-                Line::One(event) => told.ask(rt, *event)?,
-                Line::Commit { s } => {
-                    told.ask(rt, Event::Seal { s: *s })?;
-                    told.ask(rt, Event::Force)?;
-                }
-            }
+            told.take(rt, line)?;
         }
         Ok(told)
     }
 
+    fn take(&mut self, rt: &impl Abort, line: &Line) -> Result<(), AllocError> {
+        match line {
+            Line::One(event) => self.ask(rt, *event),
+            Line::Commit { s } => {
+                self.ask(rt, Event::Seal { s: *s })?;
+                self.ask(rt, Event::Force)
+            }
+        }
+    }
+
     fn ask(&mut self, rt: &impl Abort, event: Event) -> Result<(), AllocError> {
-        assert!(rt; event.is_of_session());
-        let reply = self.heap.step(event)?;
-        writeln!(self.lines, "{}", Entry { event, reply })?;
-        if event == Event::Force {
-            let sealed = self.heap.sealed();
-            self.forces.push(sealed.saturating_sub(self.forced))?;
-            self.forced = sealed;
+        let entry = step(rt, &mut self.heap, event)?;
+        writeln!(self.lines, "{entry}")?;
+        if matches!(event, Event::Force) {
+            self.force()?;
         }
         Ok(())
     }
+
+    /// What a play without a stop prints that ends with these lines of its own.
+    pub fn whole(&self, ending: &str) -> Result<Vec<u8>, AllocError> {
+        let mut output = self.lines.clone()?.into_bytes();
+        output.extend_from_slice(ending.as_bytes())?;
+        output.extend_from_slice(&self.heap.text(self.heap.sealed())?)?;
+        Ok(output)
+    }
+
+    /// Notes a force.
+    fn force(&mut self) -> Result<(), AllocError> {
+        let sealed = self.heap.sealed();
+        self.forces.push(sealed.saturating_sub(self.forced))?;
+        self.forced = sealed;
+        Ok(())
+    }
+}
+
+/// What the slow heap answers.
+fn step(rt: &impl Abort, heap: &mut SlowHeap, event: Event) -> Result<Entry, AllocError> {
+    assert!(rt; event.is_of_session());
+    let reply = heap.step(event)?;
+    Ok(Entry { event, reply })
 }
 
 /// What a play printed whose disk was restarted: the lines of its events, how many commits came back, and the graph.
@@ -108,46 +131,59 @@ struct Restarted<'a> {
 }
 
 fn read_restarted(output: &[u8]) -> Option<Restarted<'_>> {
-    let text = str::from_utf8(output).ok()?;
-    let (lines, rest) = text.split_once("recovered ")?;
+    let (lines, rest) = split_restarted(output)?;
     let (count, graph) = rest.split_once("\n")?;
+    let recovered = count.parse::<usize>().ok()?;
     Some(Restarted {
         lines,
-        recovered: count.parse::<usize>().ok()?,
+        recovered,
         graph,
     })
 }
 
-fn count_lines(text: &str, part: &str) -> usize {
-    text.lines().filter(|line| line.contains(part)).count()
+/// How many commits the lines seal.
+fn sealed(lines: &str) -> usize {
+    let mut count: usize = 0;
+    for line in lines.lines() {
+        if line.contains(" seal -> sealed ") {
+            count = count.saturating_add(1);
+        }
+    }
+    count
 }
 
 /// How many commits the lines acknowledge.
 fn acknowledged(lines: &str) -> usize {
-    lines
-        .lines()
-        .filter_map(|line| line.strip_prefix("force -> durable "))
-        .filter_map(|count| count.parse::<usize>().ok())
-        .max()
-        .unwrap_or(0)
+    let mut most: usize = 0;
+    for line in lines.lines() {
+        if let Some(count) = line.strip_prefix("force -> durable ") {
+            most = most.max(count.parse::<usize>().unwrap_or(0));
+        }
+    }
+    most
 }
 
 /// Whether the lines are the first of the expected ones, where the last may be that of a force or a flush that stopped.
 fn are_first(lines: &str, told: &str) -> bool {
-    if let Some(before) = lines.strip_suffix(FLUSH_STOPPED) {
+    if let Some(before) = lines.strip_suffix("flush -> stopped\n") {
         return told.starts_with(before);
     }
     match lines.strip_suffix("force -> stopped\n") {
         None => told == lines,
-        Some(before) => match told.strip_prefix(before) {
-            None => false,
-            Some(rest) => rest.starts_with("force -> durable "),
-        },
+        Some(before) => goes_on_with_force(told, before),
+    }
+}
+
+/// Whether the expected lines are these ones, a force, and others.
+fn goes_on_with_force(told: &str, before: &str) -> bool {
+    match told.strip_prefix(before) {
+        None => false,
+        Some(rest) => rest.starts_with("force -> durable "),
     }
 }
 
 /// What stands for the line of a flush that stopped, whichever page it was to store.
-pub const FLUSH_STOPPED: &str = "flush -> stopped\n";
+pub const FLUSH_STOPPED: &str = "flush -> stopped";
 
 fn play_by(alloc: Global, line: &str, script: &str, pick: Pick) -> Result<Played, AllocError> {
     play(alloc, line, script, (HEAP_BYTES, pick))
@@ -179,7 +215,7 @@ pub fn check_played(
 ) -> Result<(bool, usize), Fail> {
     same(rt, played.status, Status::Done);
     let found = read_restarted(&played.output).expect(rt, "no number of commits");
-    assert!(rt; is_told(told, found), "{pick:?}, {calls}");
+    same(rt, (pick, calls, is_told(told, found)), (pick, calls, true));
     check_graph(rt, told, found)?;
     Ok((found.lines.ends_with(" -> stopped\n"), found.recovered))
 }
@@ -188,7 +224,7 @@ pub fn check_played(
 fn is_told(told: &Told<'_>, found: Restarted<'_>) -> bool {
     are_first(found.lines, told.lines.as_str())
         && acknowledged(found.lines) <= found.recovered
-        && found.recovered <= count_lines(found.lines, " seal -> sealed ")
+        && found.recovered <= sealed(found.lines)
 }
 
 /// Compares the graph, which is the end of what was printed, with that of as many commits as came back.
@@ -200,7 +236,7 @@ fn check_graph(rt: &impl Abort, told: &Told<'_>, found: Restarted<'_>) -> Result
 }
 
 /// How many commits come back after each stop, of the first call and of each one after it until none stops.
-fn check_stops(
+fn recovered(
     rt: &impl Abort,
     alloc: Global,
     told: &Told<'_>,
@@ -214,29 +250,63 @@ fn check_stops(
         }
         recovered.push(commits)?;
     }
+    Ok(recovered)
+}
+
+/// The same, where each call of each force stops.
+fn check_stops(
+    rt: &impl Abort,
+    alloc: Global,
+    told: &Told<'_>,
+    pick: Pick,
+) -> Result<Vec<usize>, Fail> {
+    let recovered = recovered(rt, alloc, told, pick)?;
     let calls = told.forces.len().saturating_mul(FORCE_CALLS);
     same(rt, (pick, recovered.len()), (pick, calls));
     Ok(recovered)
 }
 
 /// Plays the script without a stop, which ends with these lines of its own.
-fn expect_whole(rt: &impl Abort, alloc: Global, told: &Told<'_>, ending: &str) -> Result<(), Fail> {
+fn expect_whole(
+    rt: &impl Abort,
+    alloc: Global,
+    told: &Told<'_>,
+    ending: &str,
+) -> Result<(), AllocError> {
+    let output = told.whole(ending)?;
     let played = play_by(alloc, FRESH, told.script, Pick::Newest)?;
-    let mut output = told.lines.clone()?.into_bytes();
-    output.extend_from_slice(ending.as_bytes())?;
-    output.extend_from_slice(&told.heap.text(told.heap.sealed())?)?;
     expect_played(rt, &played, Status::Done, &output);
     Ok(())
 }
 
-/// Only a stop of the last call of a force leaves it to the pick whether the commits that it forces come back.
-fn expect_doubt(rt: &impl Abort, forces: &[usize], lost: &[usize], kept: &[usize]) {
-    for (calls, (lost, kept)) in lost.iter().zip(kept.iter()).enumerate() {
-        let last = calls % FORCE_CALLS == FORCE_CALLS - 1;
-        let forced = forces.get(calls / FORCE_CALLS).copied().unwrap_or(0);
-        let doubt = if last { forced } else { 0 };
-        same(rt, (calls, *kept), (calls, lost.saturating_add(doubt)));
+/// How many commits a stop after that many calls leaves to the pick: those that a force was to force, if its last call is stopped.
+fn doubt_at(forces: &[usize], calls: usize) -> usize {
+    if calls % FORCE_CALLS < FORCE_CALLS - 1 {
+        return 0;
     }
+    forces.get(calls / FORCE_CALLS).copied().unwrap_or(0)
+}
+
+/// Compares how many commits came back after each stop by an open gate and by a closed one.
+fn expect_doubt(rt: &impl Abort, forces: &[usize], lost: &[usize], kept: &[usize]) {
+    for calls in 0..lost.len() {
+        let want = lost[calls].saturating_add(doubt_at(forces, calls));
+        same(rt, (calls, kept.get(calls)), (calls, Some(&want)));
+    }
+}
+
+fn check_told(
+    rt: &impl Abort,
+    alloc: Global,
+    told: &Told<'_>,
+    ending: &str,
+    (closed, open): Pair,
+) -> Result<(), Fail> {
+    expect_whole(rt, alloc, told, ending)?;
+    let lost = check_stops(rt, alloc, told, closed)?;
+    let kept = check_stops(rt, alloc, told, open)?;
+    expect_doubt(rt, &told.forces, &lost, &kept);
+    Ok(())
 }
 
 fn check_script(
@@ -244,14 +314,9 @@ fn check_script(
     alloc: Global,
     script: &str,
     ending: &str,
-    (closed, open): Pair,
+    pair: Pair,
 ) -> Result<(), Fail> {
-    let told = Told::of(rt, alloc, script)?;
-    expect_whole(rt, alloc, &told, ending)?;
-    let lost = check_stops(rt, alloc, &told, closed)?;
-    let kept = check_stops(rt, alloc, &told, open)?;
-    expect_doubt(rt, &told.forces, &lost, &kept);
-    Ok(())
+    check_told(rt, alloc, &Told::of(rt, alloc, script)?, ending, pair)
 }
 
 // A test for each script and pair, since code that is only tried plays slowly, and each has a minute.
@@ -314,12 +379,28 @@ fn forced_volatile_words_are_taken_back_from_filled_bytes(rt: HostRuntime) -> Re
     check_script(&rt, rt.alloc(), OBJECTS_FORCED_INSIDE, ONE_FORCED, FILLED)
 }
 
+/// The sessions of a drawn script, of which each line's is drawn, and what a run appends for them: the abort of each one, ascending.
+#[derive(Clone, Copy)]
+pub struct Sessions {
+    numbers: [u32; 4],
+    aborts: &'static str,
+}
+
 /// Four sessions side by side, two of them at the end of their numbers, and one alone.
-pub const FOUR: [u32; 4] = [1, 2, 3, 4];
+pub const FOUR: Sessions = Sessions {
+    numbers: [1, 2, 3, 4],
+    aborts: "1 abort -> aborted\n2 abort -> aborted\n3 abort -> aborted\n4 abort -> aborted\n",
+};
 
-const LAST_TWO: [u32; 4] = [31, 32, 31, 32];
+const LAST_TWO: Sessions = Sessions {
+    numbers: [31, 32, 31, 32],
+    aborts: "31 abort -> aborted\n32 abort -> aborted\n",
+};
 
-pub const ONE: [u32; 4] = [1, 1, 1, 1];
+pub const ONE: Sessions = Sessions {
+    numbers: [1, 1, 1, 1],
+    aborts: "1 abort -> aborted\n",
+};
 
 /// How many lines are drawn of a script that is played to its end.
 pub const DRAWN_LINES: usize = 100;
@@ -367,9 +448,7 @@ fn write_call(
 ) -> Result<(), AllocError> {
     write!(script, "{s}{verb}")?;
     for place in named {
-        if let Some(number) = numbers.get(*place) {
-            write_number(script, *number)?;
-        }
+        write_number(script, numbers[*place % 3])?;
     }
     script.push('\n')
 }
@@ -389,10 +468,10 @@ fn write_drawn(
 }
 
 /// The transactions of these sessions begin.
-fn draw_begin(alloc: Global, sessions: [u32; 4]) -> Result<String, AllocError> {
+fn draw_begin(alloc: Global, sessions: &Sessions) -> Result<String, AllocError> {
     let mut script = String::from_str(alloc, SHARED)?;
-    for (i, s) in sessions.iter().rev().enumerate() {
-        write_begin(&mut script, *s, i as u64 % 3)?;
+    for i in 0..4usize {
+        write_begin(&mut script, sessions.numbers[3 - i], i as u64 % 3)?;
     }
     Ok(script)
 }
@@ -402,7 +481,7 @@ fn draw_begin(alloc: Global, sessions: [u32; 4]) -> Result<String, AllocError> {
 pub fn draw_script(
     alloc: Global,
     seed: u64,
-    sessions: [u32; 4],
+    sessions: &Sessions,
     lines: usize,
 ) -> Result<String, AllocError> {
     let mut script = draw_begin(alloc, sessions)?;
@@ -411,7 +490,7 @@ pub fn draw_script(
         state = state
             .wrapping_mul(6_364_136_223_846_793_005)
             .wrapping_add(1_442_695_040_888_963_407);
-        let s = sessions[(state >> 51) as usize % 4];
+        let s = sessions.numbers[(state >> 51) as usize % 4];
         // A handle, a field, and a second handle.
         let numbers = [(state >> 33) % 3, (state >> 41) % 3, (state >> 37) % 3];
         write_drawn(&mut script, s, (state >> 45) as usize % 16, numbers)?;
@@ -430,50 +509,58 @@ fn write_end(script: &mut String, s: u32, way: u64, field: u64) -> Result<(), Al
     write_begin(script, s, field)
 }
 
-/// What a run appends to a drawn script: the abort of each session, ascending, and a force of what that leaves.
-pub fn ending_of(alloc: Global, told: &Told<'_>, sessions: [u32; 4]) -> Result<String, AllocError> {
-    let mut ending = String::new(alloc);
-    for s in 1..33u32 {
-        if sessions.contains(&s) {
-            writeln!(ending, "{s} abort -> aborted")?;
-        }
-    }
+/// What a run appends to a drawn script: the aborts of its sessions, and a force of what they leave.
+pub fn ending_of(
+    alloc: Global,
+    told: &Told<'_>,
+    sessions: &Sessions,
+) -> Result<String, AllocError> {
+    let aborts = sessions.aborts;
     let sealed = told.heap.sealed();
-    writeln!(ending, "force -> durable {sealed}")?;
-    Ok(ending)
+    format!(in alloc; "{aborts}force -> durable {sealed}\n")
 }
 
 /// How many scripts are drawn of each kind.
 pub const DRAWN: u64 = 12;
 
-/// Plays drawn scripts of these sessions without a stop.
-fn check_whole(rt: &impl Abort, alloc: Global, sessions: [u32; 4]) -> Result<(), Fail> {
+/// Plays a drawn script of these sessions without a stop.
+fn check_drawn(
+    rt: &impl Abort,
+    alloc: Global,
+    script: &str,
+    sessions: &Sessions,
+) -> Result<(), Fail> {
+    let told = Told::of(rt, alloc, script)?;
+    let ending = ending_of(alloc, &told, sessions)?;
+    expect_whole(rt, alloc, &told, ending.as_str())?;
+    Ok(())
+}
+
+fn check_whole(rt: &impl Abort, alloc: Global, sessions: &Sessions) -> Result<(), Fail> {
     for seed in 0..DRAWN {
         let script = draw_script(alloc, seed, sessions, DRAWN_LINES)?;
-        let told = Told::of(rt, alloc, script.as_str())?;
-        let ending = ending_of(alloc, &told, sessions)?;
-        expect_whole(rt, alloc, &told, ending.as_str())?;
+        check_drawn(rt, alloc, script.as_str(), sessions)?;
     }
     Ok(())
 }
 
 #[test]
 fn drawn_scripts_are_answered_as_by_the_slow_heap(rt: HostRuntime) -> Result<(), Fail> {
-    check_whole(&rt, rt.alloc(), ONE)
+    check_whole(&rt, rt.alloc(), &ONE)
 }
 
 #[test]
 fn four_drawn_sessions_are_answered_as_by_the_slow_heap(rt: HostRuntime) -> Result<(), Fail> {
-    check_whole(&rt, rt.alloc(), FOUR)
+    check_whole(&rt, rt.alloc(), &FOUR)
 }
 
 #[test]
 fn the_last_drawn_sessions_are_answered_as_by_the_slow_heap(rt: HostRuntime) -> Result<(), Fail> {
-    check_whole(&rt, rt.alloc(), LAST_TWO)
+    check_whole(&rt, rt.alloc(), &LAST_TWO)
 }
 
 /// Sessions, and a seed by which they commit before and after a force at which two of them are losers, in few forces.
-type Table = ([u32; 4], u64);
+type Table = (Sessions, u64);
 
 const FOUR_LOSERS: Table = (FOUR, 291);
 
@@ -485,28 +572,48 @@ const STOPPED_LINES: usize = 24;
 /// The forces of these scripts. After the first one there may be losers.
 const FORCES: usize = 3;
 
-/// Stops a drawn script at each of these calls, and if there may be losers also the recovery at each of its own.
-fn check_table(
+/// Stops a drawn script after that many calls, and if there may be losers also the recovery at each of its own.
+fn check_losers(
     rt: &impl Abort,
     alloc: Global,
-    (sessions, seed): Table,
+    told: &Told<'_>,
+    pick: Pick,
+    calls: usize,
+) -> Result<(), Fail> {
+    let once = play_to(alloc, told.script, pick, calls)?;
+    let (stopped, _) = check_played(rt, told, &once, pick, calls)?;
+    same(rt, (calls, stopped), (calls, calls < FORCES * FORCE_CALLS));
+    if calls >= FORCE_CALLS {
+        expect_each_same(rt, alloc, told, &once, (pick, calls, FORCE_CALLS))?;
+    }
+    Ok(())
+}
+
+/// Stops a drawn script at each of these calls.
+fn check_losers_at(
+    rt: &impl Abort,
+    alloc: Global,
+    told: &Told<'_>,
     pick: Pick,
     stops: Range<usize>,
 ) -> Result<(), Fail> {
-    let script = draw_script(alloc, seed, sessions, STOPPED_LINES)?;
-    let told = Told::of(rt, alloc, script.as_str())?;
     same(rt, told.forces.len(), FORCES);
     for calls in stops {
-        let once = play_to(alloc, told.script, pick, calls)?;
-        let (stopped, _) = check_played(rt, &told, &once, pick, calls)?;
-        same(rt, (calls, stopped), (calls, calls < FORCES * FORCE_CALLS));
-        if calls >= FORCE_CALLS {
-            for again in 0..FORCE_CALLS {
-                expect_same(rt, alloc, &once, &told, pick, (calls, again))?;
-            }
-        }
+        check_losers(rt, alloc, told, pick, calls)?;
     }
     Ok(())
+}
+
+fn check_table(
+    rt: &impl Abort,
+    alloc: Global,
+    (sessions, seed): &Table,
+    pick: Pick,
+    stops: Range<usize>,
+) -> Result<(), Fail> {
+    let script = draw_script(alloc, *seed, sessions, STOPPED_LINES)?;
+    let told = Told::of(rt, alloc, script.as_str())?;
+    check_losers_at(rt, alloc, &told, pick, stops)
 }
 
 /// The stops in the first two forces.
@@ -519,112 +626,112 @@ const LATE: Range<usize> = 2 * FORCE_CALLS..FORCES * FORCE_CALLS + 1;
 fn four_drawn_sessions_stop_early_and_come_back_from_synced_bytes(
     rt: HostRuntime,
 ) -> Result<(), Fail> {
-    check_table(&rt, rt.alloc(), FOUR_LOSERS, Pick::Synced, EARLY)
+    check_table(&rt, rt.alloc(), &FOUR_LOSERS, Pick::Synced, EARLY)
 }
 
 #[test]
 fn four_drawn_sessions_stop_late_and_come_back_from_synced_bytes(
     rt: HostRuntime,
 ) -> Result<(), Fail> {
-    check_table(&rt, rt.alloc(), FOUR_LOSERS, Pick::Synced, LATE)
+    check_table(&rt, rt.alloc(), &FOUR_LOSERS, Pick::Synced, LATE)
 }
 
 #[test]
 fn four_drawn_sessions_stop_early_and_come_back_from_newest_bytes(
     rt: HostRuntime,
 ) -> Result<(), Fail> {
-    check_table(&rt, rt.alloc(), FOUR_LOSERS, Pick::Newest, EARLY)
+    check_table(&rt, rt.alloc(), &FOUR_LOSERS, Pick::Newest, EARLY)
 }
 
 #[test]
 fn four_drawn_sessions_stop_late_and_come_back_from_newest_bytes(
     rt: HostRuntime,
 ) -> Result<(), Fail> {
-    check_table(&rt, rt.alloc(), FOUR_LOSERS, Pick::Newest, LATE)
+    check_table(&rt, rt.alloc(), &FOUR_LOSERS, Pick::Newest, LATE)
 }
 
 #[test]
 fn four_drawn_sessions_stop_early_and_come_back_from_bytes_of_ones(
     rt: HostRuntime,
 ) -> Result<(), Fail> {
-    check_table(&rt, rt.alloc(), FOUR_LOSERS, Pick::AllOnes, EARLY)
+    check_table(&rt, rt.alloc(), &FOUR_LOSERS, Pick::AllOnes, EARLY)
 }
 
 #[test]
 fn four_drawn_sessions_stop_late_and_come_back_from_bytes_of_ones(
     rt: HostRuntime,
 ) -> Result<(), Fail> {
-    check_table(&rt, rt.alloc(), FOUR_LOSERS, Pick::AllOnes, LATE)
+    check_table(&rt, rt.alloc(), &FOUR_LOSERS, Pick::AllOnes, LATE)
 }
 
 #[test]
 fn four_drawn_sessions_stop_early_and_come_back_from_open_gates(
     rt: HostRuntime,
 ) -> Result<(), Fail> {
-    check_table(&rt, rt.alloc(), FOUR_LOSERS, Pick::AllOpen, EARLY)
+    check_table(&rt, rt.alloc(), &FOUR_LOSERS, Pick::AllOpen, EARLY)
 }
 
 #[test]
 fn four_drawn_sessions_stop_late_and_come_back_from_open_gates(
     rt: HostRuntime,
 ) -> Result<(), Fail> {
-    check_table(&rt, rt.alloc(), FOUR_LOSERS, Pick::AllOpen, LATE)
+    check_table(&rt, rt.alloc(), &FOUR_LOSERS, Pick::AllOpen, LATE)
 }
 
 #[test]
 fn the_last_drawn_sessions_stop_early_and_come_back_from_synced_bytes(
     rt: HostRuntime,
 ) -> Result<(), Fail> {
-    check_table(&rt, rt.alloc(), LAST_LOSERS, Pick::Synced, EARLY)
+    check_table(&rt, rt.alloc(), &LAST_LOSERS, Pick::Synced, EARLY)
 }
 
 #[test]
 fn the_last_drawn_sessions_stop_late_and_come_back_from_synced_bytes(
     rt: HostRuntime,
 ) -> Result<(), Fail> {
-    check_table(&rt, rt.alloc(), LAST_LOSERS, Pick::Synced, LATE)
+    check_table(&rt, rt.alloc(), &LAST_LOSERS, Pick::Synced, LATE)
 }
 
 #[test]
 fn the_last_drawn_sessions_stop_early_and_come_back_from_newest_bytes(
     rt: HostRuntime,
 ) -> Result<(), Fail> {
-    check_table(&rt, rt.alloc(), LAST_LOSERS, Pick::Newest, EARLY)
+    check_table(&rt, rt.alloc(), &LAST_LOSERS, Pick::Newest, EARLY)
 }
 
 #[test]
 fn the_last_drawn_sessions_stop_late_and_come_back_from_newest_bytes(
     rt: HostRuntime,
 ) -> Result<(), Fail> {
-    check_table(&rt, rt.alloc(), LAST_LOSERS, Pick::Newest, LATE)
+    check_table(&rt, rt.alloc(), &LAST_LOSERS, Pick::Newest, LATE)
 }
 
 #[test]
 fn the_last_drawn_sessions_stop_early_and_come_back_from_bytes_of_ones(
     rt: HostRuntime,
 ) -> Result<(), Fail> {
-    check_table(&rt, rt.alloc(), LAST_LOSERS, Pick::AllOnes, EARLY)
+    check_table(&rt, rt.alloc(), &LAST_LOSERS, Pick::AllOnes, EARLY)
 }
 
 #[test]
 fn the_last_drawn_sessions_stop_late_and_come_back_from_bytes_of_ones(
     rt: HostRuntime,
 ) -> Result<(), Fail> {
-    check_table(&rt, rt.alloc(), LAST_LOSERS, Pick::AllOnes, LATE)
+    check_table(&rt, rt.alloc(), &LAST_LOSERS, Pick::AllOnes, LATE)
 }
 
 #[test]
 fn the_last_drawn_sessions_stop_early_and_come_back_from_open_gates(
     rt: HostRuntime,
 ) -> Result<(), Fail> {
-    check_table(&rt, rt.alloc(), LAST_LOSERS, Pick::AllOpen, EARLY)
+    check_table(&rt, rt.alloc(), &LAST_LOSERS, Pick::AllOpen, EARLY)
 }
 
 #[test]
 fn the_last_drawn_sessions_stop_late_and_come_back_from_open_gates(
     rt: HostRuntime,
 ) -> Result<(), Fail> {
-    check_table(&rt, rt.alloc(), LAST_LOSERS, Pick::AllOpen, LATE)
+    check_table(&rt, rt.alloc(), &LAST_LOSERS, Pick::AllOpen, LATE)
 }
 
 const TAKEN_BACK: &str = "1 abort -> aborted\nforce -> durable 1\n";
@@ -643,24 +750,44 @@ fn an_open_transaction_is_taken_back_from_filled_bytes(rt: HostRuntime) -> Resul
 fn expect_same(
     rt: &impl Abort,
     alloc: Global,
-    once: &Played,
     told: &Told<'_>,
-    pick: Pick,
-    (calls, again): (usize, usize),
-) -> Result<(), Fail> {
+    once: &Played,
+    (pick, calls, again): (Pick, usize, usize),
+) -> Result<(), AllocError> {
     let line = format!(in alloc; "{FRESH} --stop {calls} --again {again}")?;
     let twice = play_by(alloc, line.as_str(), told.script, pick)?;
-    let output = twice.output.as_slice();
-    same(
-        rt,
-        (line.as_str(), output),
-        (line.as_str(), once.output.as_slice()),
-    );
-    same(rt, twice.status, Status::Done);
+    expect_played(rt, &twice, Status::Done, &once.output);
     Ok(())
 }
 
-/// Stops the recovery at each of its calls and after them.
+/// The same of a stop after each number of calls below `recoveries`.
+fn expect_each_same(
+    rt: &impl Abort,
+    alloc: Global,
+    told: &Told<'_>,
+    once: &Played,
+    (pick, calls, recoveries): (Pick, usize, usize),
+) -> Result<(), AllocError> {
+    for again in 0..recoveries {
+        expect_same(rt, alloc, told, once, (pick, calls, again))?;
+    }
+    Ok(())
+}
+
+/// Stops the script after that many calls, and the recovery at each of its calls and after them.
+fn check_stop_again(
+    rt: &impl Abort,
+    alloc: Global,
+    told: &Told<'_>,
+    pick: Pick,
+    calls: usize,
+) -> Result<(), Fail> {
+    let once = play_to(alloc, told.script, pick, calls)?;
+    check_played(rt, told, &once, pick, calls)?;
+    expect_each_same(rt, alloc, told, &once, (pick, calls, FORCE_CALLS + 1))?;
+    Ok(())
+}
+
 fn check_again(
     rt: &impl Abort,
     alloc: Global,
@@ -670,11 +797,7 @@ fn check_again(
 ) -> Result<(), Fail> {
     let told = Told::of(rt, alloc, script)?;
     for calls in stops {
-        let once = play_to(alloc, script, pick, *calls)?;
-        check_played(rt, &told, &once, pick, *calls)?;
-        for again in 0..=FORCE_CALLS {
-            expect_same(rt, alloc, &once, &told, pick, (*calls, again))?;
-        }
+        check_stop_again(rt, alloc, &told, pick, *calls)?;
     }
     Ok(())
 }
