@@ -136,23 +136,35 @@ pub fn draw_script(alloc: Global, seed: u64, lines: usize) -> Result<String, All
     Ok(drawn.script)
 }
 
-/// Plays drawn scripts without a stop.
+/// What a play without a stop prints, but for what is of the collector.
+fn whole_output(alloc: Global, told: &Told<'_>) -> Result<String, AllocError> {
+    let sealed = told.heap.sealed();
+    let graph = told.heap.text(sealed)?;
+    let graph = str::from_utf8(&graph).unwrap_or("");
+    let lines = told.lines.as_str();
+    format!(in alloc;
+        "{lines}1 abort -> aborted\n2 abort -> aborted\n3 abort -> aborted\nforce -> durable {sealed}\n{graph}"
+    )
+}
+
+/// Plays a script without a stop.
+fn check_script(rt: &impl Abort, alloc: Global, seed: u64, script: &str) -> Result<(), Fail> {
+    let want = whole_output(alloc, &Told::of(rt, alloc, script)?)?;
+    let played = play(alloc, FRESH, script, Pick::Newest)?;
+    let text = str::from_utf8(&played.output).unwrap_or("");
+    let found = without_collector(alloc, text)?;
+    same(
+        rt,
+        (seed, played.status, found.as_str()),
+        (seed, Status::Done, want.as_str()),
+    );
+    Ok(())
+}
+
 fn check_whole(rt: &impl Abort, alloc: Global, seeds: (u64, u64)) -> Result<(), Fail> {
     for seed in seeds.0..seeds.1 {
         let script = draw_script(alloc, seed, 160)?;
-        let told = Told::of(rt, alloc, script.as_str())?;
-        let played = play(alloc, FRESH, script.as_str(), Pick::Newest)?;
-        same(rt, (seed, played.status), (seed, Status::Done));
-        let text = str::from_utf8(&played.output).unwrap_or("");
-        let found = without_collector(alloc, text)?;
-        let sealed = told.heap.sealed();
-        let graph = told.heap.text(sealed)?;
-        let graph = str::from_utf8(&graph).unwrap_or("");
-        let lines = told.lines.as_str();
-        let want = format!(in alloc;
-            "{lines}1 abort -> aborted\n2 abort -> aborted\n3 abort -> aborted\nforce -> durable {sealed}\n{graph}"
-        )?;
-        same(rt, (seed, found.as_str()), (seed, want.as_str()));
+        check_script(rt, alloc, seed, script.as_str())?;
     }
     Ok(())
 }

@@ -60,36 +60,44 @@ fn go_through(
     Ok(())
 }
 
-fn check_rounds(rt: &impl Abort, alloc: Global, pick: Pick) -> Result<(), Fail> {
-    let new = new_image(alloc, FORMAT)?;
-    let image = image_of(alloc, "heap play", MADE, new)?;
+/// The graph of a heap.
+fn graph_of(alloc: Global, image: &[u8], pick: Pick) -> Result<Vec<u8>, AllocError> {
     let disk = disk_of(alloc, image.to_vec(alloc)?, pick)?;
-    let (graph, _) = play_on(alloc, "heap graph", "", disk)?;
+    Ok(play_on(alloc, "heap graph", "", disk)?.0.output)
+}
+
+fn check_rounds(rt: &impl Abort, alloc: Global, pick: Pick) -> Result<(), AllocError> {
+    let image = image_of(alloc, "heap play", MADE, new_image(alloc, FORMAT)?)?;
+    let graph = graph_of(alloc, &image, pick)?;
     for first in 0..ROUND_CALLS {
         let disk = disk_of(alloc, image.to_vec(alloc)?, pick)?;
-        go_through(rt, alloc, first, &graph.output, disk)?;
+        go_through(rt, alloc, first, &graph, disk)?;
     }
     Ok(())
 }
 
 #[test]
 fn a_collection_goes_on_through_crashes_that_lose_bytes(rt: HostRuntime) -> Result<(), Fail> {
-    check_rounds(&rt, rt.alloc(), Pick::Synced)
+    check_rounds(&rt, rt.alloc(), Pick::Synced)?;
+    Ok(())
 }
 
 #[test]
 fn a_collection_goes_on_through_crashes_that_keep_bytes(rt: HostRuntime) -> Result<(), Fail> {
-    check_rounds(&rt, rt.alloc(), Pick::Newest)
+    check_rounds(&rt, rt.alloc(), Pick::Newest)?;
+    Ok(())
 }
 
 #[test]
 fn a_collection_goes_on_through_crashes_that_fill_bytes(rt: HostRuntime) -> Result<(), Fail> {
-    check_rounds(&rt, rt.alloc(), Pick::AllOnes)
+    check_rounds(&rt, rt.alloc(), Pick::AllOnes)?;
+    Ok(())
 }
 
 #[test]
 fn a_collection_goes_on_through_crashes_that_open_gates(rt: HostRuntime) -> Result<(), Fail> {
-    check_rounds(&rt, rt.alloc(), Pick::AllOpen)
+    check_rounds(&rt, rt.alloc(), Pick::AllOpen)?;
+    Ok(())
 }
 
 /// Runs on one heap whose log is too short for the scan that a read needs: each line, its script and its output. A refused event scans
@@ -104,14 +112,19 @@ const REFUSED: [(&str, &str, &str); 3] = [
     ("heap graph", "", "graph 2\n0: @1 - - -\n1: 9\n"),
 ];
 
+fn expect_refused(rt: &impl Abort, alloc: Global, mut disk: MemoryDisk) -> Result<(), AllocError> {
+    for (line, script, output) in &REFUSED {
+        let (played, left) = play_on(alloc, line, script, disk)?;
+        expect_done(rt, &played, output);
+        disk = left;
+    }
+    Ok(())
+}
+
 #[test]
 fn a_read_has_no_room_for_its_scan(rt: HostRuntime) -> Result<(), Fail> {
     let alloc = rt.alloc();
-    let mut disk = disk_of(alloc, new_image(alloc, FORMAT)?, Pick::Newest)?;
-    for (line, script, output) in &REFUSED {
-        let (played, left) = play_on(alloc, line, script, disk)?;
-        expect_done(&rt, &played, output);
-        disk = left;
-    }
+    let disk = disk_of(alloc, new_image(alloc, FORMAT)?, Pick::Newest)?;
+    expect_refused(&rt, alloc, disk)?;
     Ok(())
 }

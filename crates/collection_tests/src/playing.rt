@@ -1,6 +1,6 @@
 //! How the tests play a script.
 use command_words::{Command, CommandError, read_command};
-use disk_model::{Disk, MemoryDisk, Pick};
+use disk_model::{MemoryDisk, Pick};
 use heap_io::{MemorySink, MemorySource};
 use heap_program::{Status, run_alone};
 use std::alloc::{AllocError, Global};
@@ -57,17 +57,30 @@ pub fn new_image(alloc: Global, line: &str) -> Result<Vec<u8>, AllocError> {
 }
 
 /// Runs the program alone, on a command line that is no `threads` command.
-fn run_words<D: Disk + Drop>(
+fn run_words(
     alloc: Global,
     words: &[String],
-    disk: D,
+    disk: MemoryDisk,
     source: &mut MemorySource,
     sink: &mut MemorySink,
-) -> Result<(Status, D), AllocError> {
+) -> Result<(Status, MemoryDisk), AllocError> {
     match read_command(alloc, words) {
         Ok(Command::Threads { .. }) | Err(CommandError::NoMemory) => Err(AllocError),
         _ => Ok(run_alone(alloc, words, disk, source, sink)),
     }
+}
+
+/// Runs the words of a command line, and takes what was written.
+fn run_to(
+    alloc: Global,
+    words: &[String],
+    disk: MemoryDisk,
+    source: &mut MemorySource,
+    sink: &mut MemorySink,
+) -> Result<(Played, MemoryDisk), AllocError> {
+    let (status, disk) = run_words(alloc, words, disk, source, sink)?;
+    let output = sink.bytes().to_vec(alloc)?;
+    Ok((Played { status, output }, disk))
 }
 
 /// Plays a script by a command on a disk.
@@ -80,9 +93,7 @@ pub fn play_on(
     let words = words_of(alloc, line)?;
     let mut source = MemorySource::of(script.as_bytes().to_vec(alloc)?, Vec::new(alloc));
     let mut sink = MemorySink::of(alloc, SINK_BYTES, Vec::new(alloc))?;
-    let (status, disk) = run_words(alloc, &words, disk, &mut source, &mut sink)?;
-    let output = sink.bytes().to_vec(alloc)?;
-    Ok((Played { status, output }, disk))
+    run_to(alloc, &words, disk, &mut source, &mut sink)
 }
 
 /// Plays a script by a command on a new disk, and returns the disk too.

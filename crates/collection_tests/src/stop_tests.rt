@@ -2,6 +2,8 @@
 use crate::playing::{PICKS, expect_done, play};
 use crate::told::{RECOVERY_CALLS, check_stops};
 use disk_model::Pick;
+use std::alloc::{AllocError, Global};
+use std::process::Abort;
 use std::test::Fail;
 
 const FORMAT: &str = "heap format 4 8192 1";
@@ -65,16 +67,22 @@ const FORCED_OUTPUT: &str =
 /// After a flip that was forced nothing depends on where the recovery stops, or on what a restart leaves.
 #[test]
 fn a_crash_in_a_collection_takes_writes_back(rt: HostRuntime) -> Result<(), Fail> {
-    let alloc = rt.alloc();
     for pick in &PICKS {
         for again in 0..=RECOVERY_CALLS {
-            let line = format!(in alloc; "heap play --fresh 1 --stop 8 --again {again}")?;
-            expect_done(
-                &rt,
-                &play(alloc, line.as_str(), FORCED, *pick)?,
-                FORCED_OUTPUT,
-            );
+            expect_forced(&rt, rt.alloc(), *pick, again)?;
         }
     }
+    Ok(())
+}
+
+fn expect_forced(
+    rt: &impl Abort,
+    alloc: Global,
+    pick: Pick,
+    again: usize,
+) -> Result<(), AllocError> {
+    let line = format!(in alloc; "heap play --fresh 1 --stop 8 --again {again}")?;
+    let played = play(alloc, line.as_str(), FORCED, pick)?;
+    expect_done(rt, &played, FORCED_OUTPUT);
     Ok(())
 }

@@ -27,25 +27,35 @@ impl<'a> Told<'a> {
             lines: String::new(alloc),
         };
         for line in &read_script(alloc, script.as_bytes())? {
-            match line {
-                Line::One(event) => told.ask(rt, *event)?,
-                Line::Commit { s } => {
-                    told.ask(rt, Event::Seal { s: *s })?;
-                    told.ask(rt, Event::Force)?;
-                }
-            }
+            told.take(rt, line)?;
         }
         Ok(told)
     }
 
-    fn ask(&mut self, rt: &impl Abort, event: Event) -> Result<(), AllocError> {
-        assert!(rt; event.is_of_session());
-        let reply = self.heap.step(event)?;
-        match event {
-            Event::Flip | Event::Scan | Event::Flush { .. } => Ok(()),
-            _ => Ok(writeln!(self.lines, "{}", Entry { event, reply })?),
+    fn take(&mut self, rt: &impl Abort, line: &Line) -> Result<(), AllocError> {
+        match line {
+            Line::One(event) => self.ask(rt, *event),
+            Line::Commit { s } => {
+                self.ask(rt, Event::Seal { s: *s })?;
+                self.ask(rt, Event::Force)
+            }
         }
     }
+
+    fn ask(&mut self, rt: &impl Abort, event: Event) -> Result<(), AllocError> {
+        let entry = step(rt, &mut self.heap, event)?;
+        match event {
+            Event::Flip | Event::Scan | Event::Flush { .. } => Ok(()),
+            _ => Ok(writeln!(self.lines, "{entry}")?),
+        }
+    }
+}
+
+/// What the slow heap answers.
+fn step(rt: &impl Abort, heap: &mut SlowHeap, event: Event) -> Result<Entry, AllocError> {
+    assert!(rt; event.is_of_session());
+    let reply = heap.step(event)?;
+    Ok(Entry { event, reply })
 }
 
 /// Whether a line is of an event that the slow heap knows nothing of.
@@ -58,10 +68,15 @@ pub fn without_collector(alloc: Global, text: &str) -> Result<String, AllocError
     let mut kept = String::new(alloc);
     for line in text.lines() {
         if !is_left_out(line) {
-            writeln!(kept, "{line}")?;
+            push_line(&mut kept, line)?;
         }
     }
     Ok(kept)
+}
+
+fn push_line(text: &mut String, line: &str) -> Result<(), AllocError> {
+    text.push_str(line)?;
+    text.push('\n')
 }
 
 /// What a play printed whose disk was restarted: the lines of its events, how many commits came back, and the graph.
@@ -73,32 +88,41 @@ struct Restarted<'a> {
 }
 
 fn read_restarted(output: &[u8]) -> Option<Restarted<'_>> {
-    let text = str::from_utf8(output).ok()?;
-    let (lines, rest) = text.split_once("recovered ")?;
+    let (lines, rest) = split_restarted(output)?;
     let (count, graph) = rest.split_once("\n")?;
+    let recovered = count.parse::<usize>().ok()?;
     Some(Restarted {
         lines,
-        recovered: count.parse::<usize>().ok()?,
+        recovered,
         graph,
     })
 }
 
+/// What was printed before a restart, and behind the word that follows it.
+fn split_restarted(output: &[u8]) -> Option<(&str, &str)> {
+    str::from_utf8(output).ok()?.split_once("recovered ")
+}
+
 /// How many commits the lines acknowledge.
 fn acknowledged(lines: &str) -> usize {
-    lines
-        .lines()
-        .filter_map(|line| line.strip_prefix("force -> durable "))
-        .filter_map(|count| count.parse::<usize>().ok())
-        .max()
-        .unwrap_or(0)
+    let mut most: usize = 0;
+    for line in lines.lines() {
+        if let Some(count) = line.strip_prefix("force -> durable ") {
+            most = most.max(count.parse::<usize>().unwrap_or(0));
+        }
+    }
+    most
 }
 
 /// How many commits the lines seal.
 fn sealed(lines: &str) -> usize {
-    lines
-        .lines()
-        .filter(|line| line.contains(" seal -> sealed "))
-        .count()
+    let mut count: usize = 0;
+    for line in lines.lines() {
+        if line.contains(" seal -> sealed ") {
+            count = count.saturating_add(1);
+        }
+    }
+    count
 }
 
 /// Whether the lines are the first of the expected ones, and those commits came back that they acknowledge, and no more than they seal.
@@ -118,14 +142,23 @@ fn check_stopped(
     same(rt, (line, played.status), (line, Status::Done));
     let found = read_restarted(&played.output).expect(rt, "no number of commits");
     let lines = without_collector(alloc, found.lines)?;
-    assert!(rt;
-        is_told(told.lines.as_str(), lines.as_str(), found.recovered),
-        "{line}"
-    );
+    let is_told = is_told(told.lines.as_str(), lines.as_str(), found.recovered);
+    same(rt, (line, is_told), (line, true));
+    check_graph(rt, told, found, line)?;
+    Ok(found.lines.ends_with(" -> stopped\n"))
+}
+
+/// Compares the graph with that of as many commits as came back.
+fn check_graph(
+    rt: &impl Abort,
+    told: &Told<'_>,
+    found: Restarted<'_>,
+    line: &str,
+) -> Result<(), AllocError> {
     assert!(rt; found.recovered <= told.heap.sealed());
     let graph = told.heap.text(found.recovered)?;
     same(rt, (line, found.graph.as_bytes()), (line, graph.as_slice()));
-    Ok(found.lines.ends_with(" -> stopped\n"))
+    Ok(())
 }
 
 /// Plays the script on a heap with a stop, and one more in the recovery, and compares what came back. It returns whether the first stop came.
@@ -149,7 +182,38 @@ const MOST_CALLS: usize = 200;
 /// The calls of a recovery that has a transaction to take back.
 pub const RECOVERY_CALLS: usize = 4;
 
-/// Stops the script at each of its calls until none stops, and the recovery at each of its own and after them.
+/// Stops the script after that many calls, and the recovery at each of its own and after them. It returns whether the first stop came.
+fn check_again(
+    rt: &impl Abort,
+    alloc: Global,
+    told: &Told<'_>,
+    image: &[u8],
+    (pick, stop): (Pick, usize),
+) -> Result<bool, Fail> {
+    let mut stopped = false;
+    for again in 0..=RECOVERY_CALLS {
+        stopped = check_stop(rt, alloc, told, image, pick, (stop, again))?;
+    }
+    Ok(stopped)
+}
+
+/// Stops the script at each of its calls until none stops.
+fn check_each(
+    rt: &impl Abort,
+    alloc: Global,
+    told: &Told<'_>,
+    image: &[u8],
+    pick: Pick,
+) -> Result<(), Fail> {
+    for stop in 0..MOST_CALLS {
+        if !check_again(rt, alloc, told, image, (pick, stop))? {
+            return Ok(());
+        }
+    }
+    panic!(rt; "it stops at each call");
+}
+
+/// The same on a heap that a command makes.
 pub fn check_stops(
     rt: &impl Abort,
     alloc: Global,
@@ -157,16 +221,7 @@ pub fn check_stops(
     script: &str,
     pick: Pick,
 ) -> Result<(), Fail> {
-    let told = Told::of(rt, alloc, script)?;
     let image = new_image(alloc, format)?;
-    for stop in 0..MOST_CALLS {
-        let mut stopped = false;
-        for again in 0..=RECOVERY_CALLS {
-            stopped = check_stop(rt, alloc, &told, &image, pick, (stop, again))?;
-        }
-        if !stopped {
-            return Ok(());
-        }
-    }
-    panic!(rt; "it stops at each call");
+    let told = Told::of(rt, alloc, script)?;
+    check_each(rt, alloc, &told, &image, pick)
 }
