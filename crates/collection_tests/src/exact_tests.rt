@@ -120,8 +120,10 @@ fn check_script(rt: &impl Abort, alloc: Global, seed: u64, script: &str) -> Resu
 }
 
 fn expect_exact(rt: &impl Abort, seed: u64, played: &Played, graph: &[u8]) {
-    let found = last_collection(str::from_utf8(&played.output).unwrap_or(""));
-    let want = graph_size(str::from_utf8(graph).unwrap_or(""));
+    let output = str::from_utf8(&played.output).unwrap_or("");
+    let text = str::from_utf8(graph).unwrap_or("");
+    let found = last_collection(output);
+    let want = graph_size(text);
     same(
         rt,
         (seed, played.status, found, played.output.ends_with(graph)),
