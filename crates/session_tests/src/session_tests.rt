@@ -218,6 +218,10 @@ fn sessions_with_an_empty_heap_are_answered(rt: HostRuntime) -> Result<(), Fail>
     Ok(())
 }
 
+/// What is behind the first eight bytes of the input.
+const BEHIND_A_PIECE: &[u8] =
+    b"\n1 root 0\n1 jump\n1 put 0 0 7\n1 commit\n2 begin\n2 root 0\n2 len 0";
+
 /// The sink fails at the first answer: by then no more than the piece with that line was taken.
 #[test]
 fn a_line_is_answered_before_more_is_taken(rt: HostRuntime) -> Result<(), Fail> {
@@ -228,7 +232,7 @@ fn a_line_is_answered_before_more_is_taken(rt: HostRuntime) -> Result<(), Fail> 
     same(
         &rt,
         (served.status, left.as_slice()),
-        (Status::WriteFault, &INPUT[8..]),
+        (Status::WriteFault, BEHIND_A_PIECE),
     );
     Ok(())
 }
