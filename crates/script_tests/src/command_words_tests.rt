@@ -1,10 +1,22 @@
 //! Good and bad command lines, as the table of commands has them.
+use crate::compare::same;
 use command_words::{Command, CommandError, Numbers, Stop, read_command};
 use std::alloc::{AllocError, Global};
+use std::process::Abort;
 use std::test::Fail;
 
-/// What a line of words asks for, where blanks separate the words after the program's name.
-fn read(alloc: Global, line: &str) -> Result<Result<Command, CommandError>, AllocError> {
+/// Compares what a line of words asks for, where blanks separate the words after the program's name.
+fn check_line(
+    rt: &(impl Abort + AllocGlobal),
+    line: &str,
+    want: Result<Command, CommandError>,
+) -> Result<(), AllocError> {
+    let found = read_command(rt.alloc(), &words_of(rt.alloc(), line)?);
+    same(rt, (line, found), (line, want));
+    Ok(())
+}
+
+fn words_of(alloc: Global, line: &str) -> Result<Vec<String>, AllocError> {
     let mut words = Vec::new(alloc);
     words.push(String::from_str(alloc, "heap")?)?;
     for word in line.split(' ') {
@@ -12,92 +24,209 @@ fn read(alloc: Global, line: &str) -> Result<Result<Command, CommandError>, Allo
             words.push(String::from_str(alloc, word)?)?;
         }
     }
-    Ok(read_command(alloc, words.as_slice()))
+    Ok(words)
 }
 
-fn format(pages: u32, log_bytes: u32, first: u32) -> Command {
-    Command::Format(Numbers {
-        pages,
-        log_bytes,
-        first,
-    })
-}
-
-fn play(fresh: Option<u32>, stop: Option<Stop>) -> Command {
-    Command::Play { fresh, stop }
-}
-
-fn load(seed: u32, count: u32, fresh: Option<u32>) -> Command {
-    Command::Load { seed, count, fresh }
-}
-
-fn threads(fresh: Option<u32>, tries: u32) -> Command {
-    Command::Threads { fresh, tries }
-}
-
-fn stop(after: u64, again: Option<u64>) -> Option<Stop> {
-    Some(Stop { after, again })
-}
+/// Command lines, and what they ask for. A disk that only stops again never stops before.
+const COMMANDS: [(&str, Command); 24] = [
+    (
+        "format 1 64 1",
+        Command::Format(Numbers {
+            pages: 1,
+            log_bytes: 64,
+            first: 1,
+        }),
+    ),
+    (
+        "format 16384 1073741824 4294967295",
+        Command::Format(Numbers {
+            pages: 16384,
+            log_bytes: 1_073_741_824,
+            first: 4_294_967_295,
+        }),
+    ),
+    (
+        "format 3 65536 7",
+        Command::Format(Numbers {
+            pages: 3,
+            log_bytes: 65536,
+            first: 7,
+        }),
+    ),
+    (
+        "format 003 065536 0007",
+        Command::Format(Numbers {
+            pages: 3,
+            log_bytes: 65536,
+            first: 7,
+        }),
+    ),
+    (
+        "format +3 +64 +7",
+        Command::Format(Numbers {
+            pages: 3,
+            log_bytes: 64,
+            first: 7,
+        }),
+    ),
+    (
+        "format -- 3 64 7",
+        Command::Format(Numbers {
+            pages: 3,
+            log_bytes: 64,
+            first: 7,
+        }),
+    ),
+    (
+        "play",
+        Command::Play {
+            fresh: None,
+            stop: None,
+        },
+    ),
+    (
+        "play --fresh 1",
+        Command::Play {
+            fresh: Some(1),
+            stop: None,
+        },
+    ),
+    (
+        "play --fresh=16384",
+        Command::Play {
+            fresh: Some(16384),
+            stop: None,
+        },
+    ),
+    (
+        "play --stop 0",
+        Command::Play {
+            fresh: None,
+            stop: Some(Stop {
+                after: 0,
+                again: None,
+            }),
+        },
+    ),
+    (
+        "play --stop 18446744073709551615",
+        Command::Play {
+            fresh: None,
+            stop: Some(Stop {
+                after: u64::MAX,
+                again: None,
+            }),
+        },
+    ),
+    (
+        "play --again 0",
+        Command::Play {
+            fresh: None,
+            stop: Some(Stop {
+                after: u64::MAX,
+                again: Some(0),
+            }),
+        },
+    ),
+    (
+        "play --again 0 --fresh 16384",
+        Command::Play {
+            fresh: Some(16384),
+            stop: Some(Stop {
+                after: u64::MAX,
+                again: Some(0),
+            }),
+        },
+    ),
+    (
+        "play --stop 4 --again 5",
+        Command::Play {
+            fresh: None,
+            stop: Some(Stop {
+                after: 4,
+                again: Some(5),
+            }),
+        },
+    ),
+    (
+        "play --again 5 --stop 4",
+        Command::Play {
+            fresh: None,
+            stop: Some(Stop {
+                after: 4,
+                again: Some(5),
+            }),
+        },
+    ),
+    (
+        "play --stop 4 --fresh 2 --again 18446744073709551615",
+        Command::Play {
+            fresh: Some(2),
+            stop: Some(Stop {
+                after: 4,
+                again: Some(u64::MAX),
+            }),
+        },
+    ),
+    ("graph", Command::Graph),
+    (
+        "threads",
+        Command::Threads {
+            fresh: None,
+            tries: 1000,
+        },
+    ),
+    (
+        "threads --tries 1",
+        Command::Threads {
+            fresh: None,
+            tries: 1,
+        },
+    ),
+    (
+        "threads --tries=1000000 --fresh 16384",
+        Command::Threads {
+            fresh: Some(16384),
+            tries: 1_000_000,
+        },
+    ),
+    (
+        "threads --fresh 1",
+        Command::Threads {
+            fresh: Some(1),
+            tries: 1000,
+        },
+    ),
+    (
+        "load 1 2",
+        Command::Load {
+            seed: 1,
+            count: 2,
+            fresh: None,
+        },
+    ),
+    (
+        "load 0 0 --fresh 1",
+        Command::Load {
+            seed: 0,
+            count: 0,
+            fresh: Some(1),
+        },
+    ),
+    (
+        "load --fresh=16384 2147483647 100000",
+        Command::Load {
+            seed: 2_147_483_647,
+            count: 100_000,
+            fresh: Some(16384),
+        },
+    ),
+];
 
 #[test]
 fn commands_are_read(rt: HostRuntime) -> Result<(), Fail> {
-    let never = 18_446_744_073_709_551_615;
-    let lines = [
-        ("format 1 64 1", format(1, 64, 1)),
-        (
-            "format 16384 1073741824 4294967295",
-            format(16384, 1_073_741_824, 4_294_967_295),
-        ),
-        ("format 3 65536 7", format(3, 65536, 7)),
-        ("format 003 065536 0007", format(3, 65536, 7)),
-        ("format +3 +64 +7", format(3, 64, 7)),
-        ("format -- 3 64 7", format(3, 64, 7)),
-        ("play", play(None, None)),
-        ("play --fresh 1", play(Some(1), None)),
-        ("play --fresh=16384", play(Some(16384), None)),
-        ("play --stop 0", play(None, stop(0, None))),
-        (
-            "play --stop 18446744073709551615",
-            play(None, stop(never, None)),
-        ),
-        ("play --again 0", play(None, stop(never, Some(0)))),
-        (
-            "play --again 0 --fresh 16384",
-            play(Some(16384), stop(never, Some(0))),
-        ),
-        ("play --stop 4 --again 5", play(None, stop(4, Some(5)))),
-        ("play --again 5 --stop 4", play(None, stop(4, Some(5)))),
-        (
-            "play --stop 4 --fresh 2 --again 18446744073709551615",
-            play(Some(2), stop(4, Some(never))),
-        ),
-    ];
-    for (line, wanted) in lines {
-        assert_eq!(rt; read(rt.alloc(), line)?, Ok(wanted), "{line}");
-    }
-    Ok(())
-}
-
-#[test]
-fn commands_without_a_stop_are_read(rt: HostRuntime) -> Result<(), Fail> {
-    let lines = [
-        ("graph", Command::Graph),
-        ("threads", threads(None, 1000)),
-        ("threads --tries 1", threads(None, 1)),
-        (
-            "threads --tries=1000000 --fresh 16384",
-            threads(Some(16384), 1_000_000),
-        ),
-        ("threads --fresh 1", threads(Some(1), 1000)),
-        ("load 1 2", load(1, 2, None)),
-        ("load 0 0 --fresh 1", load(0, 0, Some(1))),
-        (
-            "load --fresh=16384 2147483647 100000",
-            load(2_147_483_647, 100_000, Some(16384)),
-        ),
-    ];
-    for (line, wanted) in lines {
-        assert_eq!(rt; read(rt.alloc(), line)?, Ok(wanted), "{line}");
+    for (line, command) in &COMMANDS {
+        check_line(&rt, line, Ok(*command))?;
     }
     Ok(())
 }
@@ -174,12 +303,13 @@ static OTHER_WORDS: [&str; 65] = [
 #[test]
 fn other_words_are_refused(rt: HostRuntime) -> Result<(), Fail> {
     for line in &OTHER_WORDS {
-        assert_eq!(rt; read(rt.alloc(), line)?, Err(CommandError::Usage), "{line}");
+        check_line(&rt, line, Err(CommandError::Usage))?;
     }
     Ok(())
 }
 
 #[test]
 fn no_words_at_all_are_no_command(rt: HostRuntime) {
-    assert_eq!(rt; read_command(rt.alloc(), &[]), Err(CommandError::Usage));
+    let found = read_command(rt.alloc(), &[]);
+    same(&rt, found, Err(CommandError::Usage));
 }

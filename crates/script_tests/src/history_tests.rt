@@ -1,35 +1,32 @@
 //! The commits of a history, in the order of their seals.
+use crate::compare::same;
 use graph_model::{Event, Refusal, Reply};
 use heap_history::History;
+use std::alloc::{AllocError, Global};
 use std::process::Abort;
 use std::test::Fail;
 
+/// A history of these entries.
 pub(crate) fn told(
     rt: &(impl Abort + AllocGlobal),
     entries: &[(Event, Reply)],
-) -> Result<History, Fail> {
+) -> Result<History, AllocError> {
     let mut history = History::new(rt.alloc());
     for (event, reply) in entries {
         history.reserve(1)?;
         history.push(*event, *reply);
     }
-    assert_eq!(rt; history.len(), entries.len());
+    same(rt, history.len(), entries.len());
     Ok(history)
 }
 
-// The commits, by the number of each and how many calls it has.
-fn compare(
-    rt: &(impl Abort + AllocGlobal),
-    history: &History,
-    want: &[(u64, usize)],
-) -> Result<(), Fail> {
-    let list = history.commits()?;
-    assert_eq!(rt; list.as_slice().len(), want.len());
-    for (commit, (number, calls)) in list.as_slice().iter().zip(want) {
-        assert_eq!(rt; commit.number(), *number);
-        assert_eq!(rt; commit.calls().len(), *calls);
+/// The commits, by the number of each and how many calls it has.
+fn numbers_and_calls(alloc: Global, history: &History) -> Result<Vec<(u64, usize)>, AllocError> {
+    let mut found = Vec::new(alloc);
+    for commit in history.commits()?.as_slice() {
+        found.push((commit.number(), commit.calls().len()))?;
     }
-    Ok(())
+    Ok(found)
 }
 
 fn root(s: u32) -> (Event, Reply) {
@@ -47,7 +44,7 @@ fn put(s: u32, reply: Reply) -> (Event, Reply) {
 }
 
 /// Three sessions: one is refused a write and seals first, one aborts, and one seals and is then cut short in its next seal.
-fn three_sessions(rt: &(impl Abort + AllocGlobal)) -> Result<History, Fail> {
+fn three_sessions(rt: &(impl Abort + AllocGlobal)) -> Result<History, AllocError> {
     let busy = Reply::Refused {
         why: Refusal::Busy { holder: 5 },
     };
@@ -87,7 +84,8 @@ fn three_sessions(rt: &(impl Abort + AllocGlobal)) -> Result<History, Fail> {
 #[test]
 fn commits_are_told_in_the_order_of_their_seals(rt: HostRuntime) -> Result<(), Fail> {
     let history = three_sessions(&rt)?;
-    compare(&rt, &history, &[(6, 2), (5, 3), (8, 0)])?;
-    assert_eq!(&rt; history.acked(), 1);
+    let commits = numbers_and_calls(rt.alloc(), &history)?;
+    same(&rt, commits.as_slice(), &[(6, 2), (5, 3), (8, 0)]);
+    same(&rt, history.acked(), 1);
     Ok(())
 }

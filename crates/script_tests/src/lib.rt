@@ -7,6 +7,8 @@ mod brief_entries_tests;
 #[cfg(test)]
 mod command_words_tests;
 #[cfg(test)]
+mod compare;
+#[cfg(test)]
 mod history_tests;
 #[cfg(test)]
 mod load_tests;

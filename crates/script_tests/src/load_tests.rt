@@ -1,4 +1,5 @@
 //! A load that is made from a number.
+use crate::compare::same;
 use script_text::{Draws, Load, read_script};
 use std::alloc::Global;
 use std::process::Abort;
@@ -8,7 +9,7 @@ use std::test::Fail;
 fn a_generator_draws_the_numbers_of_its_seed(rt: HostRuntime) {
     let mut draws = Draws::new(1);
     for want in [16_838, 5_758, 10_113, 17_515, 31_051, 5_627] {
-        assert_eq!(rt; draws.draw(), want);
+        same(&rt, draws.draw(), want);
     }
 }
 
@@ -34,11 +35,19 @@ const ROUNDS: [&str; 17] = [
     "1 begin\n1 root 0\n1 get 0 2 2\n1 new 1 2\n1 put 1 0 17\n1 link 0 2 1\n1 abort\nscan",
 ];
 
-/// Compares the lines of the next round with the expected ones, or with no round.
+/// Compares the lines of the next round with the expected ones.
 fn check_round(rt: &impl Abort, alloc: Global, load: &mut Load, want: &str) -> Result<(), Fail> {
     let want = read_script(alloc, want.as_bytes())?;
-    let found = load.next_round(alloc)?;
-    assert!(rt; found.is_some_and(|round| round.as_slice() == want.as_slice()));
+    let Some(round) = load.next_round(alloc)? else {
+        panic!(rt; "no round");
+    };
+    same(rt, round.as_slice(), want.as_slice());
+    Ok(())
+}
+
+/// There is no further round.
+fn ends(rt: &impl Abort, alloc: Global, mut load: Load) -> Result<(), Fail> {
+    same(rt, load.next_round(alloc)?.is_none(), true);
     Ok(())
 }
 
@@ -49,7 +58,6 @@ fn a_load_is_made_from_its_number(rt: HostRuntime) -> Result<(), Fail> {
     for want in &ROUNDS {
         check_round(&rt, alloc, &mut load, want)?;
     }
-    assert!(rt; load.next_round(alloc)?.is_none());
-    assert!(rt; Load::new(2_147_483_647, 0).next_round(alloc)?.is_none());
-    Ok(())
+    ends(&rt, alloc, load)?;
+    ends(&rt, alloc, Load::new(2_147_483_647, 0))
 }

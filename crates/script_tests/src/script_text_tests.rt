@@ -1,4 +1,5 @@
 //! Scripts, good and bad, and a printed line.
+use crate::compare::same;
 use graph_model::{Entry, Event, Refusal, Reply};
 use script_text::{Line, MOST_BYTES, ScriptError, read_script, reply_line};
 use std::alloc::{AllocError, Global};
@@ -12,76 +13,72 @@ const EACH_FORM: &str =
     6 get 0 18446744073709551615 64\n7 same 0 00000000000000000001\n8 len 0\n00000000000000000009 seal\n\n10 abort\n11 commit\nforce\n\
     flush 0\nflush  18446744073709551615\nflip\nscan\n";
 
+/// The lines of the script above.
+const EACH_LINE: [Line; 18] = [
+    Line::One(Event::Begin { s: 1 }),
+    Line::One(Event::Root { s: 2, h: 0 }),
+    Line::One(Event::New {
+        s: 32,
+        h: 1,
+        len: u64::MAX,
+    }),
+    Line::One(Event::Put {
+        s: 31,
+        h: 64,
+        i: 4,
+        v: 4_611_686_018_427_387_904,
+    }),
+    Line::One(Event::Clear { s: 30, h: 0, i: 3 }),
+    Line::One(Event::Link {
+        s: 4,
+        h: 0,
+        i: 3,
+        h2: 1,
+    }),
+    Line::One(Event::Drop { s: 5, h: 63 }),
+    Line::One(Event::Get {
+        s: 6,
+        h: 0,
+        i: u64::MAX,
+        h2: 64,
+    }),
+    Line::One(Event::Same { s: 7, h: 0, h2: 1 }),
+    Line::One(Event::Len { s: 8, h: 0 }),
+    Line::One(Event::Seal { s: 9 }),
+    Line::One(Event::Abort { s: 10 }),
+    Line::Commit { s: 11 },
+    Line::One(Event::Force),
+    Line::One(Event::Flush { p: 0 }),
+    Line::One(Event::Flush { p: u64::MAX }),
+    Line::One(Event::Flip),
+    Line::One(Event::Scan),
+];
+
 #[test]
 fn each_form_of_a_line_is_read(rt: HostRuntime) -> Result<(), Fail> {
-    let most = 18_446_744_073_709_551_615;
-    let want = [
-        Line::One(Event::Begin { s: 1 }),
-        Line::One(Event::Root { s: 2, h: 0 }),
-        Line::One(Event::New {
-            s: 32,
-            h: 1,
-            len: most,
-        }),
-        Line::One(Event::Put {
-            s: 31,
-            h: 64,
-            i: 4,
-            v: 4_611_686_018_427_387_904,
-        }),
-        Line::One(Event::Clear { s: 30, h: 0, i: 3 }),
-        Line::One(Event::Link {
-            s: 4,
-            h: 0,
-            i: 3,
-            h2: 1,
-        }),
-        Line::One(Event::Drop { s: 5, h: 63 }),
-        Line::One(Event::Get {
-            s: 6,
-            h: 0,
-            i: most,
-            h2: 64,
-        }),
-        Line::One(Event::Same { s: 7, h: 0, h2: 1 }),
-        Line::One(Event::Len { s: 8, h: 0 }),
-        Line::One(Event::Seal { s: 9 }),
-        Line::One(Event::Abort { s: 10 }),
-        Line::Commit { s: 11 },
-        Line::One(Event::Force),
-        Line::One(Event::Flush { p: 0 }),
-        Line::One(Event::Flush { p: most }),
-        Line::One(Event::Flip),
-        Line::One(Event::Scan),
-    ];
-    let found = read_script(rt.alloc(), EACH_FORM.as_bytes());
-    assert!(rt; found.is_ok_and(|lines| lines.as_slice() == want.as_slice()));
+    let lines = read_script(rt.alloc(), EACH_FORM.as_bytes())?;
+    same(&rt, lines.as_slice(), &EACH_LINE);
     Ok(())
 }
 
-/// How many lines a script has, or the number of its first bad one.
-fn outcome(alloc: Global, script: &[u8]) -> Result<Result<usize, u64>, AllocError> {
-    match read_script(alloc, script) {
-        Ok(lines) => Ok(Ok(lines.len())),
-        Err(ScriptError::Fault { line }) => Ok(Err(line)),
-        Err(ScriptError::NoMemory) => Err(AllocError),
-    }
-}
-
-fn check_outcomes(
+/// Compares how many lines a script has, or the number of its first bad one.
+fn check_script(
     rt: &impl Abort,
     alloc: Global,
-    cases: &[(&str, Result<usize, u64>)],
-) -> Result<(), Fail> {
-    for (script, want) in cases {
-        let found = outcome(alloc, script.as_bytes())?;
-        assert!(rt; found == *want, "at {script}");
-    }
+    script: &[u8],
+    want: Result<usize, u64>,
+) -> Result<(), AllocError> {
+    let found = match read_script(alloc, script) {
+        Ok(lines) => Ok(lines.len()),
+        Err(ScriptError::Fault { line }) => Err(line),
+        Err(ScriptError::NoMemory) => return Err(AllocError),
+    };
+    same(rt, (script, found), (script, want));
     Ok(())
 }
 
 /// A script, and how many lines it has, or the number of its first bad one.
-const READ: [(&str, Result<usize, u64>); 43] = [
+const SCRIPTS: [(&str, Result<usize, u64>); 71] = [
     ("", Ok(0)),
     ("\n\n", Ok(0)),
     ("force", Ok(1)),
@@ -125,15 +122,7 @@ const READ: [(&str, Result<usize, u64>); 43] = [
     ("1 len 000000000000000000000", Err(1)),
     ("1 len -1", Err(1)),
     ("1 len 0x1", Err(1)),
-];
-
-#[test]
-fn the_first_bad_line_is_told(rt: HostRuntime) -> Result<(), Fail> {
-    check_outcomes(&rt, rt.alloc(), &READ)
-}
-
-/// Likewise, of sessions that are one and of some that are none.
-const SESSIONS: [(&str, Result<usize, u64>); 28] = [
+    // Of sessions, which are numbers from 1 to 32, and of some that are none.
     ("1 begin", Ok(1)),
     ("2 begin", Ok(1)),
     ("32 begin", Ok(1)),
@@ -165,18 +154,19 @@ const SESSIONS: [(&str, Result<usize, u64>); 28] = [
 ];
 
 #[test]
-fn a_session_is_a_number_from_1_to_32(rt: HostRuntime) -> Result<(), Fail> {
-    check_outcomes(&rt, rt.alloc(), &SESSIONS)
+fn the_first_bad_line_is_told(rt: HostRuntime) -> Result<(), Fail> {
+    for (script, want) in &SCRIPTS {
+        check_script(&rt, rt.alloc(), script.as_bytes(), *want)?;
+    }
+    Ok(())
 }
 
 #[test]
 fn a_long_script_is_a_fault_at_line_0(rt: HostRuntime) -> Result<(), Fail> {
-    let alloc = rt.alloc();
-    let mut newlines = vec![in alloc; b'\n'; MOST_BYTES]?;
-    assert!(rt; outcome(alloc, &newlines)? == Ok(0));
+    let mut newlines = vec![in rt.alloc(); b'\n'; MOST_BYTES]?;
+    check_script(&rt, rt.alloc(), &newlines, Ok(0))?;
     newlines.push(b'\n')?;
-    assert!(rt; outcome(alloc, &newlines)? == Err(0));
-    Ok(())
+    Ok(check_script(&rt, rt.alloc(), &newlines, Err(0))?)
 }
 
 /// An event with its reply, and the line that is printed.
@@ -272,7 +262,7 @@ const PRINTED: [(Entry, &str); 10] = [
 #[test]
 fn an_event_is_printed_with_its_reply(rt: HostRuntime) -> Result<(), Fail> {
     for (entry, want) in &PRINTED {
-        assert_eq!(rt; reply_line(rt.alloc(), entry)?.as_str(), *want);
+        same(&rt, reply_line(rt.alloc(), entry)?.as_str(), *want);
     }
     Ok(())
 }

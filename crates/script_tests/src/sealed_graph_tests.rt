@@ -1,8 +1,10 @@
 //! The graph of what a history says is sealed, from the history alone.
+use crate::compare::same;
 use crate::history_tests::told;
 use graph_model::{Event, Id, ROOT, Refusal, Reply, Val};
 use heap_history::History;
 use sealed_graph::{PlainGraph, SealedView, sealed_view};
+use std::alloc::{AllocError, Global};
 use std::process::Abort;
 use std::test::Fail;
 
@@ -41,19 +43,22 @@ fn seal(s: u32, n: u64) -> (Event, Reply) {
     (Event::Seal { s }, Reply::Sealed { n })
 }
 
-// The graph has exactly these objects, in this order.
-fn compare(rt: &impl Abort, graph: &PlainGraph, want: &[(Id, &[Val])]) -> Result<(), Fail> {
-    assert_eq!(rt; graph.len(), want.len());
-    for (id, (name, fields)) in graph.ids()?.iter().zip(want) {
-        assert_eq!(rt; id, name);
-        assert_eq!(rt; graph.fields(*id), *fields);
+/// An object, and its fields.
+type Object = (Id, &'static [Val]);
+
+/// The graph has exactly these objects, in this order.
+fn compare(rt: &impl Abort, graph: &PlainGraph, want: &[Object]) -> Result<(), AllocError> {
+    let ids = graph.ids()?;
+    same(rt, (graph.len(), ids.len()), (want.len(), want.len()));
+    for (id, object) in ids.iter().zip(want) {
+        same(rt, (*id, graph.fields(*id)), *object);
     }
     Ok(())
 }
 
 /// Transactions of two sessions that are sealed in another order than they began; then one that is aborted, one whose seal the disk cut short,
 /// and one that is still active.
-fn two_sessions(rt: &(impl Abort + AllocGlobal)) -> Result<History, Fail> {
+fn two_sessions(rt: &(impl Abort + AllocGlobal)) -> Result<History, AllocError> {
     told(
         rt,
         &[
@@ -98,37 +103,43 @@ fn two_sessions(rt: &(impl Abort + AllocGlobal)) -> Result<History, Fail> {
     )
 }
 
+/// The objects that the first two transactions made, and the graph after the three that are sealed.
+const LINKED: Id = Id { t: 5, k: 1 };
+
+const OTHER: Id = Id { t: 6, k: 1 };
+
+const SEALED: [Object; 3] = [
+    (
+        ROOT,
+        &[Val::Ref(LINKED), Val::Ref(OTHER), Val::Null, Val::Null],
+    ),
+    (LINKED, &[Val::Int(8)]),
+    (OTHER, &[Val::Null, Val::Ref(ROOT)]),
+];
+
 #[test]
 fn what_is_sealed_is_run_in_the_order_of_the_seals(rt: HostRuntime) -> Result<(), Fail> {
-    let history = two_sessions(&rt)?;
     let first = PlainGraph::new_heap(rt.alloc())?;
-    let graph = sealed_view(rt.alloc(), &history, &first)?;
-    let linked = Id { t: 5, k: 1 };
-    let other = Id { t: 6, k: 1 };
-    compare(
-        &rt,
-        &graph,
-        &[
-            (
-                ROOT,
-                &[Val::Ref(linked), Val::Ref(other), Val::Null, Val::Null],
-            ),
-            (linked, &[Val::Int(8)]),
-            (other, &[Val::Null, Val::Ref(ROOT)]),
-        ],
-    )?;
-    compare(&rt, &first, &[(ROOT, &[Val::Null; 4])])
+    let graph = sealed_view(rt.alloc(), &two_sessions(&rt)?, &first)?;
+    compare(&rt, &graph, &SEALED)?;
+    compare(&rt, &first, &[(ROOT, &[Val::Null; 4])])?;
+    Ok(())
 }
 
-/// A history that began with more than a root: its transaction changes an object made before, makes two of its own, and drops a handle.
-#[test]
-fn a_view_begins_with_the_first_graph(rt: HostRuntime) -> Result<(), Fail> {
-    let before = Id { t: 3, k: 2 };
-    let mut first = PlainGraph::empty(rt.alloc());
-    first.insert(ROOT, vec![in rt.alloc(); Val::Ref(before)]?)?;
-    first.insert(before, vec![in rt.alloc(); Val::Int(1), Val::Int(2)]?)?;
-    let history = told(
-        &rt,
+/// The object to which the root of a heap refers that is older than its history.
+const BEFORE: Id = Id { t: 3, k: 2 };
+
+fn older_heap(alloc: Global) -> Result<PlainGraph, AllocError> {
+    let mut graph = PlainGraph::empty(alloc);
+    graph.insert(ROOT, vec![in alloc; Val::Ref(BEFORE)]?)?;
+    graph.insert(BEFORE, vec![in alloc; Val::Int(1), Val::Int(2)]?)?;
+    Ok(graph)
+}
+
+/// A transaction changes an object made before, makes two of its own, and drops a handle.
+fn one_session(rt: &(impl Abort + AllocGlobal)) -> Result<History, AllocError> {
+    told(
+        rt,
         &[
             begin(4, 7),
             root(4),
@@ -143,35 +154,38 @@ fn a_view_begins_with_the_first_graph(rt: HostRuntime) -> Result<(), Fail> {
             seal(4, 1),
             (Event::Force, Reply::Durable { n: 1 }),
         ],
-    )?;
-    let made = Id { t: 7, k: 2 };
-    compare(
-        &rt,
-        &history.sealed_view(rt.alloc(), &first)?,
-        &[
-            (ROOT, &[Val::Ref(before)]),
-            (before, &[Val::Null, Val::Ref(made)]),
-            (Id { t: 7, k: 1 }, &[]),
-            (made, &[Val::Null]),
-        ],
     )
 }
 
-/// A transaction with a number that no heap gives is run if it makes no object, and otherwise there is no view.
+/// The older heap after it, with the second of the objects that it made.
+const MADE: Id = Id { t: 7, k: 2 };
+
+const CHANGED: [Object; 4] = [
+    (ROOT, &[Val::Ref(BEFORE)]),
+    (BEFORE, &[Val::Null, Val::Ref(MADE)]),
+    (Id { t: 7, k: 1 }, &[]),
+    (MADE, &[Val::Null]),
+];
+
+#[test]
+fn a_view_begins_with_the_first_graph(rt: HostRuntime) -> Result<(), Fail> {
+    let first = older_heap(rt.alloc())?;
+    let graph = one_session(&rt)?.sealed_view(rt.alloc(), &first)?;
+    compare(&rt, &graph, &CHANGED)?;
+    Ok(())
+}
+
+/// The root after a transaction with a number that no heap gives: it is run if it makes no object, and otherwise there is no view.
+const UNNAMED: [Object; 1] = [(ROOT, &[Val::Int(7), Val::Null, Val::Null, Val::Null])];
+
 #[test]
 fn an_object_without_a_name_has_no_view(rt: HostRuntime) -> Result<(), Fail> {
     let first = PlainGraph::new_heap(rt.alloc())?;
-    let unnamed = told(
-        &rt,
-        &[begin(1, NO_NAME), root(1), put(1, 0, 0, 7), seal(1, 1)],
-    )?;
-    let graph = sealed_view(rt.alloc(), &unnamed, &first)?;
-    compare(
-        &rt,
-        &graph,
-        &[(ROOT, &[Val::Int(7), Val::Null, Val::Null, Val::Null])],
-    )?;
-    let making = told(&rt, &[begin(1, NO_NAME), new(1, 0, 1), seal(1, 1)])?;
-    assert!(&rt; sealed_view(rt.alloc(), &making, &first).is_err());
+    let unnamed = [begin(1, NO_NAME), root(1), put(1, 0, 0, 7), seal(1, 1)];
+    let graph = sealed_view(rt.alloc(), &told(&rt, &unnamed)?, &first)?;
+    compare(&rt, &graph, &UNNAMED)?;
+    let making = [begin(1, NO_NAME), new(1, 0, 1), seal(1, 1)];
+    let view = sealed_view(rt.alloc(), &told(&rt, &making)?, &first);
+    same(&rt, view.is_err(), true);
     Ok(())
 }

@@ -1,9 +1,9 @@
 //! The slow heap plays lines of scripts: its answers, and the graphs that it leaves.
+use crate::compare::same;
 use graph_model::{Entry, Event, Refusal, Reply};
-use script_text::{Line, read_script, reply_line};
+use script_text::{Line, ScriptError, read_script, reply_line};
 use slow_heap::SlowHeap;
 use std::alloc::{AllocError, Global};
-use std::fmt::Debug;
 use std::process::Abort;
 use std::test::Fail;
 
@@ -108,18 +108,15 @@ const RUNS: [(&str, &str); 8] = [
 ];
 
 /// What a line asks, in front of its answer.
-fn event_of(rt: &impl Abort, alloc: Global, line: &str) -> Result<Event, Fail> {
-    let (asked, _) = line.split_once(" -> ").expect(rt, "no answer");
+fn event_of(rt: &impl Abort, alloc: Global, line: &str) -> Result<Event, ScriptError> {
+    let Some((asked, _)) = line.split_once(" -> ") else {
+        panic!(rt; "no answer");
+    };
     let lines = read_script(alloc, asked.as_bytes())?;
-    match lines.as_slice() {
-        [Line::One(event)] => Ok(*event),
-        _ => panic!(rt; "no event: {line}"),
-    }
-}
-
-/// Compares what was found.
-fn same<T: PartialEq + Debug + Copy>(rt: &impl Abort, found: T, want: T) {
-    assert_eq!(rt; found, want);
+    let [Line::One(event)] = lines.as_slice() else {
+        panic!(rt; "no event");
+    };
+    Ok(*event)
 }
 
 fn ask(rt: &impl Abort, heap: &mut SlowHeap, event: Event) -> Result<Reply, AllocError> {
@@ -136,30 +133,41 @@ fn check_line(rt: &impl Abort, alloc: Global, heap: &mut SlowHeap, line: &str) -
     Ok(())
 }
 
+/// Adds the text of the graph after the first k of the sealed transactions.
+fn add_graph(
+    rt: &impl Abort,
+    heap: &SlowHeap,
+    k: usize,
+    texts: &mut Vec<u8>,
+) -> Result<(), AllocError> {
+    assert!(rt; k <= heap.sealed());
+    let text = heap.text(k)?;
+    texts.extend_from_slice(&text)
+}
+
 /// The texts of the graphs, one after another.
 fn graphs(rt: &impl Abort, alloc: Global, heap: &SlowHeap) -> Result<Vec<u8>, AllocError> {
     let mut texts = Vec::new(alloc);
     for k in 0..=heap.sealed() {
-        assert!(rt; k <= heap.sealed());
-        texts.extend_from_slice(&heap.text(k)?)?;
+        add_graph(rt, heap, k, &mut texts)?;
     }
     Ok(texts)
 }
 
-/// Asks each line, and gives the texts of the graphs that they leave.
-fn graphs_behind(rt: &impl Abort, alloc: Global, lines: &str) -> Result<Vec<u8>, Fail> {
+/// Asks each line, and compares the texts of the graphs that they leave.
+fn check_run(rt: &impl Abort, alloc: Global, lines: &str, texts: &str) -> Result<(), Fail> {
     let mut heap = SlowHeap::new(alloc)?;
     for line in lines.lines() {
         check_line(rt, alloc, &mut heap, line)?;
     }
-    Ok(graphs(rt, alloc, &heap)?)
+    same(rt, graphs(rt, alloc, &heap)?.as_slice(), texts.as_bytes());
+    Ok(())
 }
 
 #[test]
 fn events_are_answered_and_leave_graphs(rt: HostRuntime) -> Result<(), Fail> {
     for (lines, texts) in &RUNS {
-        let found = graphs_behind(&rt, rt.alloc(), lines)?;
-        same(&rt, found.as_slice(), texts.as_bytes());
+        check_run(&rt, rt.alloc(), lines, texts)?;
     }
     Ok(())
 }
