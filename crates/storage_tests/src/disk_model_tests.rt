@@ -6,6 +6,7 @@ ghost use Rattle.disk_model.specs.Moments.{LeavesOnly};
 ghost use Rattle.disk_model.specs.Memory.{now_of};
 
 use crate::compare::same;
+use crate::disks::disk_of;
 use disk_model::{Disk, DiskError, FuseDisk, MemoryDisk, Pick};
 use std::alloc::{AllocError, Global};
 use std::process::Abort;
@@ -48,21 +49,12 @@ fn disk_of_six(
     alloc: Global,
     pick: Pick,
     room: usize,
-    fail_writes: &[u64],
-    fail_reads: &[u64],
+    fails: (&[u64], &[u64]),
 ) -> Result<MemoryDisk, AllocError>
     ensures { IfOk result (λ disk. length (now_of disk).newest ≡ 6) }
 {
     let bytes = vec![in alloc; 10, 11, 12, 13, 14, 15]?;
-    let fail_writes = fail_writes.to_vec(alloc)?;
-    MemoryDisk::of(
-        alloc,
-        bytes,
-        pick,
-        room,
-        fail_writes,
-        fail_reads.to_vec(alloc)?,
-    )
+    disk_of(alloc, bytes, pick, room, fails)
 }
 
 const DONE: Result<(), DiskError> = Ok(());
@@ -163,7 +155,7 @@ static CASES: [Case; 13] = [
 
 fn check(rt: &impl Abort, alloc: Global, case: &Case) -> Result<(), AllocError> {
     let ((pick, room, fails), answered, newest, left) = case;
-    let mut disk = disk_of_six(alloc, *pick, *room, fails, &[])?;
+    let mut disk = disk_of_six(alloc, *pick, *room, (fails, &[]))?;
     same(rt, answers(&mut disk), *answered);
     same(rt, disk.contents(), newest);
     disk.restart();
@@ -195,7 +187,7 @@ fn picks_have_numbers(rt: HostRuntime) {
 
 #[test]
 fn a_listed_read_fails(rt: HostRuntime) -> Result<(), Fail> {
-    let mut disk = disk_of_six(rt.alloc(), Pick::Newest, 0, &[], &[2])?;
+    let mut disk = disk_of_six(rt.alloc(), Pick::Newest, 0, (&[], &[2]))?;
     let read = [
         byte_at(&mut disk, 0),
         byte_at(&mut disk, 0),
@@ -229,7 +221,7 @@ const FUSES: [Fuse; 5] = [
 
 fn check_fuse(rt: &impl Abort, alloc: Global, fuse: &Fuse) -> Result<(), AllocError> {
     let (limit, expected, read, passed) = *fuse;
-    let disk = disk_of_six(alloc, Pick::Newest, 1000, &[], &[])?;
+    let disk = disk_of_six(alloc, Pick::Newest, 1000, (&[], &[]))?;
     let mut fuse = FuseDisk::new(disk, limit);
     same(rt, (limit, byte_at(&mut fuse, 4)), (limit, Ok(14)));
     same(rt, (limit, answers(&mut fuse)), (limit, expected));
@@ -241,15 +233,15 @@ fn check_fuse(rt: &impl Abort, alloc: Global, fuse: &Fuse) -> Result<(), AllocEr
 
 #[test]
 fn a_fuse_stops_at_its_limit(rt: HostRuntime) -> Result<(), Fail> {
-    for fuse in FUSES {
-        check_fuse(&rt, rt.alloc(), &fuse)?;
+    for fuse in &FUSES {
+        check_fuse(&rt, rt.alloc(), fuse)?;
     }
     Ok(())
 }
 
 #[test]
 fn a_stop_inside_is_a_failure(rt: HostRuntime) -> Result<(), Fail> {
-    let disk = disk_of_six(rt.alloc(), Pick::Newest, 1000, &[], &[])?;
+    let disk = disk_of_six(rt.alloc(), Pick::Newest, 1000, (&[], &[]))?;
     let mut fuse = FuseDisk::new(FuseDisk::new(disk, 2), 3);
     same(&rt, answers(&mut fuse), [DONE, DONE, FAILED, STOPPED]);
     let inner = fuse.into_inner();

@@ -3,6 +3,7 @@ ghost use Rattle.std.specs.Prelude.{◌≡◌, IfOk};
 ghost use Rattle.gated_log.specs.LogState.{log_place, log_room, IsPlaced};
 
 use crate::compare::same;
+use crate::disks::disk_of;
 use disk_model::{Disk, DiskError, MemoryDisk, Pick};
 use gated_log::{Log, LogError};
 use log_records::Record;
@@ -27,19 +28,6 @@ const FORCED: [u8; 44] = [
     0, 0, 0, 0, 1, 32, 0, 0, 0, 1, 1, 0, 0, 0, 0, 0, 0, 0, 0, 0, 0, 0, 0, 0, 0, 0, 0, 0, 29, 0, 0,
     0, 0, 0, 0, 0, 5, 1, 0, 0, 0, 0, 0, 0,
 ];
-
-/// A disk with these bytes. Of its reads the listed ones fail.
-fn make_disk(alloc: Global, bytes: Vec<u8>, fail_reads: &[u64]) -> Result<MemoryDisk, AllocError> {
-    let fail_reads = fail_reads.to_vec(alloc)?;
-    MemoryDisk::of(
-        alloc,
-        bytes,
-        Pick::Newest,
-        1000,
-        Vec::new(alloc),
-        fail_reads,
-    )
-}
 
 /// Opens the log of that many bytes, which follows four others.
 fn open(
@@ -127,7 +115,7 @@ fn opened_again(rt: &impl Abort, alloc: Global, disk: &mut MemoryDisk) -> Result
 #[test]
 fn forced_and_opened_again(rt: HostRuntime) -> Result<(), Fail> {
     let zeros = vec![in rt.alloc(); 0u8; 44]?;
-    let mut disk = make_disk(rt.alloc(), zeros, &[])?;
+    let mut disk = disk_of(rt.alloc(), zeros, Pick::Newest, 1000, (&[], &[]))?;
     append_and_force(&rt, rt.alloc(), &mut disk)?;
     same(&rt, disk.contents(), &FORCED);
     opened_again(&rt, rt.alloc(), &mut disk)
@@ -136,7 +124,7 @@ fn forced_and_opened_again(rt: HostRuntime) -> Result<(), Fail> {
 #[test]
 fn records_appended_together_are_one_batch(rt: HostRuntime) -> Result<(), Fail> {
     let zeros = vec![in rt.alloc(); 0u8; 44]?;
-    let mut disk = make_disk(rt.alloc(), zeros, &[])?;
+    let mut disk = disk_of(rt.alloc(), zeros, Pick::Newest, 1000, (&[], &[]))?;
     let mut log = open(&rt, rt.alloc(), &mut disk, 40)?.0;
     append_both(&rt, &mut log)?;
     force(&rt, &mut log, &mut disk)?;
@@ -157,29 +145,21 @@ const CHANGED: [(usize, u8, Result<usize, LogError>); 7] = [
 ];
 
 /// How many records the log has with one byte changed.
-fn changed(
-    rt: &impl Abort,
-    alloc: Global,
-    place: usize,
-    byte: u8,
-) -> Result<Result<usize, LogError>, AllocError> {
+fn changed(rt: &impl Abort, alloc: Global, place: usize, byte: u8) -> Result<usize, LogError> {
     let mut bytes = FORCED.to_vec(alloc)?;
     assert!(rt; place < bytes.len());
     bytes[place] = byte;
-    let mut disk = make_disk(alloc, bytes, &[])?;
-    match open(rt, alloc, &mut disk, 40) {
-        Ok((_, records)) => Ok(Ok(records.len())),
-        Err(error) => Ok(Err(error)),
-    }
+    let mut disk = disk_of(alloc, bytes, Pick::Newest, 1000, (&[], &[]))?;
+    let (_, records) = open(rt, alloc, &mut disk, 40)?;
+    Ok(records.len())
 }
 
 #[test]
-fn a_bad_batch_is_told_where_it_begins(rt: HostRuntime) -> Result<(), Fail> {
-    for (place, byte, expected) in CHANGED {
-        let found = changed(&rt, rt.alloc(), place, byte)?;
-        same(&rt, (place, byte, found), (place, byte, expected));
+fn a_bad_batch_is_told_where_it_begins(rt: HostRuntime) {
+    for (place, byte, want) in &CHANGED {
+        let found = changed(&rt, rt.alloc(), *place, *byte);
+        same(&rt, (place, byte, found), (place, byte, *want));
     }
-    Ok(())
 }
 
 /// The bytes of a big log, of which few are used.
@@ -189,7 +169,7 @@ const BIG: usize = 8_388_608;
 fn make_big(alloc: Global) -> Result<MemoryDisk, AllocError> {
     let mut bytes = FORCED.to_vec(alloc)?;
     bytes.resize(4 + BIG, 0)?;
-    make_disk(alloc, bytes, &[2, 3, 4])
+    disk_of(alloc, bytes, Pick::Newest, 1000, (&[], &[2, 3, 4]))
 }
 
 #[test]

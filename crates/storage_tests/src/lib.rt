@@ -8,6 +8,8 @@ mod disk_file_tests;
 #[cfg(test)]
 mod disk_model_tests;
 #[cfg(test)]
+mod disks;
+#[cfg(test)]
 mod gate_slot_tests;
 #[cfg(test)]
 mod gated_log_tests;

@@ -207,14 +207,14 @@ fn read(
     let Some((found, taken)) = decode(alloc, bytes)? else {
         panic!(rt; "no record");
     };
-    assert!(rt; found == *record && taken == len, "{bytes:?}");
+    same(rt, (bytes, &found, taken), (bytes, record, len));
     Ok(())
 }
 
 /// Bytes that begin with no record.
 fn refused(rt: &impl Abort, alloc: Global, bytes: &[u8]) -> Result<(), AllocError> {
     let found = decode(alloc, bytes)?;
-    assert!(rt; found.is_none(), "{bytes:?}");
+    same(rt, (bytes, found.is_none()), (bytes, true));
     Ok(())
 }
 
@@ -296,22 +296,28 @@ static HEADERS: [(u16, Option<usize>); 5] = [
     (2401, None),
 ];
 
-/// How many bytes the `Base` with this header takes.
-fn base_size(alloc: Global, header: u16) -> Result<Option<usize>, AllocError> {
+/// Compares how many bytes the `Base` with this header takes.
+fn check_size(
+    rt: &impl Abort,
+    alloc: Global,
+    header: u16,
+    want: Option<usize>,
+) -> Result<(), AllocError> {
     let mut bytes = vec![in alloc; 0u8; 5000]?;
     bytes[0] = BASE;
     LittleEndian::write_u16(&mut bytes[9..], header);
-    match decode(alloc, &bytes)? {
-        Some((_, size)) => Ok(Some(size)),
-        None => Ok(None),
-    }
+    let size = match decode(alloc, &bytes)? {
+        Some((_, size)) => Some(size),
+        None => None,
+    };
+    same(rt, (header, size), (header, want));
+    Ok(())
 }
 
 #[test]
 fn as_many_words_as_the_header_tells(rt: HostRuntime) -> Result<(), Fail> {
-    for (header, expected) in &HEADERS {
-        let size = base_size(rt.alloc(), *header)?;
-        same(&rt, (header, size), (header, *expected));
+    for (header, want) in &HEADERS {
+        check_size(&rt, rt.alloc(), *header, *want)?;
     }
     Ok(())
 }

@@ -1,8 +1,9 @@
-//! Records on pages some of which are stored in between: an opening and redo give what a plain replay gives.
+//! Records on pages some of which are stored in between: an opening and redo give the words that the records leave.
 ghost use Rattle.std.specs.Prelude.{◌+◌, ◌<◌, length, IfOk};
 ghost use Rattle.log_machine.specs.Effect.{WritesBelow, EachWritesBelow};
 
 use crate::compare::same;
+use crate::disks::disk_of;
 use disk_model::{Disk, DiskError, MemoryDisk, Pick};
 use image_plan::Plan;
 use log_records::{ObjectWords, Record};
@@ -101,8 +102,7 @@ const ROWS: [Row; 6] = [
 /// A disk of zeros.
 fn new_disk(alloc: Global) -> Result<MemoryDisk, AllocError> {
     let bytes = vec![in alloc; 0u8; 4352]?;
-    let none = Vec::new(alloc);
-    MemoryDisk::of(alloc, bytes, Pick::AllOnes, 99_999, none, Vec::new(alloc))
+    disk_of(alloc, bytes, Pick::AllOnes, 99_999, (&[], &[]))
 }
 
 // What follows wraps calls with long contracts, since each of their callers would otherwise prove them anew.
@@ -160,12 +160,12 @@ fn flush_due(
     rt: &impl Abort,
     cache: &mut PageCache,
     disk: &mut MemoryDisk,
-    flushes: [(u64, u32); 3],
+    flushes: &[(u64, u32); 3],
     done: u64,
 ) -> Result<(), DiskError> {
     for (at, p) in flushes {
-        if at == done {
-            flush(rt, cache, disk, p, done)?;
+        if *at == done {
+            flush(rt, cache, disk, *p, done)?;
         }
     }
     Ok(())
@@ -177,7 +177,7 @@ fn play(
     alloc: Global,
     disk: &mut MemoryDisk,
     records: &[Record],
-    flushes: [(u64, u32); 3],
+    flushes: &[(u64, u32); 3],
 ) -> Result<(), Fail>
     requires { EachWritesBelow 256 records.now }
 {
@@ -189,15 +189,19 @@ fn play(
     Ok(())
 }
 
-/// The first pages past LSNs 0, 4, 6, 7 and 8.
-fn firsts_past(cache: &PageCache) -> [Option<u32>; 5] {
-    [
-        cache.first_past(0),
-        cache.first_past(4),
-        cache.first_past(6),
-        cache.first_past(7),
-        cache.first_past(8),
-    ]
+/// LSNs, and the first page past each of them, with all records on the pages.
+const FIRSTS_PAST: [(u64, Option<u32>); 5] = [
+    (0, Some(0)),
+    (4, Some(0)),
+    (6, Some(1)),
+    (7, Some(3)),
+    (8, None),
+];
+
+fn check_firsts_past(rt: &impl Abort, cache: &PageCache) {
+    for (lsn, want) in &FIRSTS_PAST {
+        same(rt, (*lsn, cache.first_past(*lsn)), (*lsn, *want));
+    }
 }
 
 /// The LSNs of the four pages.
@@ -222,97 +226,47 @@ fn redone(
     Ok(cache)
 }
 
-/// Puts a word at an address.
-fn put(words: &mut [u64], at: usize, word: u64) {
-    if let Some(place) = words.get_mut(at) {
-        *place = word;
-    }
-}
+/// The words after all records, by their addresses: the header of the root at 0, and what the records put. All others are 0.
+const WORDS: [(usize, u64); 10] = [
+    (0, 17),
+    (2, 5),
+    (5, 17),
+    (60, 17),
+    (61, 7),
+    (62, 9),
+    (63, 9),
+    (64, 21),
+    (65, 9),
+    (255, 25),
+];
 
-/// Puts a record's words, whatever the LSNs of the pages.
-fn replay_one(words: &mut [u64], rec: &Record) {
-    match rec {
-        Record::Update {
-            object,
-            field,
-            word,
-            ..
-        }
-        | Record::Fix {
-            object,
-            field,
-            word,
-            ..
-        }
-        | Record::Undo {
-            object,
-            field,
-            word,
-            ..
-        } => put(words, *object as usize + 2 + *field as usize, *word),
-        Record::Base {
-            address,
-            words: object,
-            ..
-        } => put_object(words, *address, object.as_slice()),
-        Record::Copy {
-            from,
-            to,
-            words: object,
-        } => put_copy(words, *from, *to, object.as_slice()),
-        Record::Scan { writes, .. } => {
-            for (at, word) in writes.as_slice() {
-                put(words, *at as usize, *word);
-            }
-        }
-        Record::Flip { copies } => {
-            for copy in copies.as_slice() {
-                put_copy(words, copy.from, copy.to, copy.words.as_slice());
-            }
-        }
-        Record::Commit { .. } | Record::End { .. } | Record::Collected => {}
-    }
-}
-
-/// Puts an object's words.
-fn put_object(words: &mut [u64], address: u32, object: &[u64]) {
-    for (i, word) in object.iter().enumerate() {
-        put(words, i.saturating_add(address as usize), *word);
-    }
-}
-
-/// Puts a copy of an object, and its address where the object stood.
-fn put_copy(words: &mut [u64], from: u32, to: u32, object: &[u64]) {
-    put_object(words, to, object);
-    put(words, from as usize, (u64::from(to) << 2) | 2);
-}
-
-/// The words of the four pages after all records, from the first contents on.
-fn replayed(alloc: Global, records: &[Record]) -> Result<Vec<u64>, AllocError> {
+/// The words of the four pages after all records.
+fn words_left(alloc: Global) -> Result<Vec<u64>, AllocError> {
     let mut words = vec![in alloc; 0u64; 256]?;
-    words[0] = 17;
-    for rec in records {
-        replay_one(&mut words, rec);
+    for (at, word) in &WORDS {
+        if let Some(place) = words.get_mut(*at) {
+            *place = *word;
+        }
     }
     Ok(words)
 }
 
-/// Plays the records, restarts the disk, and compares what redo gives with the words of a plain replay.
+/// Plays the records, restarts the disk, and compares what redo gives with the words that they leave.
 fn check_row(
     rt: &impl Abort,
     alloc: Global,
     records: &[Record],
     row: &Row,
-    plain: &[u64],
+    words: &[u64],
 ) -> Result<(), Fail>
     requires { EachWritesBelow 256 records.now }
 {
-    let (flushes, stored) = *row;
+    let (flushes, stored) = row;
     let mut disk = new_disk(alloc)?;
     play(rt, alloc, &mut disk, records, flushes)?;
     disk.restart();
-    let cache = redone(rt, alloc, &mut disk, records, stored)?;
-    same(rt, (stored, cache.as_slice()), (stored, plain));
+    let cache = redone(rt, alloc, &mut disk, records, *stored)?;
+    same(rt, (stored, cache.as_slice()), (stored, words));
     same(rt, lsns(rt, &cache), [5, 7, 0, 8]);
     Ok(())
 }
@@ -320,9 +274,9 @@ fn check_row(
 #[test]
 fn redone_as_replayed(rt: HostRuntime) -> Result<(), Fail> {
     let records = records(rt.alloc())?;
-    let plain = replayed(rt.alloc(), &records)?;
-    for row in ROWS {
-        check_row(&rt, rt.alloc(), &records, &row, &plain)?;
+    let words = words_left(rt.alloc())?;
+    for row in &ROWS {
+        check_row(&rt, rt.alloc(), &records, row, &words)?;
     }
     Ok(())
 }
@@ -341,16 +295,9 @@ fn three_words(rt: &impl Abort, cache: &PageCache) -> [u64; 3] {
 }
 
 #[test]
-fn words_by_address(rt: HostRuntime) -> Result<(), Fail> {
+fn words_by_address_and_pages_ahead_of_a_log(rt: HostRuntime) -> Result<(), Fail> {
     let cache = redone_on_new(&rt, rt.alloc())?;
     same(&rt, three_words(&rt, &cache), [5, 9, 25]);
-    Ok(())
-}
-
-#[test]
-fn pages_ahead_of_a_log(rt: HostRuntime) -> Result<(), Fail> {
-    let cache = redone_on_new(&rt, rt.alloc())?;
-    let want = [Some(0), Some(0), Some(1), Some(3), None];
-    same(&rt, firsts_past(&cache), want);
+    check_firsts_past(&rt, &cache);
     Ok(())
 }

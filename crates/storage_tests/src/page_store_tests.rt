@@ -1,5 +1,6 @@
 //! Pages on a disk in memory: frames whose bytes are given, and stores that are stopped at each device call.
 use crate::compare::same;
+use crate::disks::disk_of;
 use disk_model::{Disk, DiskError, FuseDisk, MemoryDisk, Pick};
 use image_plan::Plan;
 use page_store::{PAGE_WORDS, PageStore, ReadPagesError, StoredPage};
@@ -13,20 +14,10 @@ const PLAN: Plan = Plan {
     log_bytes: 64,
 };
 
-/// A disk with nothing pending, on which the listed writes and syncs fail.
-fn disk_of(
-    alloc: Global,
-    bytes: Vec<u8>,
-    pick: Pick,
-    fails: &[u64],
-) -> Result<MemoryDisk, AllocError> {
-    let fails = fails.to_vec(alloc)?;
-    MemoryDisk::of(alloc, bytes, pick, 100_000, fails, Vec::new(alloc))
-}
-
-/// A disk of zeros.
+/// A disk of zeros, on which the listed writes and syncs fail.
 fn new_disk(alloc: Global, pick: Pick, fails: &[u64]) -> Result<MemoryDisk, AllocError> {
-    disk_of(alloc, vec![in alloc; 0u8; 2240]?, pick, fails)
+    let bytes = vec![in alloc; 0u8; 2240]?;
+    disk_of(alloc, bytes, pick, 100_000, (fails, &[]))
 }
 
 // What follows wraps calls with long contracts, since each of their callers would otherwise prove them anew.
@@ -67,18 +58,28 @@ fn is_stored<D: Disk>(
     store.store(disk, p, page.lsn, &page.words).is_ok()
 }
 
-/// The pages that loads give, each with the words that an opening gives.
-fn pages_on(
+/// Both pages.
+type Pages = [StoredPage; 2];
+
+/// The words are those of the pages.
+fn check_words(
     rt: &impl Abort,
     alloc: Global,
-    disk: &mut MemoryDisk,
-) -> Result<[StoredPage; 2], Fail> {
+    words: &[u64],
+    pages: &Pages,
+) -> Result<(), AllocError> {
+    let mut want = pages[0].words.to_vec(alloc)?;
+    want.extend_from_slice(&pages[1].words)?;
+    same(rt, words, want.as_slice());
+    Ok(())
+}
+
+/// The pages that loads give, with the words that an opening gives.
+fn pages_on(rt: &impl Abort, alloc: Global, disk: &mut MemoryDisk) -> Result<Pages, Fail> {
     let (store, words) = open(rt, alloc, disk)?;
-    same(rt, (store.pages(), words.len()), (2, 2 * PAGE_WORDS));
+    same(rt, store.pages(), 2);
     let pages = [load(rt, &store, disk, 0)?, load(rt, &store, disk, 1)?];
-    for (page, words) in pages.iter().zip(words.chunks(PAGE_WORDS)) {
-        same(rt, page.words.as_slice(), words);
-    }
+    check_words(rt, alloc, &words, &pages)?;
     Ok(pages)
 }
 
@@ -142,7 +143,7 @@ fn page_of((_, lsn, fill): Frame) -> StoredPage {
 fn check_frames(rt: &impl Abort, alloc: Global, frames: &[Frame; 3]) -> Result<(), Fail> {
     let [first, second, counts] = *frames;
     let bytes = image_of(alloc, [first, second, (0, 9, 51), (255, 9, 51)])?;
-    let mut disk = disk_of(alloc, bytes, Pick::Newest, &[])?;
+    let mut disk = disk_of(alloc, bytes, Pick::Newest, 100_000, (&[], &[]))?;
     let pages = pages_on(rt, alloc, &mut disk)?;
     same(rt, pages, [page_of(counts), first_page(1)]);
     Ok(())
@@ -165,13 +166,20 @@ fn words_at_both_ends() -> [u64; PAGE_WORDS] {
 }
 
 /// An image in which page 1 has these words and the LSN 258.
-fn image_with_them(alloc: Global) -> Result<Vec<u8>, AllocError> {
-    let mut bytes = vec![in alloc; 0u8; 1184]?;
-    bytes.extend_from_slice(b"\x01\0\0\0\0\0\0\0\x02\x01\0\0\0\0\0\0")?;
-    bytes.extend_from_slice(b"\x08\x07\x06\x05\x04\x03\x02\x01")?;
-    bytes.extend_from_slice(&[0; 496])?;
-    bytes.extend_from_slice(b"\x18\x17\x16\x15\x14\x13\x12\x11")?;
-    bytes.extend_from_slice(&[0; 528])?;
+const IMAGE: [&[u8]; 6] = [
+    &[0; 1184],
+    b"\x01\0\0\0\0\0\0\0\x02\x01\0\0\0\0\0\0",
+    b"\x08\x07\x06\x05\x04\x03\x02\x01",
+    &[0; 496],
+    b"\x18\x17\x16\x15\x14\x13\x12\x11",
+    &[0; 528],
+];
+
+fn joined(alloc: Global, parts: &[&[u8]]) -> Result<Vec<u8>, AllocError> {
+    let mut bytes = Vec::new(alloc);
+    for part in parts {
+        bytes.extend_from_slice(part)?;
+    }
     Ok(bytes)
 }
 
@@ -184,7 +192,7 @@ fn a_stored_frame_byte_by_byte(rt: HostRuntime) -> Result<(), Fail> {
         words: words_at_both_ends(),
     };
     same(&rt, is_stored(&rt, &mut store, &mut disk, 1, &page), true);
-    let want = image_with_them(rt.alloc())?;
+    let want = joined(rt.alloc(), &IMAGE)?;
     same(&rt, disk.contents(), want.as_slice());
     Ok(())
 }
@@ -211,87 +219,78 @@ fn page_from(lsn: u64, first: u64) -> StoredPage {
     StoredPage { lsn, words }
 }
 
-/// Stores the page, and puts it into the list where that succeeds.
-fn store_page<D: Disk>(
-    rt: &impl Abort,
-    store: &mut PageStore,
-    disk: &mut D,
-    pages: &mut [StoredPage; 2],
-    p: u32,
-    page: &StoredPage,
-) -> bool {
+/// Puts a page into a list.
+fn put(rt: &impl Abort, pages: &mut Pages, p: u32, page: &StoredPage) {
     assert!(rt; p < 2);
-    let done = is_stored(rt, store, disk, p, page);
-    if done {
-        pages[p as usize] = *page;
-    }
-    done
+    pages[p as usize] = *page;
 }
 
-/// Plays the script until a store fails, and gives the page that was not stored.
+/// Plays the script until a store fails: of that page `new` has what was to be stored, and `old` what was there before. Of the
+/// other page both have what was stored last. Gives whether no store fails.
 fn play<D: Disk>(
     rt: &impl Abort,
     store: &mut PageStore,
     disk: &mut D,
-    pages: &mut [StoredPage; 2],
-) -> Option<(u32, StoredPage)> {
-    for (p, lsn, first) in SCRIPT {
-        let page = page_from(lsn, first);
-        if !store_page(rt, store, disk, pages, p, &page) {
-            return Some((p, page));
+    old: &mut Pages,
+    new: &mut Pages,
+) -> bool {
+    for (p, lsn, first) in &SCRIPT {
+        let page = page_from(*lsn, *first);
+        put(rt, new, *p, &page);
+        if !is_stored(rt, store, disk, *p, &page) {
+            return false;
         }
+        put(rt, old, *p, &page);
     }
-    None
+    true
 }
 
 /// Opens the pages again, and stores each of them once more.
-fn go_on(
-    rt: &impl Abort,
-    alloc: Global,
-    disk: &mut MemoryDisk,
-    pages: &mut [StoredPage; 2],
-) -> Result<(), Fail> {
+fn go_on(rt: &impl Abort, alloc: Global, disk: &mut MemoryDisk) -> Result<Pages, Fail> {
     let mut store = open(rt, alloc, disk)?.0;
     let page = page_from(100, 500);
     for p in 0..2 {
-        let done = store_page(rt, &mut store, disk, pages, p, &page);
-        same(rt, done, true);
+        same(rt, is_stored(rt, &mut store, disk, p, &page), true);
     }
-    Ok(())
+    Ok([page; 2])
 }
 
 /// Where a disk stops, and what its restart leaves.
 type Stop = (u64, Pick);
 
-/// Compares the pages with a plain list, of which one may have been stored; then more are stored.
+fn is_either(page: &StoredPage, old: &StoredPage, new: &StoredPage) -> bool {
+    page == old || page == new
+}
+
+/// Each page is the old one or the new one; then more are stored.
 fn check_left(
     rt: &impl Abort,
     alloc: Global,
     disk: &mut MemoryDisk,
-    old: &[StoredPage; 2],
-    cut: Option<(u32, StoredPage)>,
+    (old, new): (&Pages, &Pages),
     stop: Stop,
 ) -> Result<(), Fail> {
-    let mut found = pages_on(rt, alloc, disk)?;
-    for ((p, page), old) in (0u32..).zip(&found).zip(old) {
-        assert!(rt; page == old || cut == Some((p, *page)), "{p} at {stop:?}");
-    }
-    go_on(rt, alloc, disk, &mut found)?;
-    same(rt, pages_on(rt, alloc, disk)?, found);
+    let found = pages_on(rt, alloc, disk)?;
+    let first = is_either(&found[0], &old[0], &new[0]);
+    let second = is_either(&found[1], &old[1], &new[1]);
+    same(rt, (stop, first, second), (stop, true, true));
+    let stored = go_on(rt, alloc, disk)?;
+    same(rt, pages_on(rt, alloc, disk)?, stored);
     Ok(())
 }
 
 /// Plays the script on a disk that stops, restarts it, and compares what is left.
 fn check_stop(rt: &impl Abort, alloc: Global, (limit, pick): Stop) -> Result<(), Fail> {
     let mut disk = new_disk(alloc, pick, &[])?;
-    let mut pages = pages_on(rt, alloc, &mut disk)?;
+    let mut old = pages_on(rt, alloc, &mut disk)?;
+    let mut new = old;
     let mut store = open(rt, alloc, &mut disk)?.0;
     let mut fuse = FuseDisk::new(disk, limit);
-    let cut = play(rt, &mut store, &mut fuse, &mut pages);
-    same(rt, (limit, cut.is_none()), (limit, limit == CALLS));
+    let done = play(rt, &mut store, &mut fuse, &mut old, &mut new);
+    same(rt, (limit, done), (limit, limit == CALLS));
     let mut disk = fuse.into_inner();
     disk.restart();
-    check_left(rt, alloc, &mut disk, &pages, cut, (limit, pick))
+    check_left(rt, alloc, &mut disk, (&old, &new), (limit, pick))
 }
 
 /// What a restart may leave.
@@ -299,34 +298,29 @@ const PICKS: [Pick; 4] = [Pick::Synced, Pick::Newest, Pick::AllOnes, Pick::AllOp
 
 #[test]
 fn old_or_new_at_each_stop(rt: HostRuntime) -> Result<(), Fail> {
-    for pick in PICKS {
+    for pick in &PICKS {
         for limit in 0..CALLS + 1 {
-            check_stop(&rt, rt.alloc(), (limit, pick))?;
+            check_stop(&rt, rt.alloc(), (limit, *pick))?;
         }
     }
     Ok(())
 }
 
-/// Stores page 0 three times, the last time in vain.
-fn store_in_vain(
-    rt: &impl Abort,
-    store: &mut PageStore,
-    disk: &mut MemoryDisk,
-    pages: &mut [StoredPage; 2],
-) {
+/// Stores page 0 three times, the last time in vain, and gives what was stored last.
+fn store_in_vain(rt: &impl Abort, store: &mut PageStore, disk: &mut MemoryDisk) -> StoredPage {
     for lsn in 1..4 {
-        let page = page_from(lsn, 7 * lsn);
-        let done = store_page(rt, store, disk, pages, 0, &page);
+        let done = is_stored(rt, store, disk, 0, &page_from(lsn, 7 * lsn));
         same(rt, (lsn, done, store.failed()), (lsn, lsn < 3, lsn == 3));
     }
+    page_from(2, 14)
 }
 
 /// The tenth write or sync fails: the sync after the write by which the third store of a page closes a gate.
 fn check_failing(rt: &impl Abort, alloc: Global, pick: Pick) -> Result<(), Fail> {
     let mut disk = new_disk(alloc, pick, &[10])?;
-    let mut pages = pages_on(rt, alloc, &mut disk)?;
+    let second = pages_on(rt, alloc, &mut disk)?[1];
     let mut store = open(rt, alloc, &mut disk)?.0;
-    store_in_vain(rt, &mut store, &mut disk, &mut pages);
+    let pages = [store_in_vain(rt, &mut store, &mut disk), second];
     disk.restart();
     same(rt, (pick, pages_on(rt, alloc, &mut disk)?), (pick, pages));
     Ok(())
@@ -334,8 +328,8 @@ fn check_failing(rt: &impl Abort, alloc: Global, pick: Pick) -> Result<(), Fail>
 
 #[test]
 fn failed_where_a_gate_closes_in_vain(rt: HostRuntime) -> Result<(), Fail> {
-    for pick in PICKS {
-        check_failing(&rt, rt.alloc(), pick)?;
+    for pick in &PICKS {
+        check_failing(&rt, rt.alloc(), *pick)?;
     }
     Ok(())
 }
