@@ -166,20 +166,13 @@ fn words_at_both_ends() -> [u64; PAGE_WORDS] {
 }
 
 /// An image in which page 1 has these words and the LSN 258.
-const IMAGE: [&[u8]; 6] = [
-    &[0; 1184],
-    b"\x01\0\0\0\0\0\0\0\x02\x01\0\0\0\0\0\0",
-    b"\x08\x07\x06\x05\x04\x03\x02\x01",
-    &[0; 496],
-    b"\x18\x17\x16\x15\x14\x13\x12\x11",
-    &[0; 528],
-];
-
-fn joined(alloc: Global, parts: &[&[u8]]) -> Result<Vec<u8>, AllocError> {
-    let mut bytes = Vec::new(alloc);
-    for part in parts {
-        bytes.extend_from_slice(part)?;
-    }
+fn image_with_them(alloc: Global) -> Result<Vec<u8>, AllocError> {
+    let mut bytes = vec![in alloc; 0u8; 1184]?;
+    bytes.extend_from_slice(b"\x01\0\0\0\0\0\0\0\x02\x01\0\0\0\0\0\0")?;
+    bytes.extend_from_slice(b"\x08\x07\x06\x05\x04\x03\x02\x01")?;
+    bytes.extend_from_slice(&[0; 496])?;
+    bytes.extend_from_slice(b"\x18\x17\x16\x15\x14\x13\x12\x11")?;
+    bytes.extend_from_slice(&[0; 528])?;
     Ok(bytes)
 }
 
@@ -192,7 +185,7 @@ fn a_stored_frame_byte_by_byte(rt: HostRuntime) -> Result<(), Fail> {
         words: words_at_both_ends(),
     };
     same(&rt, is_stored(&rt, &mut store, &mut disk, 1, &page), true);
-    let want = joined(rt.alloc(), &IMAGE)?;
+    let want = image_with_them(rt.alloc())?;
     same(&rt, disk.contents(), want.as_slice());
     Ok(())
 }
