@@ -416,6 +416,7 @@ fn do_parts(rt: &impl Abort, alloc: Global, plan: Plan, parts: &[Part]) -> Resul
     Ok(())
 }
 
+/// What was sealed stays.
 const SEALED: [Part; 7] = [
     Part::Play(&MADE),
     Part::Play(&WRITTEN_IN_VAIN),
@@ -426,11 +427,7 @@ const SEALED: [Part; 7] = [
     Part::Play(&TOO_LARGE),
 ];
 
-#[test]
-fn what_was_sealed_stays(rt: HostRuntime) -> Result<(), Fail> {
-    do_parts(&rt, rt.alloc(), PLAN, &SEALED)
-}
-
+/// Sessions give way to one another.
 const SIDE_BY_SIDE: [Part; 6] = [
     Part::Play(&THREE),
     Part::Play(&READERS_FIRST),
@@ -440,14 +437,16 @@ const SIDE_BY_SIDE: [Part; 6] = [
     Part::Committed(2, 21),
 ];
 
-#[test]
-fn sessions_give_way(rt: HostRuntime) -> Result<(), Fail> {
-    do_parts(&rt, rt.alloc(), PLAN, &SIDE_BY_SIDE)
-}
-
+/// The log keeps room for the ends.
 const FULL: [Part; 2] = [Part::Play(&THREE), Part::Play(&ROOM)];
 
+/// The plan of a new heap, and what is done with it.
+const HEAPS: [(Plan, &[Part]); 3] = [(PLAN, &SEALED), (PLAN, &SIDE_BY_SIDE), (SMALL, &FULL)];
+
 #[test]
-fn the_log_keeps_room_for_the_ends(rt: HostRuntime) -> Result<(), Fail> {
-    do_parts(&rt, rt.alloc(), SMALL, &FULL)
+fn new_heaps_answer(rt: HostRuntime) -> Result<(), Fail> {
+    for (plan, parts) in &HEAPS {
+        do_parts(&rt, rt.alloc(), *plan, parts)?;
+    }
+    Ok(())
 }

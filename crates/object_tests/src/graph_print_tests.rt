@@ -52,7 +52,8 @@ const CASES: [Case; 8] = [
     (&[17, 0, 0, 0, 0], Err(AT_ROOT)),
 ];
 
-fn check_text(rt: &impl Abort, alloc: Global, (words, want): Case) {
+fn check_text(rt: &impl Abort, alloc: Global, case: &Case) {
+    let (words, want) = *case;
     assert!(rt; words.len() < 99);
     match canon_text(alloc, &mut WordSlice::of(words), 0) {
         Ok(text) => same(rt, Ok(text.as_slice()), want),
@@ -62,7 +63,7 @@ fn check_text(rt: &impl Abort, alloc: Global, (words, want): Case) {
 
 #[test]
 fn graphs_are_printed(rt: HostRuntime) {
-    for case in CASES {
+    for case in &CASES {
         check_text(&rt, rt.alloc(), case);
     }
 }
@@ -79,8 +80,8 @@ const COUNTED: [(&[u64], Result<u64, PrintError>); 5] = [
 
 #[test]
 fn objects_are_counted(rt: HostRuntime) {
-    for (words, want) in COUNTED {
+    for (words, want) in &COUNTED {
         let found = canon_count(rt.alloc(), &mut WordSlice::of(words), 0);
-        same(&rt, (words, found), (words, want));
+        same(&rt, (words, found), (words, *want));
     }
 }

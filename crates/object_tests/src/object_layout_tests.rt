@@ -32,8 +32,8 @@ const CASES: [Case; 12] = [
     (&[17, 0, 0, 0, 0, 26, 1, 1], 0, 6, AT_ROOT),
 ];
 
-fn check(rt: &impl Abort, alloc: Global, case: Case) {
-    let (words, base, used, want) = case;
+fn check(rt: &impl Abort, alloc: Global, case: &Case) {
+    let (words, base, used, want) = *case;
     assert!(rt; words.len() < 99);
     let mut words = WordSlice::of(words);
     assert!(rt; used <= words.size());
@@ -43,7 +43,7 @@ fn check(rt: &impl Abort, alloc: Global, case: Case) {
 
 #[test]
 fn spaces_are_walked(rt: HostRuntime) {
-    for case in CASES {
+    for case in &CASES {
         check(&rt, rt.alloc(), case);
     }
 }
@@ -60,13 +60,13 @@ const STAND: [(u32, Option<u32>); 3] = [(0, Some(8)), (8, Some(8)), (9, None)];
 #[test]
 fn objects_are_found(rt: HostRuntime) {
     let mut words = WordSlice::of(&MOVED);
-    for (at, want) in OBJECTS {
-        let found = object_at(&mut words, at);
-        same(&rt, (at, found), (at, Ok(want)));
+    for (at, want) in &OBJECTS {
+        let found = object_at(&mut words, *at);
+        same(&rt, (*at, found), (*at, Ok(*want)));
     }
-    for (at, want) in STAND {
-        let found = stand(&mut words, at);
-        same(&rt, (at, found), (at, Ok(want)));
+    for (at, want) in &STAND {
+        let found = stand(&mut words, *at);
+        same(&rt, (*at, found), (*at, Ok(*want)));
     }
 }
 

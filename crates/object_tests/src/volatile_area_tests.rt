@@ -10,8 +10,8 @@ const IS_OBJECT: [(u32, bool); 5] = [(0, true), (3, false), (4, true), (6, true)
 fn check_objects(rt: &impl Abort, area: &Area) {
     let counts = (area.transaction(), area.made(), area.used());
     same(rt, counts, (7, 3, 9));
-    for (at, want) in IS_OBJECT {
-        same(rt, (at, area.is_object(at)), (at, want));
+    for (at, want) in &IS_OBJECT {
+        same(rt, (*at, area.is_object(*at)), (*at, *want));
     }
 }
 
