@@ -120,12 +120,15 @@ pub fn crash(heap: Heap<MemoryDisk>) -> MemoryDisk {
     disk
 }
 
-/// The commits of a heap, and the text of its graph.
-pub fn found(alloc: Global, heap: &Heap<MemoryDisk>) -> Result<(u64, Vec<u8>), GraphError>
-    requires { failed_at heap.now ≡ None }
-{
+/// Opens the heap, and closes it: its commits, the text of its graph, and the disk.
+pub fn found(
+    rt: &impl Abort,
+    alloc: Global,
+    disk: MemoryDisk,
+) -> Result<(u64, Vec<u8>, MemoryDisk), GraphError> {
+    let heap = open(rt, alloc, disk);
     let text = heap.graph(alloc)?;
-    Ok((heap.commits(), text))
+    Ok((heap.commits(), text, heap.close()))
 }
 
 /// Opens the heap, compares its commits and its graph, and closes it.
@@ -136,10 +139,9 @@ pub fn expect(
     commits: u64,
     graph: &str,
 ) -> Result<MemoryDisk, GraphError> {
-    let heap = open(rt, alloc, disk);
-    let (number, text) = found(alloc, &heap)?;
+    let (number, text, disk) = found(rt, alloc, disk)?;
     compare(rt, (number, text.as_slice()), (commits, graph.as_bytes()));
-    Ok(heap.close())
+    Ok(disk)
 }
 
 /// Makes a step, which requires only memory to succeed.
@@ -178,10 +180,8 @@ pub fn read_log(
     disk: &mut MemoryDisk,
 ) -> Result<Vec<Record>, LogError> {
     assert!(rt; LOG_AT + u64::from(LOG_BYTES) <= disk.size());
-    match Log::open(alloc, disk, LOG_AT, LOG_BYTES) {
-        Ok((_, records)) => Ok(records),
-        Err(error) => Err(error),
-    }
+    let (_, records) = Log::open(alloc, disk, LOG_AT, LOG_BYTES)?;
+    Ok(records)
 }
 
 /// What the log of a closed heap ends with.
@@ -229,9 +229,9 @@ fn check_cut_off(rt: &impl Abort, alloc: Global, pick: Pick, calls: u64) -> Resu
 
 #[test]
 fn stopped_at_each_call(rt: HostRuntime) -> Result<(), Fail> {
-    for pick in PICKS {
+    for pick in &PICKS {
         for calls in 0..OPENING_CALLS {
-            check_cut_off(&rt, rt.alloc(), pick, calls)?;
+            check_cut_off(&rt, rt.alloc(), *pick, calls)?;
         }
     }
     Ok(())

@@ -10,85 +10,157 @@ use std::test::Fail;
 /// An event and what it is answered.
 pub type Step = (Event, Reply);
 
-pub fn begin(n: u64) -> Step {
-    (Event::Begin { s: 1 }, Reply::Begun { n })
-}
-
-pub fn root(h: u64) -> Step {
-    (Event::Root { s: 1, h }, Reply::Done)
-}
-
-pub fn new(h: u64, len: u64) -> Step {
-    (Event::New { s: 1, h, len }, Reply::Done)
-}
-
-pub fn put(h: u64, i: u64, v: u64) -> Step {
-    (Event::Put { s: 1, h, i, v }, Reply::Done)
-}
-
-pub fn link(h: u64, i: u64, h2: u64) -> Step {
-    (Event::Link { s: 1, h, i, h2 }, Reply::Done)
-}
-
-pub fn get(h: u64, i: u64, h2: u64, reply: Reply) -> Step {
-    (Event::Get { s: 1, h, i, h2 }, reply)
-}
-
-fn same(h: u64, h2: u64, reply: Reply) -> Step {
-    (Event::Same { s: 1, h, h2 }, reply)
-}
-
-pub fn seal(n: u64) -> Step {
-    (Event::Seal { s: 1 }, Reply::Sealed { n })
-}
-
-pub fn force(n: u64) -> Step {
-    (Event::Force, Reply::Durable { n })
-}
-
 /// Transaction 1 makes two objects that are reached from the root, and one that isn't; of transaction 2 the writes are on the disk,
 /// and it is never sealed.
-fn first_session() -> [Step; 19] {
-    [
-        begin(1),
-        root(0),
-        new(1, 2),
-        new(2, 3),
-        new(3, 2),
-        put(3, 0, 5),
-        link(0, 1, 1),
-        link(1, 0, 3),
-        link(1, 1, 1),
-        link(3, 1, 0),
-        link(2, 0, 0),
-        seal(1),
-        force(1),
-        begin(2),
-        root(0),
-        new(1, 1),
-        link(0, 0, 1),
-        link(0, 1, 1),
-        force(1),
-    ]
-}
+const FIRST_SESSION: [Step; 19] = [
+    (Event::Begin { s: 1 }, Reply::Begun { n: 1 }),
+    (Event::Root { s: 1, h: 0 }, Reply::Done),
+    (Event::New { s: 1, h: 1, len: 2 }, Reply::Done),
+    (Event::New { s: 1, h: 2, len: 3 }, Reply::Done),
+    (Event::New { s: 1, h: 3, len: 2 }, Reply::Done),
+    (
+        Event::Put {
+            s: 1,
+            h: 3,
+            i: 0,
+            v: 5,
+        },
+        Reply::Done,
+    ),
+    (
+        Event::Link {
+            s: 1,
+            h: 0,
+            i: 1,
+            h2: 1,
+        },
+        Reply::Done,
+    ),
+    (
+        Event::Link {
+            s: 1,
+            h: 1,
+            i: 0,
+            h2: 3,
+        },
+        Reply::Done,
+    ),
+    (
+        Event::Link {
+            s: 1,
+            h: 1,
+            i: 1,
+            h2: 1,
+        },
+        Reply::Done,
+    ),
+    (
+        Event::Link {
+            s: 1,
+            h: 3,
+            i: 1,
+            h2: 0,
+        },
+        Reply::Done,
+    ),
+    (
+        Event::Link {
+            s: 1,
+            h: 2,
+            i: 0,
+            h2: 0,
+        },
+        Reply::Done,
+    ),
+    (Event::Seal { s: 1 }, Reply::Sealed { n: 1 }),
+    (Event::Force, Reply::Durable { n: 1 }),
+    (Event::Begin { s: 1 }, Reply::Begun { n: 2 }),
+    (Event::Root { s: 1, h: 0 }, Reply::Done),
+    (Event::New { s: 1, h: 1, len: 1 }, Reply::Done),
+    (
+        Event::Link {
+            s: 1,
+            h: 0,
+            i: 0,
+            h2: 1,
+        },
+        Reply::Done,
+    ),
+    (
+        Event::Link {
+            s: 1,
+            h: 0,
+            i: 1,
+            h2: 1,
+        },
+        Reply::Done,
+    ),
+    (Event::Force, Reply::Durable { n: 1 }),
+];
 
 /// Transaction 3 finds these objects, and appends one more.
-fn second_session() -> [Step; 12] {
-    [
-        begin(3),
-        root(0),
-        get(0, 0, 1, Reply::Null),
-        get(0, 1, 1, Reply::Reference),
-        get(1, 0, 2, Reply::Reference),
-        get(2, 0, 3, Reply::Int { v: 5 }),
-        get(2, 1, 3, Reply::Reference),
-        same(0, 3, Reply::Yes),
-        new(3, 1),
-        link(2, 0, 3),
-        seal(1),
-        force(1),
-    ]
-}
+const SECOND_SESSION: [Step; 12] = [
+    (Event::Begin { s: 1 }, Reply::Begun { n: 3 }),
+    (Event::Root { s: 1, h: 0 }, Reply::Done),
+    (
+        Event::Get {
+            s: 1,
+            h: 0,
+            i: 0,
+            h2: 1,
+        },
+        Reply::Null,
+    ),
+    (
+        Event::Get {
+            s: 1,
+            h: 0,
+            i: 1,
+            h2: 1,
+        },
+        Reply::Reference,
+    ),
+    (
+        Event::Get {
+            s: 1,
+            h: 1,
+            i: 0,
+            h2: 2,
+        },
+        Reply::Reference,
+    ),
+    (
+        Event::Get {
+            s: 1,
+            h: 2,
+            i: 0,
+            h2: 3,
+        },
+        Reply::Int { v: 5 },
+    ),
+    (
+        Event::Get {
+            s: 1,
+            h: 2,
+            i: 1,
+            h2: 3,
+        },
+        Reply::Reference,
+    ),
+    (Event::Same { s: 1, h: 0, h2: 3 }, Reply::Yes),
+    (Event::New { s: 1, h: 3, len: 1 }, Reply::Done),
+    (
+        Event::Link {
+            s: 1,
+            h: 2,
+            i: 0,
+            h2: 3,
+        },
+        Reply::Done,
+    ),
+    (Event::Seal { s: 1 }, Reply::Sealed { n: 1 }),
+    (Event::Force, Reply::Durable { n: 1 }),
+];
 
 const FIRST_GRAPH: &str = "graph 3\n0: - @1 - -\n1: @2 @1\n2: 5 @0\n";
 
@@ -112,17 +184,17 @@ pub fn play(
 /// Plays both sessions on one disk, and compares what each of them leaves.
 fn check_both(rt: &impl Abort, alloc: Global, pick: Pick) -> Result<(), Fail> {
     let disk = make_heap(rt, alloc, pick)?;
-    let disk = play(rt, alloc, disk, &first_session())?;
+    let disk = play(rt, alloc, disk, &FIRST_SESSION)?;
     let disk = expect(rt, alloc, disk, 1, FIRST_GRAPH)?;
-    let disk = play(rt, alloc, disk, &second_session())?;
+    let disk = play(rt, alloc, disk, &SECOND_SESSION)?;
     expect(rt, alloc, disk, 2, SECOND_GRAPH)?;
     Ok(())
 }
 
 #[test]
 fn what_was_sealed_is_reached(rt: HostRuntime) -> Result<(), Fail> {
-    for pick in PICKS {
-        check_both(&rt, rt.alloc(), pick)?;
+    for pick in &PICKS {
+        check_both(&rt, rt.alloc(), *pick)?;
     }
     Ok(())
 }
@@ -141,21 +213,27 @@ fn make_largest(alloc: Global) -> Result<MemoryDisk, AllocError> {
 }
 
 /// A transaction in the largest heap.
-fn largest_steps() -> [Step; 6] {
-    [
-        begin(1),
-        root(0),
-        new(1, 1),
-        link(0, 3, 1),
-        seal(1),
-        force(1),
-    ]
-}
+const LARGEST_STEPS: [Step; 6] = [
+    (Event::Begin { s: 1 }, Reply::Begun { n: 1 }),
+    (Event::Root { s: 1, h: 0 }, Reply::Done),
+    (Event::New { s: 1, h: 1, len: 1 }, Reply::Done),
+    (
+        Event::Link {
+            s: 1,
+            h: 0,
+            i: 3,
+            h2: 1,
+        },
+        Reply::Done,
+    ),
+    (Event::Seal { s: 1 }, Reply::Sealed { n: 1 }),
+    (Event::Force, Reply::Durable { n: 1 }),
+];
 
 #[test]
 fn the_largest_heap_is_made_and_opened(rt: HostRuntime) -> Result<(), Fail> {
     let disk = format(&rt, make_largest(rt.alloc())?, MOST_PAGES);
-    let disk = play(&rt, rt.alloc(), disk, &largest_steps())?;
+    let disk = play(&rt, rt.alloc(), disk, &LARGEST_STEPS)?;
     expect(&rt, rt.alloc(), disk, 1, "graph 2\n0: - - - @1\n1: -\n")?;
     Ok(())
 }

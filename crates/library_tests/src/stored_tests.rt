@@ -3,10 +3,10 @@ use crate::opening_tests::{
     LOG_BYTES, ask, ask_all, compare, crash, expect, format, found, make_disk, make_heap, open,
     read_log, refused,
 };
-use crate::reached_tests::{Step, begin, force, get, link, new, play, put, root, seal};
+use crate::reached_tests::{Step, play};
 use disk_model::{Disk, DiskError, FuseDisk, MemoryDisk, Pick};
 use graph_model::{Event, Refusal, Reply};
-use heap_core::{GraphError, Heap, OpenError};
+use heap_core::{Heap, OpenError};
 use heap_recovery::At;
 use image_plan::Plan;
 use log_machine::replay;
@@ -27,36 +27,113 @@ const PLAN: Plan = Plan {
 const RECORDS: usize = 10;
 
 /// Transactions 1 and 2 are committed, and what 3 wrote has to be taken back. Each of them writes both pages.
-fn steps() -> [Step; 21] {
-    [
-        begin(1),
-        root(0),
-        new(1, 60),
-        put(1, 0, 5),
-        link(0, 0, 1),
-        seal(1),
-        force(1),
-        begin(2),
-        root(0),
-        get(0, 0, 1, Reply::Reference),
-        put(0, 1, 7),
-        put(1, 59, 8),
-        seal(2),
-        force(2),
-        begin(3),
-        root(0),
-        get(0, 0, 1, Reply::Reference),
-        put(1, 0, 9),
-        put(1, 59, 10),
-        put(0, 1, 11),
-        force(2),
-    ]
-}
+const STEPS: [Step; 21] = [
+    (Event::Begin { s: 1 }, Reply::Begun { n: 1 }),
+    (Event::Root { s: 1, h: 0 }, Reply::Done),
+    (
+        Event::New {
+            s: 1,
+            h: 1,
+            len: 60,
+        },
+        Reply::Done,
+    ),
+    (
+        Event::Put {
+            s: 1,
+            h: 1,
+            i: 0,
+            v: 5,
+        },
+        Reply::Done,
+    ),
+    (
+        Event::Link {
+            s: 1,
+            h: 0,
+            i: 0,
+            h2: 1,
+        },
+        Reply::Done,
+    ),
+    (Event::Seal { s: 1 }, Reply::Sealed { n: 1 }),
+    (Event::Force, Reply::Durable { n: 1 }),
+    (Event::Begin { s: 1 }, Reply::Begun { n: 2 }),
+    (Event::Root { s: 1, h: 0 }, Reply::Done),
+    (
+        Event::Get {
+            s: 1,
+            h: 0,
+            i: 0,
+            h2: 1,
+        },
+        Reply::Reference,
+    ),
+    (
+        Event::Put {
+            s: 1,
+            h: 0,
+            i: 1,
+            v: 7,
+        },
+        Reply::Done,
+    ),
+    (
+        Event::Put {
+            s: 1,
+            h: 1,
+            i: 59,
+            v: 8,
+        },
+        Reply::Done,
+    ),
+    (Event::Seal { s: 1 }, Reply::Sealed { n: 2 }),
+    (Event::Force, Reply::Durable { n: 2 }),
+    (Event::Begin { s: 1 }, Reply::Begun { n: 3 }),
+    (Event::Root { s: 1, h: 0 }, Reply::Done),
+    (
+        Event::Get {
+            s: 1,
+            h: 0,
+            i: 0,
+            h2: 1,
+        },
+        Reply::Reference,
+    ),
+    (
+        Event::Put {
+            s: 1,
+            h: 1,
+            i: 0,
+            v: 9,
+        },
+        Reply::Done,
+    ),
+    (
+        Event::Put {
+            s: 1,
+            h: 1,
+            i: 59,
+            v: 10,
+        },
+        Reply::Done,
+    ),
+    (
+        Event::Put {
+            s: 1,
+            h: 0,
+            i: 1,
+            v: 11,
+        },
+        Reply::Done,
+    ),
+    (Event::Force, Reply::Durable { n: 2 }),
+];
 
 /// A disk on which these steps were made, and no page is stored.
 fn make_played(rt: &impl Abort, alloc: Global) -> Result<MemoryDisk, AllocError> {
     let disk = format(rt, make_disk(alloc, Pick::Newest)?, PLAN.pages);
-    play(rt, alloc, disk, &steps())
+    play(rt, alloc, disk, &STEPS)
 }
 
 fn open_pages(
@@ -123,25 +200,20 @@ fn store(
     store_behind(rt, alloc, disk, &records[..after], p)
 }
 
-/// How many commits are found on the disk, and which graph.
-fn opened(rt: &impl Abort, alloc: Global, disk: MemoryDisk) -> Result<(u64, Vec<u8>), GraphError> {
-    found(alloc, &open(rt, alloc, disk))
-}
-
 /// A disk on which pages were stored one after another.
-fn make_stored(rt: &impl Abort, alloc: Global, stores: [Store; 3]) -> Result<MemoryDisk, Fail> {
+fn make_stored(rt: &impl Abort, alloc: Global, stores: &[Store]) -> Result<MemoryDisk, Fail> {
     let mut disk = make_played(rt, alloc)?;
     for at in stores {
-        store(rt, alloc, &mut disk, at)?;
+        store(rt, alloc, &mut disk, *at)?;
     }
     Ok(disk)
 }
 
 /// Stores pages one after another, and compares what is found then.
-fn check(rt: &impl Abort, alloc: Global, stores: [Store; 3], graph: &[u8]) -> Result<(), Fail> {
+fn check(rt: &impl Abort, alloc: Global, stores: &[Store], graph: &[u8]) -> Result<(), Fail> {
     let disk = make_stored(rt, alloc, stores)?;
-    let (commits, found) = opened(rt, alloc, disk)?;
-    compare(rt, (stores, commits, found.as_slice()), (stores, 2, graph));
+    let (commits, text, _) = found(rt, alloc, disk)?;
+    compare(rt, (stores, commits, text.as_slice()), (stores, 2, graph));
     Ok(())
 }
 
@@ -153,14 +225,14 @@ fn check_ages(
     second: usize,
     graph: &[u8],
 ) -> Result<(), Fail> {
-    check(rt, alloc, [(first, 0), (second, 1), (0, 0)], graph)?;
-    check(rt, alloc, [(first, 1), (second, 0), (second, 1)], graph)
+    check(rt, alloc, &[(first, 0), (second, 1), (0, 0)], graph)?;
+    check(rt, alloc, &[(first, 1), (second, 0), (second, 1)], graph)
 }
 
 #[test]
 fn pages_of_any_age_give_the_same_graph(rt: HostRuntime) -> Result<(), Fail> {
     let disk = make_played(&rt, rt.alloc())?;
-    let graph = opened(&rt, rt.alloc(), disk)?.1;
+    let (_, graph, _) = found(&rt, rt.alloc(), disk)?;
     for first in 0..=RECORDS {
         for second in 0..=RECORDS {
             check_ages(&rt, rt.alloc(), first, second, &graph)?;
@@ -176,20 +248,34 @@ const SMALL: Plan = Plan {
 };
 
 /// Transaction 1 writes 7 by record 1, and transaction 2 writes 8 by record 3. Records 2 and 4 are their commits.
-fn small_steps() -> [Step; 10] {
-    [
-        begin(1),
-        root(0),
-        put(0, 0, 7),
-        seal(1),
-        force(1),
-        begin(2),
-        root(0),
-        put(0, 1, 8),
-        seal(2),
-        force(2),
-    ]
-}
+const SMALL_STEPS: [Step; 10] = [
+    (Event::Begin { s: 1 }, Reply::Begun { n: 1 }),
+    (Event::Root { s: 1, h: 0 }, Reply::Done),
+    (
+        Event::Put {
+            s: 1,
+            h: 0,
+            i: 0,
+            v: 7,
+        },
+        Reply::Done,
+    ),
+    (Event::Seal { s: 1 }, Reply::Sealed { n: 1 }),
+    (Event::Force, Reply::Durable { n: 1 }),
+    (Event::Begin { s: 1 }, Reply::Begun { n: 2 }),
+    (Event::Root { s: 1, h: 0 }, Reply::Done),
+    (
+        Event::Put {
+            s: 1,
+            h: 0,
+            i: 1,
+            v: 8,
+        },
+        Reply::Done,
+    ),
+    (Event::Seal { s: 1 }, Reply::Sealed { n: 2 }),
+    (Event::Force, Reply::Durable { n: 2 }),
+];
 
 /// A page on which no record left what it holds: the root with 99 and 98 as its first fields.
 fn wrong_page() -> [u64; 64] {
@@ -219,7 +305,7 @@ fn store_wrong(
 /// A disk on which these steps were made and page `p` is stored wrongly, with this LSN.
 fn make_wrong(rt: &impl Abort, alloc: Global, p: u32, lsn: u64) -> Result<MemoryDisk, Fail> {
     let disk = make_heap(rt, alloc, Pick::Newest)?;
-    let mut disk = play(rt, alloc, disk, &small_steps())?;
+    let mut disk = play(rt, alloc, disk, &SMALL_STEPS)?;
     store_wrong(rt, alloc, &mut disk, p, lsn)?;
     Ok(disk)
 }
@@ -233,28 +319,28 @@ const WRONG: [(u64, &str, bool); 4] = [
     (4, "graph 1\n0: 99 98 - -\n", false),
 ];
 
-#[test]
-fn what_a_page_has_is_not_redone(rt: HostRuntime) -> Result<(), Fail> {
-    let alloc = rt.alloc();
-    for (lsn, graph, _) in WRONG {
-        let disk = make_wrong(&rt, alloc, 0, lsn)?;
-        expect(&rt, alloc, disk, 2, graph)?;
-    }
-    Ok(())
-}
-
 /// Which of the first pages are dirty after an opening. There are two.
 fn dirty(rt: &impl Abort, alloc: Global, disk: MemoryDisk) -> [bool; 3] {
     let heap = open(rt, alloc, disk);
     [heap.dirty(0), heap.dirty(1), heap.dirty(2)]
 }
 
+/// What a page has is not redone, and what redo changed is dirty.
+fn check_wrong(
+    rt: &impl Abort,
+    alloc: Global,
+    (lsn, graph, changed): (u64, &str, bool),
+) -> Result<(), Fail> {
+    let found = dirty(rt, alloc, make_wrong(rt, alloc, 0, lsn)?);
+    compare(rt, (lsn, found), (lsn, [changed, false, false]));
+    expect(rt, alloc, make_wrong(rt, alloc, 0, lsn)?, 2, graph)?;
+    Ok(())
+}
+
 #[test]
-fn what_redo_changed_is_dirty(rt: HostRuntime) -> Result<(), Fail> {
-    let alloc = rt.alloc();
-    for (lsn, _, changed) in WRONG {
-        let found = dirty(&rt, alloc, make_wrong(&rt, alloc, 0, lsn)?);
-        compare(&rt, (lsn, found), (lsn, [changed, false, false]));
+fn only_what_a_page_lacks_is_redone(rt: HostRuntime) -> Result<(), Fail> {
+    for wrong in &WRONG {
+        check_wrong(&rt, rt.alloc(), *wrong)?;
     }
     Ok(())
 }
@@ -272,32 +358,95 @@ fn a_page_ahead_of_the_log_is_refused(rt: HostRuntime) -> Result<(), Fail> {
 /// A step, which of the two pages are dirty after it, and whether records are pending.
 type Stored = (Step, [bool; 2], bool);
 
-fn flush_step(p: u64, reply: Reply) -> Step {
-    (Event::Flush { p }, reply)
-}
-
 /// A flush forces only if the page has a pending record: a commit has none on any page.
-fn flush_steps() -> [Stored; 13] {
-    let gone = Reply::Refused {
-        why: Refusal::NoSuchPage,
-    };
-    let (stored, clean) = (Reply::Flushed { page: 0 }, Reply::Clean { page: 0 });
-    [
-        (begin(1), [false, false], false),
-        (root(0), [false, false], false),
-        (flush_step(0, clean), [false, false], false),
-        (put(0, 0, 7), [true, false], true),
-        (flush_step(2, gone), [true, false], true),
-        (flush_step(1, Reply::Clean { page: 1 }), [true, false], true),
-        (flush_step(0, stored), [false, false], false),
-        (put(0, 1, 8), [true, false], true),
-        (force(0), [true, false], false),
-        (seal(1), [true, false], true),
-        (flush_step(0, stored), [false, false], true),
-        (flush_step(0, clean), [false, false], true),
-        (force(1), [false, false], false),
-    ]
-}
+const FLUSH_STEPS: [Stored; 13] = [
+    (
+        (Event::Begin { s: 1 }, Reply::Begun { n: 1 }),
+        [false, false],
+        false,
+    ),
+    (
+        (Event::Root { s: 1, h: 0 }, Reply::Done),
+        [false, false],
+        false,
+    ),
+    (
+        (Event::Flush { p: 0 }, Reply::Clean { page: 0 }),
+        [false, false],
+        false,
+    ),
+    (
+        (
+            Event::Put {
+                s: 1,
+                h: 0,
+                i: 0,
+                v: 7,
+            },
+            Reply::Done,
+        ),
+        [true, false],
+        true,
+    ),
+    (
+        (
+            Event::Flush { p: 2 },
+            Reply::Refused {
+                why: Refusal::NoSuchPage,
+            },
+        ),
+        [true, false],
+        true,
+    ),
+    (
+        (Event::Flush { p: 1 }, Reply::Clean { page: 1 }),
+        [true, false],
+        true,
+    ),
+    (
+        (Event::Flush { p: 0 }, Reply::Flushed { page: 0 }),
+        [false, false],
+        false,
+    ),
+    (
+        (
+            Event::Put {
+                s: 1,
+                h: 0,
+                i: 1,
+                v: 8,
+            },
+            Reply::Done,
+        ),
+        [true, false],
+        true,
+    ),
+    (
+        (Event::Force, Reply::Durable { n: 0 }),
+        [true, false],
+        false,
+    ),
+    (
+        (Event::Seal { s: 1 }, Reply::Sealed { n: 1 }),
+        [true, false],
+        true,
+    ),
+    (
+        (Event::Flush { p: 0 }, Reply::Flushed { page: 0 }),
+        [false, false],
+        true,
+    ),
+    (
+        (Event::Flush { p: 0 }, Reply::Clean { page: 0 }),
+        [false, false],
+        true,
+    ),
+    (
+        (Event::Force, Reply::Durable { n: 1 }),
+        [false, false],
+        false,
+    ),
+];
 
 /// Makes a step, and compares its answer and what the heap then says of its pages and its log.
 fn expect_step(
@@ -316,8 +465,8 @@ fn expect_step(
 fn a_flushed_page_is_clean(rt: HostRuntime) -> Result<(), Fail> {
     let alloc = rt.alloc();
     let mut heap = open(&rt, alloc, make_heap(&rt, alloc, Pick::Synced)?);
-    for step in flush_steps() {
-        expect_step(&rt, &mut heap, step)?;
+    for step in &FLUSH_STEPS {
+        expect_step(&rt, &mut heap, *step)?;
     }
     compare(&rt, dirty(&rt, alloc, crash(heap)), [false, false, false]);
     Ok(())
