@@ -1,40 +1,24 @@
-//! Numbers are taken from the front of bytes.
+//! Numbers that stand in bytes.
 
-/// Bytes of which some have been taken.
-#[derive(Drop)]
-pub struct Cursor<'a> {
-    rest: &'a [u8],
+/// The number of that many bytes which stands there, the lowest byte first, if all of them are there.
+pub fn number_in(bytes: &[u8], at: usize, size: usize) -> Option<u64> {
+    let taken = bytes.get(at..)?.get(..size)?;
+    if let Some(word) = taken.first_chunk::<8>() {
+        return Some(u64::from_le_bytes(*word));
+    }
+    let mut number: u64 = 0;
+    for byte in taken.iter().rev() {
+        number = number.wrapping_mul(256) | u64::from(*byte);
+    }
+    Some(number)
 }
 
-impl<'a> Cursor<'a> {
-    pub fn new(bytes: &'a [u8]) -> Cursor<'a> {
-        Cursor { rest: bytes }
-    }
+/// The number which is known to stand there.
+pub fn number(bytes: &[u8], at: usize, size: usize) -> u64 {
+    number_in(bytes, at, size).unwrap_or(0)
+}
 
-    /// What has not been taken yet.
-    pub fn rest(&self) -> &'a [u8] {
-        self.rest
-    }
-
-    pub fn take_u8(&mut self) -> Option<u8> {
-        Some(self.take::<1>()?[0])
-    }
-
-    pub fn take_u16(&mut self) -> Option<u16> {
-        Some(u16::from_le_bytes(self.take::<2>()?))
-    }
-
-    pub fn take_u32(&mut self) -> Option<u32> {
-        Some(u32::from_le_bytes(self.take::<4>()?))
-    }
-
-    pub fn take_u64(&mut self) -> Option<u64> {
-        Some(u64::from_le_bytes(self.take::<8>()?))
-    }
-
-    fn take<const N: usize>(&mut self) -> Option<[u8; N]> {
-        let (head, rest) = self.rest.split_first_chunk::<N>()?;
-        self.rest = rest;
-        Some(*head)
-    }
+/// The bytes from there on.
+pub fn bytes_from(bytes: &[u8], at: usize) -> &[u8] {
+    bytes.get(at..).unwrap_or(&[])
 }

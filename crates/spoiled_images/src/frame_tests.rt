@@ -1,17 +1,13 @@
 //! Images in whose frames bytes are spoiled. The heap opens or refuses each exactly as the second reading says.
 use crate::judging::{Kind, Part, Tally, check_parts, expect, expect_bytes, poke};
 use crate::reader::Verdict;
-use crate::stored_image::{FRAME_BYTES, FRAMES_AT, RECORDS, frame_at, stored_image};
+use crate::stored_image::{
+    FRAME_BYTES, FRAMES_AT, LSN_AT, PAGE_WORDS, RECORDS, WORDS_AT, frame_at, poke_front, poke_word,
+    stored_image,
+};
 use std::alloc::{AllocError, Global};
 use std::process::Abort;
 use std::test::Fail;
-
-/// The offset of a frame's LSN, and that of its words.
-const LSN_AT: usize = 8;
-
-const WORDS_AT: usize = 16;
-
-const PAGE_WORDS: usize = 64;
 
 /// A word that no field may hold, and that is no header.
 const BAD_WORD: u64 = 4;
@@ -36,20 +32,6 @@ const LSNS: [u64; 15] = [
     1 << 32,
     u64::MAX,
 ];
-
-/// Puts a gate and an LSN into the frame that begins there.
-fn poke_front(rt: &impl Abort, image: &mut [u8], at: usize, gate: u8, lsn: u64) {
-    poke(rt, image, at, &[gate]);
-    poke(rt, image, at.saturating_add(LSN_AT), &lsn.to_le_bytes());
-}
-
-/// Puts a word into the frame that begins there.
-fn poke_word(rt: &impl Abort, image: &mut [u8], at: usize, index: usize, word: u64) {
-    let place = at
-        .saturating_add(WORDS_AT)
-        .saturating_add(index.saturating_mul(8));
-    poke(rt, image, place, &word.to_le_bytes());
-}
 
 /// How many frames the pages have.
 const FRAMES: usize = 8;

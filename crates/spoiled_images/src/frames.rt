@@ -1,29 +1,24 @@
 //! The pages after the log, each as the frame that counts has it.
-use crate::bytes::Cursor;
-use crate::records::{Copied, Record, field_address, forwarding};
+use crate::bytes::{bytes_from, number};
+use crate::records::{BASE, Object, Record, forwarding};
 use std::alloc::{AllocError, Global};
 
 /// The words of a page.
-pub const PAGE_WORDS: usize = 64;
+pub const PAGE_WORDS: u64 = 64;
 
 /// The bytes of a frame: a gate, some that are not used, an LSN and the words.
 const FRAME_BYTES: usize = 528;
 
-/// The bytes between the gate and the LSN.
-const UNUSED_BYTES: usize = 7;
+/// Where the LSN and the words stand in a frame.
+const LSN_AT: usize = 8;
+
+const WORDS_AT: usize = 16;
 
 /// What an open gate is.
-const OPEN: u8 = 1;
+const OPEN: u64 = 1;
 
 /// The first word of the page of address 0, if that was never stored.
 const ROOT_HEADER: u64 = 17;
-
-/// A frame whose gate is open.
-#[derive(Clone, Copy)]
-struct Frame<'a> {
-    lsn: u64,
-    words: &'a [u8],
-}
 
 /// The pages of both spaces.
 #[derive(Drop)]
@@ -34,72 +29,60 @@ pub struct Pages {
     words: Vec<u64>,
 }
 
-/// What a frame holds, if its gate is open.
-fn open_frame(bytes: &[u8]) -> Option<Frame<'_>> {
-    let (gate, rest) = bytes.split_first()?;
-    let mut cursor = Cursor::new(rest.get(UNUSED_BYTES..)?);
-    let lsn = cursor.take_u64()?;
-    if *gate == OPEN {
-        Some(Frame {
-            lsn,
-            words: cursor.rest(),
-        })
+/// The frame that counts of the two which begin there, of which each counts only if its gate is open: the one with the greater LSN, and the first of
+/// equal ones. Nothing if neither counts.
+fn counting(frames: &[u8]) -> &[u8] {
+    let other = bytes_from(frames, FRAME_BYTES);
+    let is_open = number(frames, 0, 1) == OPEN;
+    let newer = number(other, LSN_AT, 8) > number(frames, LSN_AT, 8);
+    if number(other, 0, 1) == OPEN && (newer || !is_open) {
+        other
+    } else if is_open {
+        frames
     } else {
-        None
-    }
-}
-
-/// The open frame that counts of two: the one with the greater LSN, and the first of equal ones.
-fn counting<'a>(first: Option<Frame<'a>>, second: Option<Frame<'a>>) -> Option<Frame<'a>> {
-    match (first, second) {
-        (Some(one), Some(other)) if other.lsn > one.lsn => Some(other),
-        (Some(one), _) => Some(one),
-        (None, other) => other,
+        &[]
     }
 }
 
 impl Pages {
     /// Reads `count` pages, of which each has two frames.
-    pub fn read(alloc: Global, frames: &[u8], count: u32) -> Result<Pages, AllocError> {
+    pub fn read(alloc: Global, frames: &[u8], count: u64) -> Result<Pages, AllocError> {
         let mut pages = Pages {
             lsns: Vec::new(alloc),
             words: Vec::new(alloc),
         };
-        for page in 0..count {
-            let from = 2 * FRAME_BYTES * page as usize;
-            let own = frames.get(from..).unwrap_or(&[]);
-            let next = own.get(FRAME_BYTES..).unwrap_or(&[]);
-            match counting(open_frame(own), open_frame(next)) {
-                Some(frame) => pages.add(frame)?,
-                None => pages.add_first_contents(page == 0)?,
-            }
+        let mut rest = frames;
+        for _page in 0..count {
+            pages.add(counting(rest))?;
+            rest = bytes_from(rest, 2 * FRAME_BYTES);
+        }
+        if counting(frames).is_empty() {
+            pages.put(0, ROOT_HEADER);
         }
         Ok(pages)
     }
 
-    /// Adds the page that a frame holds.
-    fn add(&mut self, frame: Frame<'_>) -> Result<(), AllocError> {
-        self.lsns.push(frame.lsn)?;
-        let mut cursor = Cursor::new(frame.words);
+    /// Adds the page that a frame holds. One that was never stored holds zeros.
+    fn add(&mut self, frame: &[u8]) -> Result<(), AllocError> {
+        self.lsns.push(number(frame, LSN_AT, 8))?;
+        let mut at = WORDS_AT;
         for _word in 0..PAGE_WORDS {
-            self.words.push(cursor.take_u64().unwrap_or(0))?;
-        }
-        Ok(())
-    }
-
-    /// Adds a page that was never stored, which may be the one that has the root.
-    fn add_first_contents(&mut self, has_root: bool) -> Result<(), AllocError> {
-        self.lsns.push(0)?;
-        self.words.push(if has_root { ROOT_HEADER } else { 0 })?;
-        for _word in 1..PAGE_WORDS {
-            self.words.push(0)?;
+            self.words.push(number(frame, at, 8))?;
+            at = at.saturating_add(8);
         }
         Ok(())
     }
 
     /// The first page that is ahead of a log of that many records.
-    pub fn first_ahead(&self, records: u64) -> Option<usize> {
-        self.lsns.iter().position(|lsn| *lsn > records)
+    pub fn first_ahead(&self, records: u64) -> Option<u32> {
+        let mut page: u32 = 0;
+        for lsn in &self.lsns {
+            if *lsn > records {
+                return Some(page);
+            }
+            page = page.saturating_add(1);
+        }
+        None
     }
 
     /// The words of all pages, by address.
@@ -108,67 +91,40 @@ impl Pages {
     }
 
     /// Puts each record, numbered from 1, on the pages that lack it.
-    pub fn redo_all(&mut self, records: &[Record]) {
+    pub fn redo_all(&mut self, alloc: Global, records: &[Record<'_>]) -> Result<(), AllocError> {
         let mut number: u64 = 0;
         for record in records {
             number = number.saturating_add(1);
-            self.redo(number, record);
+            self.redo(alloc, number, record)?;
         }
+        Ok(())
     }
 
-    fn redo(&mut self, number: u64, record: &Record) {
-        match record {
-            Record::Update {
-                object,
-                field,
-                word,
-                ..
+    fn redo(&mut self, alloc: Global, number: u64, record: &Record<'_>) -> Result<(), AllocError> {
+        for object in &record.objects(alloc)? {
+            self.redo_object(number, object);
+            if record.kind() != BASE {
+                self.redo_word(number, object.number, forwarding(object.address));
             }
-            | Record::Fix {
-                object,
-                field,
-                word,
-                ..
-            }
-            | Record::Undo {
-                object,
-                field,
-                word,
-                ..
-            } => self.redo_word(number, field_address(*object, *field), *word),
-            Record::Base { address, words, .. } => self.redo_object(number, *address, words),
-            Record::Copy(copy) => self.redo_copy(number, copy),
-            Record::Flip { copies } => {
-                for copy in copies {
-                    self.redo_copy(number, copy);
-                }
-            }
-            Record::Scan { writes, .. } => {
-                for (address, word) in writes {
-                    self.redo_word(number, u64::from(*address), *word);
-                }
-            }
-            Record::Commit { .. } | Record::End { .. } | Record::Collected => {}
         }
+        for write in &record.writes(alloc)? {
+            self.redo_word(number, write.0, write.1);
+        }
+        Ok(())
     }
 
-    fn redo_copy(&mut self, number: u64, copy: &Copied) {
-        self.redo_object(number, copy.to, &copy.words);
-        self.redo_word(number, u64::from(copy.from), forwarding(copy.to));
-    }
-
-    fn redo_object(&mut self, number: u64, address: u32, words: &[u64]) {
-        let mut at = u64::from(address);
-        for word in words {
-            self.redo_word(number, at, *word);
-            at = at.saturating_add(1);
+    fn redo_object(&mut self, number: u64, object: &Object<'_>) {
+        for index in 0..object.size() {
+            let at = object.address.saturating_add(index);
+            self.redo_word(number, at, object.word(index));
         }
     }
 
     /// Puts a word there if the page lacks the record of this number: the LSN in its frame is less.
     fn redo_word(&mut self, number: u64, address: u64, word: u64) {
-        let page = address as usize / PAGE_WORDS;
-        if self.lsns.get(page).is_some_and(|lsn| *lsn < number) {
+        if let Some(lsn) = self.lsns.get((address / PAGE_WORDS) as usize)
+            && *lsn < number
+        {
             self.put(address, word);
         }
     }

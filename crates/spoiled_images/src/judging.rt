@@ -2,15 +2,16 @@
 use crate::heaps::opened;
 use crate::reader::{Verdict, read};
 use std::alloc::{AllocError, Global};
+use std::fmt::Debug;
 use std::process::Abort;
 use std::test::Fail;
 
 /// What an image is, for a comparison that fails: a word, a place and a value.
 pub type Case<'a> = (&'a str, usize, u64);
 
-/// The verdict on an image is the expected one.
-fn expect_same(rt: &impl Abort, case: Case<'_>, found: [Verdict; 2], want: Verdict) {
-    assert_eq!(rt; found, [want, want], "{case:?}");
+/// Compares what was found. All comparisons are made here, since the proof of each assertion takes long.
+fn same<T: PartialEq + Debug + Copy>(rt: &impl Abort, found: T, want: T) {
+    assert_eq!(rt; found, want);
 }
 
 /// Opens the image, and asks the second reading what it holds, before and after: all three say the same, which is returned.
@@ -23,7 +24,7 @@ pub fn judge(
     let (answer, disk) = opened(rt, alloc, image)?;
     let before = read(alloc, image)?;
     let after = read(alloc, disk.contents())?;
-    expect_same(rt, case, [before, after], answer);
+    same(rt, (case, before, after), (case, answer, answer));
     Ok(answer)
 }
 
@@ -36,7 +37,7 @@ pub fn expect(
     want: Verdict,
 ) -> Result<(), AllocError> {
     let found = judge(rt, alloc, image, case)?;
-    expect_same(rt, case, [found, found], want);
+    same(rt, (case, found), (case, want));
     Ok(())
 }
 
@@ -79,7 +80,13 @@ impl Tally {
 
     /// How often a kind occurred.
     fn count(&self, kind: Kind) -> usize {
-        self.kinds.iter().filter(|other| **other == kind).count()
+        let mut count: usize = 0;
+        for other in &self.kinds {
+            if *other == kind {
+                count = count.saturating_add(1);
+            }
+        }
+        count
     }
 
     /// Judges an image, and counts what is said of it.
@@ -115,8 +122,7 @@ impl Tally {
     /// These kinds occurred this often.
     pub fn expect_counts(&self, rt: &impl Abort, counts: &[(Kind, usize)]) {
         for (kind, want) in counts {
-            let found = self.count(*kind);
-            assert_eq!(rt; found, *want, "{kind:?}");
+            same(rt, (*kind, self.count(*kind)), (*kind, *want));
         }
     }
 
@@ -124,7 +130,7 @@ impl Tally {
     pub fn expect_kinds(&self, rt: &impl Abort, kinds: &[(Kind, bool)]) {
         for (kind, want) in kinds {
             let came = self.count(*kind) > 0;
-            assert_eq!(rt; came, *want, "{kind:?}");
+            same(rt, (*kind, came), (*kind, *want));
         }
     }
 }
@@ -215,16 +221,20 @@ pub fn spoil_parts(
 
 /// Puts the bytes there.
 pub fn poke(rt: &impl Abort, image: &mut [u8], at: usize, bytes: &[u8]) {
-    for (place, byte) in image.iter_mut().skip(at).zip(bytes) {
-        *place = *byte;
+    let mut place = at;
+    for byte in bytes {
+        match image.get_mut(place) {
+            Some(old) => *old = *byte,
+            None => panic!(rt; "byte {place} of an image"),
+        }
+        place = place.saturating_add(1);
     }
-    assert!(rt; at <= image.len() && image.len() - at >= bytes.len());
 }
 
 /// These bytes stand in the image, each at its place.
 pub fn expect_bytes(rt: &impl Abort, image: &[u8], bytes: &[(usize, u8)]) {
     for (at, want) in bytes {
         let found = image.get(*at).copied();
-        assert_eq!(rt; found, Some(*want), "byte {at}");
+        same(rt, (*at, found), (*at, Some(*want)));
     }
 }

@@ -1,7 +1,7 @@
 //! What a whole image holds.
-use crate::bytes::Cursor;
+use crate::bytes::{bytes_from, number, number_in};
 use crate::frames::Pages;
-use crate::records::{Record, read_record};
+use crate::records::Record;
 use crate::state::State;
 use crate::walk::walk_fault;
 use std::alloc::{AllocError, Global};
@@ -28,14 +28,14 @@ pub enum Verdict {
 /// The bytes of the superblock.
 const SUPER_BYTES: usize = 64;
 
-/// The zeros at the superblock's end.
-const SUPER_ZEROS: usize = 40;
+/// Where the zeros at the superblock's end begin.
+const ZEROS_AT: usize = 24;
 
 /// The bytes of the frames of a page of both spaces.
-const FRAME_BYTES: u64 = 2_112;
+const PAGE_BYTES: u64 = 2_112;
 
 /// The spaces, which have the same number of pages.
-const SPACES: u32 = 2;
+const SPACES: u64 = 2;
 
 /// The bytes of a batch before its records: its gate and its length.
 const BATCH_HEAD: usize = 5;
@@ -46,32 +46,22 @@ const LOSER_BYTES: u64 = 10;
 /// What an `Undo` takes.
 const UNDO_BYTES: u64 = 19;
 
+/// What an open gate is.
+const OPEN: u64 = 1;
+
 /// The letters and the number of the format that a superblock begins with, behind its open gate.
 const FRONT: &[u8] = b"\x01stbheap\x01\x00\x00\x00";
 
 /// The numbers of a superblock.
-#[derive(Drop)]
+#[derive(Clone, Copy)]
 struct Shape {
-    pages: u32,
-    log_bytes: u32,
-    first: u32,
+    pages: u64,
+    log_bytes: u64,
+    first: u64,
 }
 
-impl Shape {
-    fn is_in_limits(&self) -> bool {
-        (1..=16_384).contains(&self.pages)
-            && (64..=1_073_741_824).contains(&self.log_bytes)
-            && self.first >= 1
-    }
-
-    /// The bytes of the whole image.
-    fn size(&self) -> u64 {
-        SUPER_BYTES as u64 + u64::from(self.log_bytes) + FRAME_BYTES * u64::from(self.pages)
-    }
-}
-
-/// The batches of a log.
-#[derive(Drop)]
+/// Where the batches of a log end.
+#[derive(Clone, Copy)]
 enum Batches {
     /// They take that many bytes, with the closed gate that ends them.
     Whole(usize),
@@ -79,160 +69,158 @@ enum Batches {
     Broken(usize),
 }
 
+impl Shape {
+    /// The bytes of the whole image, if the numbers are within their limits.
+    fn size(&self) -> Option<u64> {
+        let pages = 1 <= self.pages && self.pages <= 16_384;
+        let log = 64 <= self.log_bytes && self.log_bytes <= 1_073_741_824;
+        if pages && log && self.first >= 1 {
+            Some(SUPER_BYTES as u64 + self.log_bytes + PAGE_BYTES * self.pages)
+        } else {
+            None
+        }
+    }
+}
+
 /// Reads an image, of a disk with these bytes.
 pub fn read(alloc: Global, image: &[u8]) -> Result<Verdict, AllocError> {
-    let Some((shape, log, frames)) = read_shape(image) else {
+    let Some(shape) = read_shape(image) else {
+        return Ok(Verdict::NotHeap);
+    };
+    let rest = bytes_from(image, SUPER_BYTES);
+    let Some(log) = rest.get(..shape.log_bytes as usize) else {
         return Ok(Verdict::NotHeap);
     };
     let mut records = Vec::new(alloc);
-    let used = match read_batches(alloc, log, &mut records)? {
-        Batches::Whole(used) => used,
-        Batches::Broken(offset) => return Ok(Verdict::Batch(offset as u64)),
-    };
+    match read_batches(log, &mut records)? {
+        Batches::Broken(offset) => Ok(Verdict::Batch(offset as u64)),
+        Batches::Whole(used) => {
+            let frames = bytes_from(rest, log.len());
+            read_records(alloc, shape, used as u64, &records, frames)
+        }
+    }
+}
+
+/// What an image holds whose log has these records.
+fn read_records(
+    alloc: Global,
+    shape: Shape,
+    used: u64,
+    records: &[Record<'_>],
+    frames: &[u8],
+) -> Result<Verdict, AllocError> {
     let mut state = State::new(alloc, shape.pages);
-    if let Some(number) = first_unfit(&mut state, &records)? {
+    if let Some(number) = first_unfit(alloc, &mut state, records)? {
         return Ok(Verdict::Record(number));
     }
     let losers = state.losers(alloc)?;
-    if !has_room(&shape, used, losers.len(), state.undo_len()) {
+    if used.saturating_add(rollback_bytes(&state, &losers)) > shape.log_bytes {
         return Ok(Verdict::Reserve);
     }
     let mut pages = Pages::read(alloc, frames, SPACES.saturating_mul(shape.pages))?;
     if let Some(page) = pages.first_ahead(records.len() as u64) {
-        return Ok(Verdict::Page(narrow(page)));
+        return Ok(Verdict::Page(page));
     }
-    pages.redo_all(&records);
+    pages.redo_all(alloc, records)?;
     state.roll_back(&losers, &mut pages);
-    Ok(match walk_fault(alloc, pages.words(), &state)? {
-        Some(address) => Verdict::Address(narrow(address)),
-        None => Verdict::Heap,
-    })
+    match walk_fault(alloc, pages.words(), &state)? {
+        Some(address) => Ok(Verdict::Address(narrow(address))),
+        None => Ok(Verdict::Heap),
+    }
 }
 
-/// A number of a verdict, which no image makes greater than that.
-fn narrow(number: usize) -> u32 {
-    u32::try_from(number).unwrap_or(u32::MAX)
+/// An address of a verdict, which no image makes greater than that.
+fn narrow(address: u64) -> u32 {
+    u32::try_from(address).unwrap_or(u32::MAX)
 }
 
 /// The number of the first record that may not follow.
-fn first_unfit(state: &mut State, records: &[Record]) -> Result<Option<u64>, AllocError> {
+fn first_unfit(
+    alloc: Global,
+    state: &mut State,
+    records: &[Record<'_>],
+) -> Result<Option<u64>, AllocError> {
     let mut number: u64 = 0;
     for record in records {
         number = number.saturating_add(1);
-        if !state.follow(record)? {
+        if !state.follow(alloc, record)? {
             return Ok(Some(number));
         }
     }
     Ok(None)
 }
 
-/// The numbers of a good superblock, the log, and the frames after it.
-fn read_shape(image: &[u8]) -> Option<(Shape, &[u8], &[u8])> {
-    let (block, rest) = image.split_at_checked(SUPER_BYTES)?;
-    let shape = read_super(block)?;
-    if (image.len() as u64) < shape.size() {
-        return None;
-    }
-    let (log, frames) = rest.split_at_checked(shape.log_bytes as usize)?;
-    Some((shape, log, frames))
+/// What the rollback of the losers takes of the log.
+fn rollback_bytes(state: &State, losers: &[u64]) -> u64 {
+    let ends = LOSER_BYTES.saturating_mul(losers.len() as u64);
+    ends.saturating_add(UNDO_BYTES.saturating_mul(state.undo_len()))
 }
 
-/// The numbers of a superblock, which are within their limits and followed by zeros.
-fn read_super(block: &[u8]) -> Option<Shape> {
-    let (front, zeros) = block.split_at_checked(SUPER_BYTES - SUPER_ZEROS)?;
-    let shape = read_numbers(front.strip_prefix(FRONT)?)?;
-    if shape.is_in_limits() && zeros.iter().all(|byte| *byte == 0) {
+/// The numbers of a good superblock, of which the image has all bytes.
+fn read_shape(image: &[u8]) -> Option<Shape> {
+    let shape = Shape {
+        pages: number_in(image, 12, 4)?,
+        log_bytes: number_in(image, 16, 4)?,
+        first: number_in(image, 20, 4)?,
+    };
+    let whole = shape.size()? <= image.len() as u64;
+    if whole && image.starts_with(FRONT) && has_zeros(image) {
         Some(shape)
     } else {
         None
     }
 }
 
-fn read_numbers(numbers: &[u8]) -> Option<Shape> {
-    let mut cursor = Cursor::new(numbers);
-    Some(Shape {
-        pages: cursor.take_u32()?,
-        log_bytes: cursor.take_u32()?,
-        first: cursor.take_u32()?,
-    })
+/// Whether the superblock ends with zeros.
+fn has_zeros(image: &[u8]) -> bool {
+    for at in ZEROS_AT..SUPER_BYTES {
+        if number(image, at, 1) != 0 {
+            return false;
+        }
+    }
+    true
 }
 
 /// Adds the records of all batches.
-fn read_batches(
-    alloc: Global,
-    log: &[u8],
-    records: &mut Vec<Record>,
-) -> Result<Batches, AllocError> {
+fn read_batches<'a>(log: &'a [u8], records: &mut Vec<Record<'a>>) -> Result<Batches, AllocError> {
     let mut last = 0;
     let mut next = 0;
-    for offset in 0..log.len() {
-        if offset != next {
-            continue;
+    for _ in 0..log.len() {
+        if next >= log.len() {
+            break;
         }
-        if log[offset] != 1 {
-            return Ok(Batches::Whole(offset + 1));
+        if number(log, next, 1) != OPEN {
+            return Ok(Batches::Whole(next.saturating_add(1)));
         }
-        let Some(size) = read_batch(alloc, &log[offset..], records)? else {
-            return Ok(Batches::Broken(offset));
+        last = next;
+        let Some(size) = read_batch(bytes_from(log, next), records)? else {
+            break;
         };
-        last = offset;
-        next = offset.saturating_add(size);
+        next = next.saturating_add(size);
     }
-    // The last batch has no next gate within the log.
+    // The last batch is not whole, or has no next gate within the log.
     Ok(Batches::Broken(last))
 }
 
 /// Adds the records of the batch whose open gate comes first, and returns its size, if it is whole but for the next gate.
-fn read_batch(
-    alloc: Global,
-    bytes: &[u8],
-    records: &mut Vec<Record>,
+fn read_batch<'a>(
+    bytes: &'a [u8],
+    records: &mut Vec<Record<'a>>,
 ) -> Result<Option<usize>, AllocError> {
-    let Some(body) = batch_body(bytes) else {
+    let length = number(bytes, 1, 4) as usize;
+    let Some(body) = bytes_from(bytes, BATCH_HEAD).get(..length) else {
         return Ok(None);
     };
     let mut next = 0;
-    for offset in 0..body.len() {
-        if offset != next {
-            continue;
+    for _ in 0..length {
+        if next >= length {
+            break;
         }
-        let Some(size) = add_record(alloc, &body[offset..], records)? else {
+        let Some(record) = Record::read(bytes_from(body, next)) else {
             return Ok(None);
         };
-        next = offset.saturating_add(size);
+        next = next.saturating_add(record.size());
+        records.push(record)?;
     }
-    Ok(Some(BATCH_HEAD.saturating_add(body.len())))
-}
-
-/// Adds the record that the bytes begin with, and returns its size.
-fn add_record(
-    alloc: Global,
-    bytes: &[u8],
-    records: &mut Vec<Record>,
-) -> Result<Option<usize>, AllocError> {
-    let Some((record, size)) = read_record(alloc, bytes)? else {
-        return Ok(None);
-    };
-    records.push(record)?;
-    Ok(Some(size))
-}
-
-/// The bytes of a batch's records.
-fn batch_body(bytes: &[u8]) -> Option<&[u8]> {
-    let mut cursor = Cursor::new(bytes);
-    let _gate = cursor.take_u8()?;
-    let length = cursor.take_u32()?;
-    cursor.rest().get(..length as usize)
-}
-
-/// Whether the log has room for the rollback of that many losers with that many undo entries.
-fn has_room(shape: &Shape, used: usize, losers: usize, entries: usize) -> bool {
-    rollback_bytes(losers as u64, entries as u64)
-        .and_then(|bytes| bytes.checked_add(used as u64))
-        .is_some_and(|bytes| bytes <= u64::from(shape.log_bytes))
-}
-
-fn rollback_bytes(losers: u64, entries: u64) -> Option<u64> {
-    let ends = LOSER_BYTES.checked_mul(losers)?;
-    ends.checked_add(UNDO_BYTES.checked_mul(entries)?)
+    Ok(Some(BATCH_HEAD.saturating_add(length)))
 }

@@ -1,41 +1,116 @@
 //! What records leave: which words are used, which collection runs, and what is to be taken back of transactions that have not ended.
 use crate::frames::{PAGE_WORDS, Pages};
 use crate::records::{
-    Copied, Record, field_address, forwarding, is_area_reference, is_reference, target,
+    BASE, COLLECTED, COMMIT, COPY, FIELD, FIX, FLIP, FRONT_WORDS, OBJECT, Object, PAGE, Record,
+    SCAN, TRANSACTION, UNDO, UPDATE, WORD, field_address, forwarding, is_area_reference,
+    is_reference,
 };
 use std::alloc::{AllocError, Global};
 
 /// The words of the root, which stands alone at first.
 const ROOT_WORDS: u64 = 6;
 
+/// No transaction has this number, which is above all that one may have.
+const NO_NUMBER: u64 = 4_294_967_295;
+
+/// The births of a transaction are this many times its number and more.
+const BIRTHS: u64 = 4_294_967_296;
+
 /// A write that may be taken back: where it was made, and what stood there.
-#[derive(Clone, Copy, PartialEq, Eq)]
+#[derive(Clone, Copy)]
 struct UndoEntry {
-    t: u32,
-    object: u32,
-    field: u16,
+    t: u64,
+    object: u64,
+    field: u64,
     before: u64,
 }
 
+/// An object that was copied: where it stood, where it stands, and how many words it has.
+#[derive(Clone, Copy)]
+pub struct Moved {
+    pub from: u64,
+    to: u64,
+    size: u64,
+}
+
+/// A collection that runs.
+#[derive(Drop)]
+pub struct Collection {
+    /// The words of the from-space that are used: the first one, and where they end.
+    pub first: u64,
+    pub end: u64,
+    /// How many of them were copied.
+    pub copied: u64,
+    pub moved: Vec<Moved>,
+    /// Where the objects stand that may lead to the from-space.
+    pub gray: Vec<u64>,
+}
+
+/// The state after some records.
+#[derive(Drop)]
+pub struct State {
+    /// The first word of the current space.
+    pub base: u64,
+    /// The address where the next object is to stand: the words of the current space before it are used.
+    pub end: u64,
+    /// The collection that runs, if one does.
+    pub collection: Option<Collection>,
+    /// The undo entries of all transactions, in the order of their writes.
+    undo: Vec<UndoEntry>,
+    /// How many words a space has.
+    space: u64,
+}
+
+/// Whether the number is one that a transaction may have.
+fn is_number(t: u64) -> bool {
+    1 <= t && t < NO_NUMBER
+}
+
+/// Whether it may be an object that this transaction made and promoted.
+fn is_promoted(object: &Object<'_>, t: u64) -> bool {
+    for index in FRONT_WORDS..object.size() {
+        if is_area_reference(object.word(index)) {
+            return false;
+        }
+    }
+    let birth = object.word(1);
+    birth / BIRTHS == t && birth % BIRTHS != 0
+}
+
 /// The copy of the object that stood there.
-fn copy_of(copies: &[Copied], from: u64) -> Option<&Copied> {
-    copies.iter().find(|copy| u64::from(copy.from) == from)
+pub fn moved_from(moved: &[Moved], from: u64) -> Option<Moved> {
+    for copy in moved {
+        if copy.from == from {
+            return Some(*copy);
+        }
+    }
+    None
+}
+
+/// The undo entry of a write, or the one that an Undo takes back.
+fn entry_of(record: &Record<'_>) -> UndoEntry {
+    UndoEntry {
+        t: record.get(TRANSACTION),
+        object: record.get(OBJECT),
+        field: record.get(FIELD),
+        before: record.get(WORD),
+    }
 }
 
 impl UndoEntry {
     /// Updates the entry to these copies; false if its object, with that field, or the object that the old word leads to is not among them.
-    fn go_along(&mut self, copies: &[Copied]) -> bool {
-        let Some(copy) = copy_of(copies, u64::from(self.object)) else {
+    fn go_along(&mut self, moved: &[Moved]) -> bool {
+        let Some(copy) = moved_from(moved, self.object) else {
             return false;
         };
-        if usize::from(self.field) + 2 >= copy.words.len() {
+        if self.field.saturating_add(FRONT_WORDS) >= copy.size {
             return false;
         }
         self.object = copy.to;
-        let Some(to) = target(self.before) else {
+        if !is_reference(self.before) {
             return true;
-        };
-        let Some(copy) = copy_of(copies, to) else {
+        }
+        let Some(copy) = moved_from(moved, self.before / 4) else {
             return false;
         };
         self.before = forwarding(copy.to);
@@ -43,260 +118,222 @@ impl UndoEntry {
     }
 }
 
-/// A collection that runs.
-#[derive(Drop)]
-pub struct Collection {
-    /// The first word of the from-space.
-    pub first: u64,
-    /// How many words its objects take.
-    pub used: u64,
-    /// How many of them were copied.
-    pub copied: u64,
-    /// Where the objects stood that were copied.
-    pub moved: Vec<u32>,
-    /// Where the objects stand that may lead to the from-space.
-    pub gray: Vec<u32>,
-}
-
-/// The state after some records.
-#[derive(Drop)]
-pub struct State {
-    alloc: Global,
-    /// The first word of the current space.
-    base: u64,
-    /// The address where the next object is to stand: the words of the current space before it are used.
-    end: u64,
-    collection: Option<Collection>,
-    /// The undo entries of all transactions, in the order of their writes.
-    undo: Vec<UndoEntry>,
-    pages: u32,
-}
-
-/// Whether the number is one that a transaction may have.
-fn is_number(t: u32) -> bool {
-    1 <= t && t < u32::MAX
-}
-
-/// Whether it is the birth of an object that this transaction made.
-fn is_birth(birth: u64, t: u32) -> bool {
-    birth >> 32 == u64::from(t) && birth & 0xffff_ffff != 0
-}
-
 impl State {
     /// The state before the first record: the root stands alone.
-    pub fn new(alloc: Global, pages: u32) -> State {
+    pub fn new(alloc: Global, pages: u64) -> State {
         State {
-            alloc,
             base: 0,
             end: ROOT_WORDS,
             collection: None,
             undo: Vec::new(alloc),
-            pages,
+            space: pages.saturating_mul(PAGE_WORDS),
         }
-    }
-
-    /// The first word of the current space.
-    pub fn base(&self) -> u64 {
-        self.base
-    }
-
-    /// The address where its used words end.
-    pub fn end(&self) -> u64 {
-        self.end
-    }
-
-    /// The collection that runs, if one does.
-    pub fn collection(&self) -> Option<&Collection> {
-        self.collection.as_ref()
-    }
-
-    /// How many words a space has.
-    fn space(&self) -> u64 {
-        u64::from(self.pages) * PAGE_WORDS as u64
     }
 
     /// How many words of the current space are not used.
     fn free(&self) -> u64 {
         self.base
-            .saturating_add(self.space())
+            .saturating_add(self.space)
             .saturating_sub(self.end)
     }
 
-    /// Applies the record, if it may follow, and returns whether it may.
-    pub fn follow(&mut self, record: &Record) -> Result<bool, AllocError> {
-        match record {
-            Record::Update {
-                t,
-                object,
-                field,
-                was,
-                ..
-            } => self.update(UndoEntry {
-                t: *t,
-                object: *object,
-                field: *field,
-                before: *was,
-            }),
-            Record::Base { t, address, words } => Ok(self.promote(*t, *address, words)),
-            Record::Fix {
-                t,
-                object,
-                field,
-                word,
-            } => Ok(is_number(*t) && is_reference(*word) && self.has_field(*object, *field)),
-            Record::Undo {
-                t,
-                object,
-                field,
-                word,
-            } => Ok(self.take_back(UndoEntry {
-                t: *t,
-                object: *object,
-                field: *field,
-                before: *word,
-            })),
-            Record::Commit { t } => Ok(self.commit(*t)),
-            Record::End { t } => {
-                Ok(is_number(*t) && !self.undo.iter().any(|entry| entry.t == *t))
+    /// Whether it is the address of a used word.
+    fn is_used(&self, address: u64) -> bool {
+        self.base <= address && address < self.end
+    }
+
+    /// Applies the record, if it may follow, and returns whether it may. If not, the state is not used any more.
+    pub fn follow(&mut self, alloc: Global, record: &Record<'_>) -> Result<bool, AllocError> {
+        match record.kind() {
+            COPY => self.copy_all(&record.objects(alloc)?),
+            FLIP => self.flip(alloc, &record.objects(alloc)?),
+            SCAN => Ok(self.scan(record.get(PAGE), &record.writes(alloc)?)),
+            COLLECTED => Ok(self.collected()),
+            BASE => Ok(self.promote(record.get(TRANSACTION), &record.objects(alloc)?)),
+            kind => self.follow_write(kind, entry_of(record)),
+        }
+    }
+
+    /// The same of a record of a transaction that has no object.
+    fn follow_write(&mut self, kind: u64, entry: UndoEntry) -> Result<bool, AllocError> {
+        let has_field = entry.object >= self.base
+            && field_address(entry.object, entry.field) < self.end;
+        let follows = match kind {
+            UPDATE => {
+                self.undo.push(entry)?;
+                has_field
             }
-            Record::Copy(copy) => self.copy(copy),
-            Record::Scan { page, writes } => Ok(self.scan(*page, writes)),
-            Record::Flip { copies } => self.flip(copies),
-            Record::Collected => Ok(self.collected()),
-        }
+            FIX => has_field && is_reference(entry.before),
+            UNDO => self.take_back(entry),
+            COMMIT => {
+                self.undo.retain(|other| other.t != entry.t);
+                true
+            }
+            _ => self.newest(entry.t).is_none(),
+        };
+        Ok(follows && is_number(entry.t))
     }
 
-    /// Whether the field is one of the used words.
-    fn has_field(&self, object: u32, field: u16) -> bool {
-        u64::from(object) >= self.base && field_address(object, field) < self.end
-    }
-
-    fn update(&mut self, entry: UndoEntry) -> Result<bool, AllocError> {
-        if !is_number(entry.t) || !self.has_field(entry.object, entry.field) {
-            return Ok(false);
-        }
-        self.undo.push(entry)?;
-        Ok(true)
-    }
-
-    fn promote(&mut self, t: u32, address: u32, object: &[u64]) -> bool {
-        let at_end = u64::from(address) == self.end;
+    fn promote(&mut self, t: u64, objects: &[Object<'_>]) -> bool {
         let owed = match &self.collection {
-            Some(k) => k.used.saturating_sub(k.copied),
+            Some(k) => k.end.saturating_sub(k.first).saturating_sub(k.copied),
             None => 0,
         };
-        let room = self.free().saturating_sub(owed);
-        let own = object.get(1).is_some_and(|birth| is_birth(*birth, t));
-        let fixed = !object.iter().skip(2).any(|word| is_area_reference(*word));
-        if !is_number(t) || !at_end || room < object.len() as u64 || !own || !fixed {
-            return false;
+        for object in objects {
+            let room = self.free().saturating_sub(owed);
+            if object.address != self.end || room < object.size() || !is_promoted(object, t) {
+                return false;
+            }
+            self.end = self.end.saturating_add(object.size());
         }
-        self.end = self.end.saturating_add(object.len() as u64);
-        true
+        is_number(t)
     }
 
-    fn copy(&mut self, copy: &Copied) -> Result<bool, AllocError> {
-        let (end, free) = (self.end, self.free());
-        let Some(k) = &mut self.collection else {
-            return Ok(false);
-        };
-        let from = u64::from(copy.from);
-        let size = copy.words.len() as u64;
-        let inside = k.first <= from && from.saturating_add(size) <= k.first.saturating_add(k.used);
-        let left = k.copied.saturating_add(size) <= k.used && !k.moved.contains(&copy.from);
-        if !inside || !left || u64::from(copy.to) != end || size > free {
-            return Ok(false);
-        }
-        k.copied = k.copied.saturating_add(size);
-        k.moved.push(copy.from)?;
-        k.gray.push(copy.to)?;
-        self.end = self.end.saturating_add(size);
-        Ok(true)
-    }
-
-    /// If it applies a part of the record and then finds that it may not follow, the state is not used any more.
-    fn flip(&mut self, copies: &[Copied]) -> Result<bool, AllocError> {
-        let begins = copies
-            .first()
-            .is_some_and(|copy| u64::from(copy.from) == self.base);
-        if self.collection.is_some() || !begins {
-            return Ok(false);
-        }
-        let used = self.end.saturating_sub(self.base);
-        let first = self.base;
-        self.base = self.space().saturating_sub(first);
-        self.end = self.base;
-        self.collection = Some(Collection {
-            first,
-            used,
-            copied: 0,
-            moved: Vec::new(self.alloc),
-            gray: Vec::new(self.alloc),
-        });
+    fn copy_all(&mut self, copies: &[Object<'_>]) -> Result<bool, AllocError> {
         for copy in copies {
             if !self.copy(copy)? {
                 return Ok(false);
             }
         }
-        Ok(self.undo.iter_mut().all(|entry| entry.go_along(copies)))
+        Ok(true)
     }
 
-    fn scan(&mut self, page: u32, writes: &[(u32, u64)]) -> bool {
-        let first = u64::from(page) * PAGE_WORDS as u64;
-        let current = self.base <= first && first < self.base.saturating_add(self.space());
-        let (base, end) = (self.base, self.end);
-        let is_used = |at: u64| base <= at && at < end;
-        let leads = writes.iter().all(|write| {
-            is_used(u64::from(write.0)) && target(write.1).is_some_and(|to| is_used(to))
+    fn copy(&mut self, copy: &Object<'_>) -> Result<bool, AllocError> {
+        let (to, size, free) = (copy.address, copy.size(), self.free());
+        let Some(k) = &mut self.collection else {
+            return Ok(false);
+        };
+        let from = copy.number;
+        let inside = k.first <= from && from.saturating_add(size) <= k.end;
+        let left = k.copied.saturating_add(size) <= k.end.saturating_sub(k.first);
+        if !inside || !left || to != self.end || size > free {
+            return Ok(false);
+        }
+        if moved_from(&k.moved, from).is_some() {
+            return Ok(false);
+        }
+        k.copied = k.copied.saturating_add(size);
+        k.moved.push(Moved { from, to, size })?;
+        k.gray.push(to)?;
+        self.end = self.end.saturating_add(size);
+        Ok(true)
+    }
+
+    fn flip(&mut self, alloc: Global, copies: &[Object<'_>]) -> Result<bool, AllocError> {
+        if self.collection.is_some() {
+            return Ok(false);
+        }
+        let (first, end) = (self.base, self.end);
+        self.base = self.space.saturating_sub(first);
+        self.end = self.base;
+        self.collection = Some(Collection {
+            first,
+            end,
+            copied: 0,
+            moved: Vec::new(alloc),
+            gray: Vec::new(alloc),
         });
+        Ok(self.copy_all(copies)? && self.go_along())
+    }
+
+    /// Whether the object at the from-space's first address was copied first, and the undo entries go along with the copies.
+    fn go_along(&mut self) -> bool {
+        let Some(k) = &self.collection else {
+            return false;
+        };
+        let Some(copy) = k.moved.first() else {
+            return false;
+        };
+        if copy.from != k.first {
+            return false;
+        }
+        for entry in &mut self.undo {
+            if !entry.go_along(&k.moved) {
+                return false;
+            }
+        }
+        true
+    }
+
+    fn scan(&mut self, page: u64, writes: &[(u64, u64)]) -> bool {
+        for write in writes {
+            let leads = is_reference(write.1) && self.is_used(write.1 / 4);
+            if !leads || !self.is_used(write.0) {
+                return false;
+            }
+        }
         let Some(k) = &mut self.collection else {
             return false;
         };
-        k.gray.retain(|at| at / PAGE_WORDS as u32 != page);
-        current && leads
+        k.gray.retain(|at| at / PAGE_WORDS != page);
+        let first = page.saturating_mul(PAGE_WORDS);
+        self.base <= first && first < self.base.saturating_add(self.space)
     }
 
     fn collected(&mut self) -> bool {
-        let done = self.collection.as_ref().is_some_and(|k| k.gray.is_empty());
+        let done = match &self.collection {
+            Some(k) => k.gray.is_empty(),
+            None => false,
+        };
         self.collection = None;
         done
     }
 
-    fn take_back(&mut self, entry: UndoEntry) -> bool {
-        let newest = self.undo.iter().rposition(|other| other.t == entry.t);
-        match newest {
-            Some(at) if is_number(entry.t) && self.undo.get(at) == Some(&entry) => {
-                let _ = self.undo.remove(at);
-                true
+    /// The place of a transaction's newest undo entry.
+    fn newest(&self, t: u64) -> Option<usize> {
+        let mut newest = None;
+        for (at, entry) in self.undo.iter().enumerate() {
+            if entry.t == t {
+                newest = Some(at);
             }
-            _ => false,
         }
+        newest
     }
 
-    fn commit(&mut self, t: u32) -> bool {
-        self.undo.retain(|entry| entry.t != t);
-        is_number(t)
+    /// Drops the newest undo entry of its transaction, if that is this one.
+    fn take_back(&mut self, entry: UndoEntry) -> bool {
+        let Some(at) = self.newest(entry.t) else {
+            return false;
+        };
+        if at >= self.undo.len() {
+            return false;
+        }
+        let last = self.undo.remove(at);
+        last.object == entry.object && last.field == entry.field && last.before == entry.before
     }
 
     /// The numbers of the losers, ascending.
-    pub fn losers(&self, alloc: Global) -> Result<Vec<u32>, AllocError> {
-        let mut losers: Vec<u32> = Vec::new(alloc);
-        for entry in &self.undo {
-            if !losers.contains(&entry.t) {
-                losers.push(entry.t)?;
+    pub fn losers(&self, alloc: Global) -> Result<Vec<u64>, AllocError> {
+        let mut losers = Vec::new(alloc);
+        let mut last = 0;
+        for _entry in &self.undo {
+            let next = self.next_loser(last);
+            if next < NO_NUMBER {
+                losers.push(next)?;
             }
+            last = next;
         }
-        losers.sort()?;
         Ok(losers)
     }
 
+    /// The least number of a loser above this one.
+    fn next_loser(&self, last: u64) -> u64 {
+        let mut next = NO_NUMBER;
+        for entry in &self.undo {
+            if last < entry.t && entry.t < next {
+                next = entry.t;
+            }
+        }
+        next
+    }
+
     /// How many writes are to be taken back.
-    pub fn undo_len(&self) -> usize {
-        self.undo.len()
+    pub fn undo_len(&self) -> u64 {
+        self.undo.len() as u64
     }
 
     /// Takes back the writes of the losers on these pages, the newest first, one loser after another.
-    pub fn roll_back(&self, losers: &[u32], pages: &mut Pages) {
+    pub fn roll_back(&self, losers: &[u64], pages: &mut Pages) {
         for t in losers {
             for entry in self.undo.iter().rev() {
                 if entry.t == *t {

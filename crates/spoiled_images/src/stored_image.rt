@@ -1,22 +1,16 @@
 //! An image with stored pages, some of them twice.
 use crate::heaps::played;
-use disk_model::{Disk, MemoryDisk};
-use gated_log::Log;
+use crate::judging::poke;
 use graph_model::Event;
-use image_plan::Plan;
-use log_machine::replay;
-use log_records::Record;
-use page_cache::PageCache;
-use page_store::PageStore;
 use std::alloc::{AllocError, Global};
 use std::process::Abort;
-use std::test::Fail;
 
 /// A heap of two pages a space, so of four pages. Its objects lie on the first two.
-const PLAN: Plan = Plan {
-    pages: 2,
-    log_bytes: 1_024,
-};
+const PAGES: u32 = 2;
+
+const LOG_BYTES: u32 = 1_024;
+
+pub const PAGE_WORDS: usize = 64;
 
 /// The bytes of its image.
 pub const IMAGE_BYTES: usize = FRAMES_AT + 8 * FRAME_BYTES;
@@ -30,8 +24,8 @@ pub const FRAME_BYTES: usize = 528;
 pub const RECORDS: u64 = 10;
 
 /// Transaction 1 promotes an object that lies on both pages, by records 1 to 4. Transaction 2 writes the root and that object, by records
-/// 5 to 7. What transaction 3 writes, by records 8 to 10, has to be taken back.
-const EVENTS: [Event; 21] = [
+/// 5 to 7. What transaction 3 writes, by records 8 to 10, has to be taken back. Page 0 is stored after records 4 and 8, and page 1 after 4 and 7.
+const EVENTS: [Event; 25] = [
     Event::Begin { s: 1 },
     Event::Root { s: 1, h: 0 },
     Event::New {
@@ -53,6 +47,8 @@ const EVENTS: [Event; 21] = [
     },
     Event::Seal { s: 1 },
     Event::Force,
+    Event::Flush { p: 0 },
+    Event::Flush { p: 1 },
     Event::Begin { s: 1 },
     Event::Root { s: 1, h: 0 },
     Event::Get {
@@ -75,6 +71,7 @@ const EVENTS: [Event; 21] = [
     },
     Event::Seal { s: 1 },
     Event::Force,
+    Event::Flush { p: 1 },
     Event::Begin { s: 1 },
     Event::Root { s: 1, h: 0 },
     Event::Get {
@@ -89,6 +86,7 @@ const EVENTS: [Event; 21] = [
         i: 0,
         v: 9,
     },
+    Event::Flush { p: 0 },
     Event::Put {
         s: 1,
         h: 1,
@@ -104,13 +102,15 @@ const EVENTS: [Event; 21] = [
     Event::Force,
 ];
 
-/// Which pages are stored, one after another, and after how many of the log's records.
-const STORES: [(usize, u32); 4] = [(3, 0), (2, 1), (8, 0), (6, 1)];
-
-/// The page of the other space that is stored, once, with this LSN.
-const OTHER_PAGE: u32 = 2;
+/// The page of the other space that is stored, once, and its LSN. No record writes it.
+const OTHER_PAGE: usize = 2;
 
 const OTHER_LSN: u64 = 9;
+
+/// Where the LSN of a frame stands, and where its words do.
+pub const LSN_AT: usize = 8;
+
+pub const WORDS_AT: usize = 16;
 
 /// Where a frame begins: the first or second one of this page.
 pub fn frame_at(page: usize, second: bool) -> usize {
@@ -121,73 +121,28 @@ pub fn frame_at(page: usize, second: bool) -> usize {
         .saturating_add(FRAMES_AT)
 }
 
+/// Puts a gate and an LSN into the frame that begins there.
+pub fn poke_front(rt: &impl Abort, image: &mut [u8], at: usize, gate: u8, lsn: u64) {
+    poke(rt, image, at, &[gate]);
+    poke(rt, image, at.saturating_add(LSN_AT), &lsn.to_le_bytes());
+}
+
+/// Puts a word into the frame that begins there.
+pub fn poke_word(rt: &impl Abort, image: &mut [u8], at: usize, index: usize, word: u64) {
+    let place = at
+        .saturating_add(WORDS_AT)
+        .saturating_add(index.saturating_mul(8));
+    poke(rt, image, place, &word.to_le_bytes());
+}
+
 /// The image, in which pages 0 and 1 have two open frames, page 2 has one and page 3 none.
-pub fn stored_image(rt: &impl Abort, alloc: Global) -> Result<Vec<u8>, Fail> {
-    let mut disk = played(
-        rt,
-        alloc,
-        IMAGE_BYTES,
-        (PLAN.pages, PLAN.log_bytes),
-        &EVENTS,
-    )?;
-    for (after, page) in STORES {
-        store_page(rt, alloc, &mut disk, after, page)?;
+pub fn stored_image(rt: &impl Abort, alloc: Global) -> Result<Vec<u8>, AllocError> {
+    let disk = played(rt, alloc, IMAGE_BYTES, (PAGES, LOG_BYTES), &EVENTS)?;
+    let mut image = disk.contents().to_vec(alloc)?;
+    let other = frame_at(OTHER_PAGE, false);
+    poke_front(rt, &mut image, other, 1, OTHER_LSN);
+    for index in 0..PAGE_WORDS {
+        poke_word(rt, &mut image, other, index, 4);
     }
-    store_other(rt, alloc, &mut disk)?;
-    Ok(disk.contents().to_vec(alloc)?)
-}
-
-/// The records of the log.
-fn read_log(rt: &impl Abort, alloc: Global, disk: &mut MemoryDisk) -> Result<Vec<Record>, Fail> {
-    assert!(rt; disk.size() >= PLAN.size());
-    let (_, records) = Log::open(alloc, disk, PLAN.log_at(), PLAN.log_bytes)?;
-    Ok(records)
-}
-
-/// Redoes these records on the pages.
-fn redo(rt: &impl Abort, alloc: Global, cache: &mut PageCache, records: &[Record]) {
-    assert!(rt; cache.as_slice().len() == 256 && records.len() < 99);
-    let Ok(_) = replay(alloc, PLAN.pages, 1, records) else {
-        panic!(rt; "not replayed");
-    };
-    cache.redo_all(1, records);
-}
-
-/// Stores a page as it is after the first records of the log.
-fn store_page(
-    rt: &impl Abort,
-    alloc: Global,
-    disk: &mut MemoryDisk,
-    after: usize,
-    page: u32,
-) -> Result<(), Fail> {
-    let records = read_log(rt, alloc, disk)?;
-    assert_eq!(rt; records.len() as u64, RECORDS);
-    assert!(rt; after <= records.len() && disk.size() >= PLAN.size());
-    let mut cache = PageCache::open(alloc, disk, PLAN)?;
-    redo(rt, alloc, &mut cache, &records[..after]);
-    flush(rt, &mut cache, disk, page)
-}
-
-/// Stores the page as it is in memory.
-fn flush(
-    rt: &impl Abort,
-    cache: &mut PageCache,
-    disk: &mut MemoryDisk,
-    page: u32,
-) -> Result<(), Fail> {
-    assert!(rt; page < cache.pages() && disk.size() >= cache.plan().size());
-    assert!(rt; cache.dirty(page) && !cache.failed() && cache.lsn(page) <= RECORDS);
-    cache.flush(disk, page, RECORDS)?;
-    Ok(())
-}
-
-/// Stores a page of the other space, which no record writes.
-fn store_other(rt: &impl Abort, alloc: Global, disk: &mut MemoryDisk) -> Result<(), Fail> {
-    assert!(rt; disk.size() >= PLAN.size());
-    let (mut store, _) = PageStore::open(alloc, disk, PLAN)?;
-    assert!(rt; OTHER_PAGE < store.pages() && disk.size() >= store.plan().size());
-    assert!(rt; store.stored_lsn(OTHER_PAGE) < OTHER_LSN && !store.failed());
-    store.store(disk, OTHER_PAGE, OTHER_LSN, &[4; 64])?;
-    Ok(())
+    Ok(image)
 }

@@ -1,192 +1,157 @@
 //! The walk of the words: objects stand end to end from the root on, in the from-space too while a collection runs, and each field is one that
 //! a heap may hold.
-use crate::records::{fields_of, is_plain, target};
-use crate::state::{Collection, State};
+use crate::records::{FRONT_WORDS, fields_of, is_plain, is_reference};
+use crate::state::{Collection, Moved, State, moved_from};
 use std::alloc::{AllocError, Global};
 
 /// The root's header: it has four fields.
 const ROOT_HEADER: u64 = 17;
 
-/// An object among the words. That of an object which was copied has no fields here.
+/// A row of objects that stand end to end.
 #[derive(Drop)]
-struct Object<'a> {
-    address: u64,
-    fields: &'a [u64],
-}
-
-/// The result of walking the row of objects.
-#[derive(Drop)]
-enum Row<'a> {
-    Whole(Vec<Object<'a>>),
-    /// It breaks off at this address.
-    BreaksOff(u64),
+struct Row {
+    /// Their addresses.
+    objects: Vec<u64>,
+    /// How many words those of them take that were copied.
+    copied: u64,
+    /// Where the row breaks off, if it does so before its end.
+    broken: Option<u64>,
 }
 
 /// The first address, if any, at which the words are not those of a heap in that state.
-pub fn walk_fault(
-    alloc: Global,
-    words: &[u64],
-    state: &State,
-) -> Result<Option<usize>, AllocError> {
-    let current = words.get(..state.end() as usize).unwrap_or(&[]);
-    let begin = current.get(state.base() as usize..).unwrap_or(&[]);
-    if !begin.starts_with(&[ROOT_HEADER, 0]) {
-        return Ok(Some(state.base() as usize));
+pub fn walk_fault(alloc: Global, words: &[u64], state: &State) -> Result<Option<u64>, AllocError> {
+    let (base, end) = (state.base, state.end);
+    if word_at(words, base) != ROOT_HEADER || word_at(words, base.saturating_add(1)) != 0 {
+        return Ok(Some(base));
     }
-    let objects = match read_row(alloc, current, state.base())? {
-        Row::Whole(objects) => objects,
-        Row::BreaksOff(address) => return Ok(Some(address as usize)),
-    };
-    let fault = match state.collection() {
-        None => bad_object(&objects, &objects, &[], &[]),
-        Some(k) => collection_fault(alloc, words, &objects, k)?,
-    };
-    Ok(fault.map(|address| address as usize))
+    let row = read_row(alloc, words, (base, end), &[], &[])?;
+    if row.broken.is_some() {
+        return Ok(row.broken);
+    }
+    match &state.collection {
+        None => Ok(bad_object(words, &row.objects, &[], &[], &[])),
+        Some(k) => collection_fault(alloc, words, &row.objects, k),
+    }
 }
 
-/// The same after the row of the current space, while a collection runs.
+/// The same after the row of the current space, while a collection runs. What was copied has as many words as were counted.
 fn collection_fault(
     alloc: Global,
     words: &[u64],
-    objects: &[Object<'_>],
+    objects: &[u64],
     k: &Collection,
 ) -> Result<Option<u64>, AllocError> {
-    let end = k.first.saturating_add(k.used);
-    let old = words.get(..end as usize).unwrap_or(&[]);
-    let olds = match read_old_row(alloc, old, objects, k)? {
-        Row::Whole(olds) => olds,
-        Row::BreaksOff(address) => return Ok(Some(address)),
-    };
-    if let Some(at) = k
-        .gray
-        .iter()
-        .filter(|at| !stands(objects, u64::from(**at)))
-        .min()
-    {
-        return Ok(Some(u64::from(*at)));
+    let old = read_row(alloc, words, (k.first, k.end), &k.moved, objects)?;
+    if old.broken.is_some() {
+        return Ok(old.broken);
     }
-    let inside = bad_object(objects, objects, &k.gray, &olds);
-    Ok(match inside {
-        Some(at) => Some(at),
-        None => bad_object(&olds, &olds, &[], &[]),
-    })
+    if old.copied != k.copied {
+        return Ok(Some(k.first));
+    }
+    let gray = gray_nowhere(&k.gray, objects);
+    if gray.is_some() {
+        return Ok(gray);
+    }
+    let bad = bad_object(words, objects, &[], &k.gray, &old.objects);
+    if bad.is_some() {
+        return Ok(bad);
+    }
+    Ok(bad_object(words, &old.objects, &k.moved, &[], &[]))
 }
 
-/// The objects from an address to the end of the words, each of which has two words or more.
-fn read_row(alloc: Global, words: &[u64], from: u64) -> Result<Row<'_>, AllocError> {
-    let mut objects = Vec::new(alloc);
-    let mut next = from;
-    for _ in 0..words.len() {
-        if next >= words.len() as u64 {
-            break;
+fn word_at(words: &[u64], at: u64) -> u64 {
+    match words.get(at as usize) {
+        Some(word) => *word,
+        None => 0,
+    }
+}
+
+/// How many words the object at an address takes. One that was copied takes as many as its copy, to which a word there leads.
+fn size_at(words: &[u64], at: u64, moved: &[Moved], copies: &[u64]) -> Option<u64> {
+    let mut header = word_at(words, at);
+    if moved_from(moved, at).is_some() {
+        if !is_reference(header) || !copies.contains(&(header / 4)) {
+            return None;
         }
-        let Some(fields) = object_at(words, next) else {
-            return Ok(Row::BreaksOff(next));
-        };
-        objects.push(Object {
-            address: next,
-            fields,
-        })?;
-        next = next.saturating_add(2).saturating_add(fields.len() as u64);
+        header = word_at(words, header / 4);
     }
-    Ok(Row::Whole(objects))
+    Some(fields_of(header)?.saturating_add(FRONT_WORDS))
 }
 
-/// The objects of the from-space, to the end of the words: for one that was copied, the address of its copy. What was copied has as many
-/// words as were counted.
-fn read_old_row<'a>(
+/// The objects from an address to another one, where they end.
+fn read_row(
     alloc: Global,
-    words: &'a [u64],
-    objects: &[Object<'_>],
-    k: &Collection,
-) -> Result<Row<'a>, AllocError> {
-    let mut olds = Vec::new(alloc);
-    let mut copied: u64 = 0;
-    let mut next = k.first;
-    for _ in 0..words.len() {
-        if next >= words.len() as u64 {
+    words: &[u64],
+    (from, end): (u64, u64),
+    moved: &[Moved],
+    copies: &[u64],
+) -> Result<Row, AllocError> {
+    let mut row = Row {
+        objects: Vec::new(alloc),
+        copied: 0,
+        broken: None,
+    };
+    let mut next = from;
+    for _ in from..end {
+        if next >= end {
             break;
         }
-        let moved = is_in(&k.moved, next);
-        let (fields, count) = if moved {
-            (Some(&words[..0]), moved_count(words, objects, next))
-        } else {
-            let fields = object_at(words, next);
-            (fields, fields.map(|fields| fields.len() as u64))
-        };
-        let (Some(fields), Some(count)) = (fields, count) else {
-            return Ok(Row::BreaksOff(next));
-        };
-        let size = count.saturating_add(2);
-        if moved {
-            copied = copied.saturating_add(size);
+        let size = size_at(words, next, moved, copies).unwrap_or(u64::MAX);
+        if next.saturating_add(size) > end {
+            row.broken = Some(next);
+            break;
         }
-        olds.push(Object {
-            address: next,
-            fields,
-        })?;
+        row.objects.push(next)?;
+        if moved_from(moved, next).is_some() {
+            row.copied = row.copied.saturating_add(size);
+        }
         next = next.saturating_add(size);
     }
-    if copied != k.copied {
-        return Ok(Row::BreaksOff(k.first));
+    Ok(row)
+}
+
+/// The lowest address of a gray object at which none stands.
+fn gray_nowhere(gray: &[u64], objects: &[u64]) -> Option<u64> {
+    let mut lowest = None;
+    for at in gray {
+        let below = match lowest {
+            Some(other) => *at < other,
+            None => true,
+        };
+        if below && !objects.contains(at) {
+            lowest = Some(*at);
+        }
     }
-    Ok(Row::Whole(olds))
+    lowest
 }
 
-/// How many fields the object that was copied from there has, if a word there leads to an object whose words would end in time.
-fn moved_count(words: &[u64], objects: &[Object<'_>], at: u64) -> Option<u64> {
-    let to = target(*words.get(at as usize)?)?;
-    let object = objects.iter().find(|object| object.address == to)?;
-    let count = object.fields.len() as u64;
-    let end = at.saturating_add(2).saturating_add(count);
-    if end <= words.len() as u64 {
-        Some(count)
-    } else {
-        None
-    }
-}
-
-/// The fields of the object at an address, if all of them are there.
-fn object_at(words: &[u64], at: u64) -> Option<&[u64]> {
-    let [header, _birth, rest @ ..] = words.get(at as usize..)? else {
-        return None;
-    };
-    let count = fields_of(*header)?;
-    rest.get(..count as usize)
-}
-
-fn is_in(addresses: &[u32], at: u64) -> bool {
-    addresses.iter().any(|address| u64::from(*address) == at)
-}
-
-fn stands(objects: &[Object<'_>], at: u64) -> bool {
-    objects.iter().any(|object| object.address == at)
-}
-
-/// The address of the first object with a field that no heap may hold: one leads to current objects, and one of a gray object to old ones too.
+/// The address of the first object with a field that no heap may hold: one leads to an object of the row, and one of a gray object to others too. An
+/// object that was copied has no fields here.
 fn bad_object(
-    objects: &[Object<'_>],
-    current: &[Object<'_>],
-    gray: &[u32],
-    old: &[Object<'_>],
+    words: &[u64],
+    objects: &[u64],
+    moved: &[Moved],
+    gray: &[u64],
+    others: &[u64],
 ) -> Option<u64> {
-    for object in objects {
-        let is_gray = is_in(gray, object.address);
-        let others = if is_gray { old } else { &old[..0] };
-        let legal = object
-            .fields
-            .iter()
-            .all(|word| may_hold(*word, current, others));
-        if !legal {
-            return Some(object.address);
+    for at in objects {
+        let others = if gray.contains(at) { others } else { &[] };
+        if moved_from(moved, *at).is_none() && !has_legal_fields(words, *at, objects, others) {
+            return Some(*at);
         }
     }
     None
 }
 
-fn may_hold(word: u64, current: &[Object<'_>], others: &[Object<'_>]) -> bool {
-    match target(word) {
-        Some(to) => stands(current, to) || stands(others, to),
-        None => is_plain(word),
+fn has_legal_fields(words: &[u64], at: u64, objects: &[u64], others: &[u64]) -> bool {
+    let first = at.saturating_add(FRONT_WORDS);
+    for field in 0..fields_of(word_at(words, at)).unwrap_or(0) {
+        let word = word_at(words, first.saturating_add(field));
+        let to = word / 4;
+        let leads = is_reference(word) && (objects.contains(&to) || others.contains(&to));
+        if !leads && !is_plain(word) {
+            return false;
+        }
     }
+    true
 }
