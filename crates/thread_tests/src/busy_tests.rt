@@ -1,7 +1,7 @@
 //! A session that is answered busy tries again, and gives up after its last try.
 use crate::meeting::Sign;
-use crate::playing::{Played, disk_of, expect_again, image_of, lines_of_session, run_on, same};
-use disk_model::{MemoryDisk, Pick};
+use crate::playing::{NO_FAULTS, Played, expect_again, image_of, lines_of_session, run_on, same};
+use disk_model::MemoryDisk;
 use heap_workers::Gate;
 use std::alloc::{AllocError, Global};
 use std::process::Abort;
@@ -48,11 +48,14 @@ fn run_kept<R: Threads + Wait + Sync>(
         went_on: Sign::new(),
     };
     let line = format!(in alloc; "heap threads --tries {tries}")?;
-    let disk = disk_of(alloc, image, Pick::Newest, Vec::new(alloc))?;
-    let none = (Vec::new(alloc), Vec::new(alloc));
-    let (played, left) = run_on(rt, alloc, (line.as_str(), AT_ONCE), disk, none, &gate)?;
+    let words = (line.as_str(), AT_ONCE);
+    let (played, left) = run_on(rt, alloc, words, (image, &NO_FAULTS), &gate)?;
     Ok((played, left, gate.locked.came() && gate.went_on.came()))
 }
+
+/// The lines of session 1, which isn't disturbed.
+const KEPT: &str =
+    "1 begin -> begun 1\n1 root 0 -> done\n1 put 0 0 5 -> done\n1 seal -> sealed 1\n";
 
 /// The lines of session 2: each of its tries is refused, it aborts, and its next line finds no transaction.
 fn wanted_lines(alloc: Global, tries: usize) -> Result<String, AllocError> {
@@ -64,16 +67,19 @@ fn wanted_lines(alloc: Global, tries: usize) -> Result<String, AllocError> {
     Ok(lines)
 }
 
-/// The first session isn't disturbed, and the second one has these lines.
+/// Both sessions have their lines.
 fn check_lines(rt: &impl Abort, alloc: Global, played: &Played, tries: usize) -> Result<(), Fail> {
-    same(rt, played.status, Status::Done);
     let first = lines_of_session(alloc, played.text(), "1 ")?;
-    let kept = "1 begin -> begun 1\n1 root 0 -> done\n1 put 0 0 5 -> done\n1 seal -> sealed 1\n";
-    same(rt, first.as_str(), kept);
     let second = lines_of_session(alloc, played.text(), "2 ")?;
-    same(rt, second.as_str(), wanted_lines(alloc, tries)?.as_str());
+    let wanted = wanted_lines(alloc, tries)?;
+    let lines = (first.as_str(), second.as_str());
     let ends = played.text().ends_with("graph 1\n0: 5 - - -\n");
-    same(rt, (tries, ends), (tries, true));
+    let found = (tries, played.status, lines, ends);
+    same(
+        rt,
+        found,
+        (tries, Status::Done, (KEPT, wanted.as_str()), true),
+    );
     Ok(())
 }
 

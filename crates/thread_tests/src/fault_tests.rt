@@ -2,7 +2,7 @@
 //! acknowledged.
 use crate::drawn::{SHARED, draw_call, draw_script};
 use crate::playing::{
-    FRESH_BYTES, Played, count_lines, disk_of, expect_again, image_of, opened, run_on, run_well,
+    FRESH_BYTES, Faults, Played, count_lines, expect_again, image_of, opened, run_on, run_well,
     same,
 };
 use disk_model::{Disk, MemoryDisk, Pick};
@@ -48,20 +48,25 @@ fn has_one_fault(text: &str) -> bool {
 /// What a run whose disk failed wrote: no graph, and after the fault at most one line of each other worker.
 fn check_failed(rt: &impl Abort, played: &Played, seed: u64) {
     let text = played.text();
-    same(rt, (seed, played.status), (seed, Status::DiskFault));
-    same(rt, (seed, text, has_one_fault(text)), (seed, text, true));
-    same(rt, (seed, text.contains("graph")), (seed, false));
     let ended = count_lines(text, " -> failed ") <= OTHERS;
-    same(rt, (seed, ended), (seed, true));
+    let holds = [has_one_fault(text), text.contains("graph"), ended];
+    let found = (seed, text, played.status, holds);
+    same(
+        rt,
+        found,
+        (seed, text, Status::DiskFault, [true, false, true]),
+    );
 }
 
 /// How many commits the lines acknowledge.
 fn acknowledged(text: &str) -> u64 {
-    text.lines()
-        .filter_map(|line| line.strip_prefix("force -> durable "))
-        .filter_map(|count| count.parse::<u64>().ok())
-        .max()
-        .unwrap_or(0)
+    let mut known: u64 = 0;
+    for line in text.lines() {
+        if let Some(count) = line.strip_prefix("force -> durable ") {
+            known = known.max(count.parse::<u64>().unwrap_or(0));
+        }
+    }
+    known
 }
 
 /// The printed events up to that of a commit.
@@ -118,6 +123,16 @@ fn check_commits(rt: &impl Abort, text: &str, commits: u64, seed: u64) {
     same(rt, (seed, commits, known), (seed, commits, true));
 }
 
+/// A disk that fails at a call.
+fn failing(call: u64, pick: Pick) -> Faults {
+    Faults {
+        disk: call,
+        source: 0,
+        sink: 0,
+        pick,
+    }
+}
+
 /// Runs a seed's script by threads on a disk that fails at a call.
 fn run_faulty<R: Threads + Wait + Sync>(
     rt: &R,
@@ -126,9 +141,14 @@ fn run_faulty<R: Threads + Wait + Sync>(
     (seed, call, pick): (u64, u64, Pick),
 ) -> Result<(Played, MemoryDisk), AllocError> {
     let script = draw_script(alloc, seed)?;
-    let disk = disk_of(alloc, image, pick, vec![in alloc; call]?)?;
-    let none = (Vec::new(alloc), Vec::new(alloc));
-    run_on(rt, alloc, (LINE, script.as_str()), disk, none, &OpenGate)
+    let faults = failing(call, pick);
+    run_on(
+        rt,
+        alloc,
+        (LINE, script.as_str()),
+        (image, &faults),
+        &OpenGate,
+    )
 }
 
 /// Compares what a crash after a run leaves.
@@ -211,16 +231,27 @@ const ALONE_FAILED: &str =
 /// The writes and syncs of a force.
 const FORCE_CALLS: u64 = 4;
 
+/// A run of `ALONE` whose disk fails at a call wrote this, and ends so.
+fn check_alone<R: Threads + Wait + Abort + Sync>(
+    rt: &R,
+    alloc: Global,
+    line: &str,
+    (image, call, pick): (&[u8], u64, Pick),
+    text: &str,
+) -> Result<(), Fail> {
+    let faults = failing(call, pick);
+    let (played, _) = run_on(rt, alloc, (line, ALONE), (image, &faults), &OpenGate)?;
+    let found = (call, played.status, played.text());
+    same(rt, found, (call, Status::DiskFault, text));
+    Ok(())
+}
+
 #[test]
 fn a_fault_at_each_call_of_a_force_ends_the_run(rt: HostRuntime) -> Result<(), Fail> {
-    let alloc = rt.alloc();
-    let image = image_of(&rt, alloc, "")?;
+    let image = image_of(&rt, rt.alloc(), "")?;
     for call in 1..=FORCE_CALLS {
-        let disk = disk_of(alloc, &image, Pick::Synced, vec![in alloc; call]?)?;
-        let none = (Vec::new(alloc), Vec::new(alloc));
-        let (played, _) = run_on(&rt, alloc, (LINE, ALONE), disk, none, &OpenGate)?;
-        let found = (call, played.status, played.text());
-        same(&rt, found, (call, Status::DiskFault, ALONE_FAILED));
+        let fault = (image.as_slice(), call, Pick::Synced);
+        check_alone(&rt, rt.alloc(), LINE, fault, ALONE_FAILED)?;
     }
     Ok(())
 }
@@ -229,10 +260,6 @@ fn a_fault_at_each_call_of_a_force_ends_the_run(rt: HostRuntime) -> Result<(), F
 fn a_fault_before_the_workers_leaves_nothing_to_write(rt: HostRuntime) -> Result<(), Fail> {
     let alloc = rt.alloc();
     let zeros = vec![in alloc; 0u8; FRESH_BYTES]?;
-    let disk = disk_of(alloc, &zeros, Pick::Newest, vec![in alloc; 2u64]?)?;
-    let none = (Vec::new(alloc), Vec::new(alloc));
-    let words = ("heap threads --fresh 1", ALONE);
-    let (played, _) = run_on(&rt, alloc, words, disk, none, &OpenGate)?;
-    same(&rt, (played.status, played.text()), (Status::DiskFault, ""));
-    Ok(())
+    let fault = (zeros.as_slice(), 2, Pick::Newest);
+    check_alone(&rt, alloc, "heap threads --fresh 1", fault, "")
 }

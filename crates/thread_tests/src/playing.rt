@@ -50,15 +50,38 @@ fn words_of(alloc: Global, line: &str) -> Result<Vec<String>, AllocError> {
     Ok(words)
 }
 
-/// A disk with these bytes whose listed writes and syncs fail.
-pub fn disk_of(
-    alloc: Global,
-    bytes: &[u8],
-    pick: Pick,
-    fails: Vec<u64>,
-) -> Result<MemoryDisk, AllocError> {
+/// What fails in a run: of each of these the call of this number, or none where it is 0.
+#[derive(Clone, Copy)]
+pub struct Faults {
+    pub disk: u64,
+    pub source: u64,
+    pub sink: u64,
+    /// What a crash leaves of what the disk was asked to write.
+    pub pick: Pick,
+}
+
+pub const NO_FAULTS: Faults = Faults {
+    disk: 0,
+    source: 0,
+    sink: 0,
+    pick: Pick::Newest,
+};
+
+/// A list of one call, which is to fail, or of none.
+fn list_of(alloc: Global, call: u64) -> Result<Vec<u64>, AllocError> {
+    let mut calls = Vec::new(alloc);
+    if call > 0 {
+        calls.push(call)?;
+    }
+    Ok(calls)
+}
+
+/// A disk with these bytes, one of whose writes and syncs may fail.
+fn disk_of(alloc: Global, bytes: &[u8], faults: &Faults) -> Result<MemoryDisk, AllocError> {
     let bytes = bytes.to_vec(alloc)?;
-    MemoryDisk::of(alloc, bytes, pick, RECORD_BYTES, fails, Vec::new(alloc))
+    let fails = list_of(alloc, faults.disk)?;
+    let none = Vec::new(alloc);
+    MemoryDisk::of(alloc, bytes, faults.pick, RECORD_BYTES, fails, none)
 }
 
 /// Runs the program. It has no clause, so that the proofs of its callers don't see what is promised of a run.
@@ -86,25 +109,26 @@ pub fn opened(rt: &impl Abort, alloc: Global, disk: MemoryDisk) -> Heap<MemoryDi
     }
 }
 
-/// Runs the program on a disk, with a source and a sink whose listed calls fail.
+/// Runs the program on a disk with these bytes, with these faults.
 pub fn run_on<R: Threads + Wait + Sync, G: Gate + Sync>(
     rt: &R,
     alloc: Global,
     (line, script): (&str, &str),
-    disk: MemoryDisk,
-    fails: (Vec<u64>, Vec<u64>),
+    (image, faults): (&[u8], &Faults),
     gate: &G,
 ) -> Result<(Played, MemoryDisk), AllocError> {
     let words = words_of(alloc, line)?;
-    let mut source = MemorySource::of(script.as_bytes().to_vec(alloc)?, fails.0);
-    let mut sink = MemorySink::of(alloc, SINK_BYTES, fails.1)?;
+    let script = script.as_bytes().to_vec(alloc)?;
+    let mut source = MemorySource::of(script, list_of(alloc, faults.source)?);
+    let mut sink = MemorySink::of(alloc, SINK_BYTES, list_of(alloc, faults.sink)?)?;
+    let disk = disk_of(alloc, image, faults)?;
     let streams = (&mut source, &mut sink);
     let (status, disk) = run_words(rt, alloc, &words, disk, streams, gate);
     let output = sink.bytes().to_vec(alloc)?;
     Ok((Played { status, output }, disk))
 }
 
-/// Runs it on a disk with these bytes, where nothing fails and no worker waits at the gate.
+/// Runs it where nothing fails and no worker waits at the gate.
 pub fn run_well<R: Threads + Wait + Sync>(
     rt: &R,
     alloc: Global,
@@ -112,9 +136,7 @@ pub fn run_well<R: Threads + Wait + Sync>(
     script: &str,
     image: &[u8],
 ) -> Result<(Played, MemoryDisk), AllocError> {
-    let disk = disk_of(alloc, image, Pick::Newest, Vec::new(alloc))?;
-    let none = (Vec::new(alloc), Vec::new(alloc));
-    run_on(rt, alloc, (line, script), disk, none, &OpenGate)
+    run_on(rt, alloc, (line, script), (image, &NO_FAULTS), &OpenGate)
 }
 
 /// The image of a new heap on which a script was played.
@@ -153,7 +175,13 @@ pub fn lines_of_session(alloc: Global, output: &str, start: &str) -> Result<Stri
 
 /// How many printed lines have this part.
 pub fn count_lines(output: &str, part: &str) -> usize {
-    output.lines().filter(|line| line.contains(part)).count()
+    let mut count: usize = 0;
+    for line in output.lines() {
+        if line.contains(part) {
+            count = count.saturating_add(1);
+        }
+    }
+    count
 }
 
 /// Whether the printed events, played alone on an equal image, write the same and leave the same bytes.

@@ -1,10 +1,9 @@
 //! Scripts that are played by threads: sessions and a collection run at the same time, and what they made is replayed.
 use crate::meeting::Sign;
 use crate::playing::{
-    FRESH_BYTES, Played, TWO_OBJECTS, count_lines, disk_of, events_of, expect_again, image_of,
+    FRESH_BYTES, NO_FAULTS, Played, TWO_OBJECTS, count_lines, events_of, expect_again, image_of,
     lines_of_session, run_on, run_well, same,
 };
-use disk_model::{MemoryDisk, Pick};
 use heap_workers::{COLLECTOR, FLUSHER, Gate};
 use std::alloc::{AllocError, Global};
 use std::process::Abort;
@@ -32,13 +31,15 @@ fn script_with_scans(alloc: Global) -> Result<String, AllocError> {
 /// Whether all was answered as it has to be in any order of the workers' events.
 fn check_each(rt: &impl Abort, played: &Played) {
     let text = played.text();
-    same(rt, played.status, Status::Done);
-    same(rt, count_lines(text, " -> busy "), 0);
-    same(rt, count_lines(text, " seal -> sealed "), 2);
-    same(rt, count_lines(text, "flip -> flipped "), 1);
-    same(rt, count_lines(text, "scan -> "), SCANS);
-    let graph = "graph 3\n0: @1 @2 - -\n1: 5\n2: 6\n";
-    same(rt, (text, text.ends_with(graph)), (text, true));
+    let counts = [
+        count_lines(text, " -> busy "),
+        count_lines(text, " seal -> sealed "),
+        count_lines(text, "flip -> flipped "),
+        count_lines(text, "scan -> "),
+    ];
+    let ends = text.ends_with("graph 3\n0: @1 @2 - -\n1: 5\n2: 6\n");
+    let found = (text, played.status, counts, ends);
+    same(rt, found, (text, Status::Done, [0, 2, 1, SCANS], true));
 }
 
 /// Each session's events come in the order of its lines.
@@ -74,22 +75,11 @@ fn each_session_writes_its_own_object_beside_a_collection(rt: HostRuntime) -> Re
     Ok(())
 }
 
-/// Runs a script by threads on a heap with these bytes, at a gate.
-fn run_at<R: Threads + Wait + Sync, G: Gate + Sync>(
-    rt: &R,
-    alloc: Global,
-    script: &str,
-    image: &[u8],
-    gate: &G,
-) -> Result<(Played, MemoryDisk), AllocError> {
-    let disk = disk_of(alloc, image, Pick::Newest, Vec::new(alloc))?;
-    let none = (Vec::new(alloc), Vec::new(alloc));
-    run_on(rt, alloc, ("heap threads", script), disk, none, gate)
-}
-
-/// Two sessions, each of which commits an object of its own that nothing refers to, beside a collection.
-const APART: &str =
-    "1 begin\n2 begin\n1 new 0 1\n2 new 0 1\n1 put 0 0 5\n2 put 0 0 6\nflip\nscan\n1 commit\n2 commit\nscan\nforce\n";
+/// Two sessions, each of which commits an object of its own that nothing refers to, beside a collection, and the command that plays them.
+const APART: (&str, &str) = (
+    "heap threads",
+    "1 begin\n2 begin\n1 new 0 1\n2 new 0 1\n1 put 0 0 5\n2 put 0 0 6\nflip\nscan\n1 commit\n2 commit\nscan\nforce\n",
+);
 
 /// Where the workers 1 and 2 meet: at turn 2 each waits for the other.
 #[derive(Drop)]
@@ -113,11 +103,10 @@ impl Gate for Meeting {
 
 /// The first session's events come in the order of its lines.
 fn check_own(rt: &impl Abort, alloc: Global, played: &Played) -> Result<(), AllocError> {
-    same(rt, played.status, Status::Done);
     let own = lines_of_session(alloc, played.text(), "1 ")?;
     let events = events_of(alloc, own.as_str())?;
     let want = "1 begin\n1 new 0 1\n1 put 0 0 5\n1 seal\n";
-    same(rt, events.as_str(), want);
+    same(rt, (played.status, events.as_str()), (Status::Done, want));
     Ok(())
 }
 
@@ -129,7 +118,7 @@ fn two_sessions_meet_and_what_they_made_is_played_again(rt: HostRuntime) -> Resu
         one: Sign::new(),
         two: Sign::new(),
     };
-    let (played, left) = run_at(&rt, alloc, APART, &image, &gate)?;
+    let (played, left) = run_on(&rt, alloc, APART, (&image, &NO_FAULTS), &gate)?;
     same(&rt, (gate.one.came(), gate.two.came()), (true, true));
     check_own(&rt, alloc, &played)?;
     expect_again(&rt, alloc, &image, (0, &played), &left)?;
@@ -201,7 +190,7 @@ fn each_worker_passes_the_gate_before_each_of_its_events(rt: HostRuntime) -> Res
     let alloc = rt.alloc();
     let image = image_of(&rt, alloc, "")?;
     let gate = Counting::new(alloc)?;
-    let (played, _) = run_at(&rt, alloc, APART, &image, &gate)?;
+    let (played, _) = run_on(&rt, alloc, APART, (&image, &NO_FAULTS), &gate)?;
     same(&rt, played.status, Status::Done);
     check_turns(&rt, &gate);
     Ok(())

@@ -1,7 +1,6 @@
 //! How a run by threads ends that can't read its script, finds no heap, or can't write its output.
 use crate::playing::{
-    FRESH_BYTES, IMAGE_BYTES, Played, TWO_OBJECTS, disk_of, image_of, opened, run_on, run_well,
-    same,
+    FRESH_BYTES, Faults, IMAGE_BYTES, Played, TWO_OBJECTS, image_of, opened, run_on, run_well, same,
 };
 use disk_model::{MemoryDisk, Pick};
 use heap_core::At;
@@ -22,26 +21,14 @@ const LINES: u64 = 12;
 
 const GRAPH: &str = "graph 3\n0: @1 @2 - -\n1: 5\n2: 6\n";
 
-/// Runs a script on a disk with these bytes, with a source and a sink whose call of that number fails.
-fn run_failing<R: Threads + Wait + Sync>(
-    rt: &R,
-    alloc: Global,
-    words: (&str, &str),
-    image: &[u8],
-    (read, write): (Option<u64>, Option<u64>),
-) -> Result<(Played, MemoryDisk), AllocError> {
-    let disk = disk_of(alloc, image, Pick::Newest, Vec::new(alloc))?;
-    let fails = (list_of(alloc, read)?, list_of(alloc, write)?);
-    run_on(rt, alloc, words, disk, fails, &OpenGate)
-}
-
-/// A list of one call, which is to fail, or of none.
-fn list_of(alloc: Global, call: Option<u64>) -> Result<Vec<u64>, AllocError> {
-    let mut calls = Vec::new(alloc);
-    if let Some(call) = call {
-        calls.push(call)?;
+/// A source and a sink whose call of this number fails.
+fn failing(source: u64, sink: u64) -> Faults {
+    Faults {
+        disk: 0,
+        source,
+        sink,
+        pick: Pick::Newest,
     }
-    Ok(calls)
 }
 
 /// Runs a command with a source whose call of that number fails, and compares its status, and that it wrote nothing, to the sink or to the disk.
@@ -49,10 +36,11 @@ fn expect_untouched<R: Threads + Wait + Abort + Sync>(
     rt: &R,
     alloc: Global,
     (line, script): (&str, &str),
-    (image, read): (&[u8], Option<u64>),
+    (image, read): (&[u8], u64),
     status: Status,
 ) -> Result<(), Fail> {
-    let (played, left) = run_failing(rt, alloc, (line, script), image, (read, None))?;
+    let faults = failing(read, 0);
+    let (played, left) = run_on(rt, alloc, (line, script), (image, &faults), &OpenGate)?;
     let found = (played.status, played.text(), left.contents() == image);
     same(
         rt,
@@ -69,17 +57,17 @@ const LINES_OF_THREADS: [&str; 3] = [
     "heap threads --tries 2 --fresh 1",
 ];
 
-/// Scripts, the call of their source that fails, and how a run ends that can't read them. The first call gives the script, and the second one says that
-/// it has ended. For a bad script the first bad line is reported.
-const UNREAD: [(&str, Option<u64>, Status); 8] = [
-    (ONE_EACH, Some(1), Status::ReadFault),
-    (ONE_EACH, Some(2), Status::ReadFault),
-    ("1 begin\n1 root 0\n1 pu", None, Status::Script { line: 3 }),
-    ("1 begin\n33 root 0\n", None, Status::Script { line: 2 }),
-    ("0 begin\n", None, Status::Script { line: 1 }),
-    ("\n\nforce 1\n", None, Status::Script { line: 3 }),
-    ("flip\n1 scan\n2 pu\n", None, Status::Script { line: 2 }),
-    (" 1 begin\n", None, Status::Script { line: 1 }),
+/// Scripts, the call of their source that fails, if one does, and how a run ends that can't read them. The first call gives the script, and the
+/// second one says that it has ended. For a bad script the first bad line is reported.
+const UNREAD: [(&str, u64, Status); 8] = [
+    (ONE_EACH, 1, Status::ReadFault),
+    (ONE_EACH, 2, Status::ReadFault),
+    ("1 begin\n1 root 0\n1 pu", 0, Status::Script { line: 3 }),
+    ("1 begin\n33 root 0\n", 0, Status::Script { line: 2 }),
+    ("0 begin\n", 0, Status::Script { line: 1 }),
+    ("\n\nforce 1\n", 0, Status::Script { line: 3 }),
+    ("flip\n1 scan\n2 pu\n", 0, Status::Script { line: 2 }),
+    (" 1 begin\n", 0, Status::Script { line: 1 }),
 ];
 
 #[test]
@@ -146,7 +134,7 @@ fn what_is_refused_is_left(rt: HostRuntime) -> Result<(), Fail> {
     let image = image_of(&rt, alloc, TWO_OBJECTS)?;
     for (line, changes, status) in &REFUSED {
         let bytes = spoiled(alloc, &image, changes)?;
-        expect_untouched(&rt, alloc, (*line, ONE_EACH), (&bytes, None), *status)?;
+        expect_untouched(&rt, alloc, (*line, ONE_EACH), (&bytes, 0), *status)?;
     }
     Ok(())
 }
@@ -187,7 +175,8 @@ fn check_refused<R: Threads + Wait + Abort + Sync>(
     piece: u64,
 ) -> Result<bool, Fail> {
     let words = ("heap threads", script);
-    let (played, left) = run_failing(rt, alloc, words, image, (None, Some(piece)))?;
+    let faults = failing(0, piece);
+    let (played, left) = run_on(rt, alloc, words, (image, &faults), &OpenGate)?;
     expect_made(rt, alloc, piece, left)?;
     Ok(was_refused(rt, piece, &played))
 }
