@@ -57,7 +57,7 @@ const NOTHING: Copied = Copied {
     used: 0,
 };
 
-/// The same with what the scans until its end copied.
+/// What a flip copied, with what the scans after it copied until the end of its collection.
 fn scanned(flipped: Copied, told: &str) -> Option<Copied> {
     let mut copied = flipped;
     for line in told.lines() {

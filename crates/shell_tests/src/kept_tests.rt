@@ -391,7 +391,7 @@ fn open(rt: &impl Abort, alloc: Global, disk: MemoryDisk) -> Heap<MemoryDisk> {
     }
 }
 
-/// A step after the fifth entry reports it.
+/// What a step reports after the fifth entry failed.
 const FAILED: Reply = Reply::Refused {
     why: Refusal::Failed { entry: 5 },
 };

@@ -448,7 +448,9 @@ fn write_call(
 ) -> Result<(), AllocError> {
     write!(script, "{s}{verb}")?;
     for place in named {
-        write_number(script, numbers[*place % 3])?;
+        if let Some(number) = numbers.get(*place) {
+            write_number(script, *number)?;
+        }
     }
     script.push('\n')
 }
