@@ -153,7 +153,8 @@ fn brief(history: &History) -> usize {
 }
 
 /// Numbers, and how many of the 48 entries with them take the brief form: all of them with the largest ordinary numbers. With one more
-/// each, of the events 10 have a handle or a page, of the replies 9 a number that is not the one in a field, of the refusals 5.
+/// each but for the session, of the events 10 have a handle or a page, of the replies 9 a number that is not the one in a field, of the
+/// refusals 5. Then one more for the session alone, and for the field alone, which 4 events have.
 const BRIEF: [(Numbers, usize); 4] = [
     ((255, 255, 65_535, 4_294_967_295), 48),
     ((1, 256, 65_536, 4_294_967_296), 48 - 10 - 9 - 5),
@@ -211,7 +212,7 @@ fn come_back(rt: &impl Abort, history: &History, entries: &[Answered]) {
     same(rt, (found.next(), history.get(entries.len())), (None, None));
 }
 
-/// Entries of which each of the first list is followed by one of the second: one takes the brief form, and the other does not.
+/// Entries come back where each of the first list is followed by one of the second: one list has ordinary numbers, the other large ones.
 fn check_kept(
     rt: &(impl Abort + AllocGlobal),
     first: &[Answered],
