@@ -272,7 +272,7 @@ fn check_row(
 }
 
 #[test]
-fn redone_as_replayed(rt: HostRuntime) -> Result<(), Fail> {
+fn redone_after_a_restart(rt: HostRuntime) -> Result<(), Fail> {
     let records = records(rt.alloc())?;
     let words = words_left(rt.alloc())?;
     for row in &ROWS {
