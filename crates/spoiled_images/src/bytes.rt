@@ -13,7 +13,7 @@ pub fn number_in(bytes: &[u8], at: usize, size: usize) -> Option<u64> {
     Some(number)
 }
 
-/// The number which is known to stand there.
+/// The number that stands there, or 0 if not all of its bytes do.
 pub fn number(bytes: &[u8], at: usize, size: usize) -> u64 {
     number_in(bytes, at, size).unwrap_or(0)
 }

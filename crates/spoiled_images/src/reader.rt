@@ -202,7 +202,8 @@ fn read_batches<'a>(log: &'a [u8], records: &mut Vec<Record<'a>>) -> Result<Batc
     Ok(Batches::Broken(last))
 }
 
-/// Adds the records of the batch whose open gate comes first, and returns its size, if it is whole but for the next gate.
+/// Adds the records of the batch whose open gate comes first, and returns its size, if it is whole but for the next gate. A length that is cut short
+/// counts as 0: then the next gate lies behind the log.
 fn read_batch<'a>(
     bytes: &'a [u8],
     records: &mut Vec<Record<'a>>,

@@ -54,6 +54,12 @@ const FIRST_COPY: usize = 5;
 /// The object of a Base or of a Copy.
 const ONLY_OBJECT: usize = 1;
 
+/// The bytes of a Commit and of an End: a kind and a transaction.
+const COMMIT_BYTES: usize = 5;
+
+/// The bytes of a Collected: its kind.
+const COLLECTED_BYTES: usize = 1;
+
 const WORD_BYTES: usize = 8;
 
 /// The bytes of a write: an address and a word.
@@ -142,11 +148,16 @@ fn record_end(bytes: &[u8]) -> Option<usize> {
     match number(bytes, KIND.0, KIND.1) {
         UPDATE => parts_end(bytes, WORD.0, WORD_BYTES, 2),
         FIX | UNDO => parts_end(bytes, WORD.0, WORD_BYTES, 1),
-        COMMIT | END => Some(OBJECT.0),
+        COMMIT | END => Some(COMMIT_BYTES),
         BASE | COPY => objects_end(bytes, ONLY_OBJECT, 1),
-        SCAN => parts_end(bytes, FIRST_WRITE, WRITE_BYTES, number(bytes, 5, 2)),
-        FLIP => objects_end(bytes, FIRST_COPY, number(bytes, 1, 4)),
-        COLLECTED => Some(ONLY_OBJECT),
+        SCAN => parts_end(
+            bytes,
+            FIRST_WRITE,
+            WRITE_BYTES,
+            number(bytes, WRITES.0, WRITES.1),
+        ),
+        FLIP => objects_end(bytes, FIRST_COPY, number(bytes, COPIES.0, COPIES.1)),
+        COLLECTED => Some(COLLECTED_BYTES),
         _ => None,
     }
 }
