@@ -6,8 +6,9 @@
 The heap is a list of directories of 509 leaves each, reached from the root; N is how many directories the short one has, 16 if left out, and
 at most 32. Each run begins on a copy of the same file. Whole runs are timed by the processor time of the program, which other work on the
 machine changes least, and the least of 9 runs counts; the time of a run on an empty script, which opens the heap and prints its graph, is
-taken off. Beside the C program 30 rounds count, in each of which all take their turn. Its memory was written before its clock began, so that what is timed are
-collections after others and a force, whose memory the log has kept; what is taken off is a run with as many scans that have nothing to do in their place. Pauses are the processor time of `heap session` between a line and its answer, as Linux tells it. It needs gcc, measures, and judges
+taken off. Beside the C program 30 rounds count, in each of which all take their turn. Its memory was written before its clock began; so what is timed are
+collections after others and a force, whose memory the log has kept, with a force after each six; what is taken off is a run with as many scans
+that have nothing to do in their place. Pauses are the processor time of `heap session` between a line and its answer, as Linux tells it. It needs gcc, measures, and judges
 nothing. With --quick the program is that which is compiled with nothing proved; it has checks at each step, and its times say little.
 """
 import os
@@ -26,6 +27,7 @@ ROUNDS = 30
 PAUSES = 15
 LEAVES = 509
 COLLECTIONS = 6
+AGAIN = 4
 
 
 def spent():
@@ -56,9 +58,9 @@ def words_of(directories, leaf_words):
 
 
 def log_bytes(directories, leaf_words):
-    """Room for the transactions that make the heap, and for two rounds of collections of it."""
+    """Room for the transactions that make the heap, and for all collections of it."""
     objects = directories * (LEAVES + 1)
-    return 1_048_576 + (2 * COLLECTIONS + 2) * (8 * words_of(directories, leaf_words) + 60 * objects)
+    return 1_048_576 + ((1 + AGAIN) * COLLECTIONS + 2) * (8 * words_of(directories, leaf_words) + 60 * objects)
 
 
 def build(name, directories, leaf_words=4):
@@ -110,8 +112,8 @@ def by_size(n):
     print(f"a collection of {2 * n * (LEAVES + 1)} live objects takes {long / short:.2f} times as long as one of {n * (LEAVES + 1)}")
 
 
-def copies_of_c(directories, leaf_words):
-    args = ["./collection", "log", str(directories), str(leaf_words), str(COLLECTIONS)]
+def copies_of_c(directories, leaf_words, times):
+    args = ["./collection", "log", str(directories), str(leaf_words), str(times)]
     return float(subprocess.run(args, stdout=subprocess.PIPE, check=True).stdout)
 
 
@@ -119,23 +121,24 @@ def beside_c(n, leaf_words):
     """Copies of a heap whose leaves have so many words. Larger leaves are fewer, so that about as many words are copied."""
     n = max(1, 4 * n // leaf_words)
     build("copied", n, leaf_words)
-    before, again = collections(n, leaf_words) + "force\n", collections(n, leaf_words)
-    idle = "scan\n" * (COLLECTIONS * (scans(n, leaf_words) + 1))
+    copies = collections(n, leaf_words) + "force\n"
+    idle = "scan\n" * (COLLECTIONS * (scans(n, leaf_words) + 1)) + "force\n"
     rounds = [
         (
-            timed_once("copied", before + again, ("collected", 2 * COLLECTIONS)),
-            timed_once("copied", before + idle, ("collected", COLLECTIONS)),
-            timed_once("copied", again, ("collected", COLLECTIONS)),
+            timed_once("copied", copies + AGAIN * copies, ("collected", (1 + AGAIN) * COLLECTIONS)),
+            timed_once("copied", copies + AGAIN * idle, ("collected", COLLECTIONS)),
+            copies_of_c(n, leaf_words, AGAIN * COLLECTIONS),
+            timed_once("copied", copies, ("collected", COLLECTIONS)),
             timed_once("copied", "", ("collected", 0)),
-            copies_of_c(n, leaf_words),
+            copies_of_c(n, leaf_words, COLLECTIONS),
         )
         for _ in range(ROUNDS)
     ]
-    both, base, first, empty, c = map(min, zip(*rounds))
-    words, ours = COLLECTIONS * words_of(n, leaf_words), both - base
+    whole, base, c, first, empty, c_first = map(min, zip(*rounds))
+    words, ours = AGAIN * COLLECTIONS * words_of(n, leaf_words), whole - base
     print(
         f"leaves of {leaf_words} words: {words / ours / 1e6:.1f} million words copied a second, the C program {words / c / 1e6:.1f}: ratio {c / ours:.2f};"
-        f" {c / (first - empty):.2f} in first collections, with new memory for the log and the text of their lines"
+        f" {c_first / (first - empty):.2f} in first collections, with new memory for the log and the text of their lines"
     )
 
 

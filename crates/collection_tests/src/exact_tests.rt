@@ -114,19 +114,18 @@ fn check_script(rt: &impl Abort, alloc: Global, seed: u64, script: &str) -> Resu
     let told = Told::of(rt, alloc, script)?;
     let graph = told.heap.text(told.heap.sealed())?;
     let played = play(alloc, FRESH, script, Pick::Newest)?;
-    expect_exact(rt, seed, &played, &graph);
-    let text = str::from_utf8(&graph).unwrap_or("");
+    let text = str::from_utf8(&graph).unwrap_or("no text");
+    expect_exact(rt, seed, &played, text);
     Ok(is_cleared(told.lines.as_str(), text))
 }
 
-fn expect_exact(rt: &impl Abort, seed: u64, played: &Played, graph: &[u8]) {
+fn expect_exact(rt: &impl Abort, seed: u64, played: &Played, graph: &str) {
     let output = str::from_utf8(&played.output).unwrap_or("");
-    let text = str::from_utf8(graph).unwrap_or("");
     let found = last_collection(output);
-    let want = graph_size(text);
+    let want = graph_size(graph);
     same(
         rt,
-        (seed, played.status, found, played.output.ends_with(graph)),
+        (seed, played.status, found, output.ends_with(graph)),
         (seed, Status::Done, Some(want), true),
     );
 }
