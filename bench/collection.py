@@ -14,6 +14,7 @@ nothing. With --quick the program is that which is compiled with nothing proved;
 import os
 import resource
 import shutil
+import statistics
 import subprocess
 import sys
 import tempfile
@@ -26,6 +27,7 @@ RUNS = 9
 ROUNDS = 30
 PAUSES = 15
 LEAVES = 509
+LOG = 12 * 1_048_576
 COLLECTIONS = 6
 AGAIN = 4
 
@@ -58,15 +60,15 @@ def words_of(directories, leaf_words):
 
 
 def log_bytes(directories, leaf_words):
-    """Room for the transactions that make the heap, and for all collections of it."""
+    """Room for the transactions that make the heap, and for all collections of it that are timed beside the C program."""
     objects = directories * (LEAVES + 1)
     return 1_048_576 + ((1 + AGAIN) * COLLECTIONS + 2) * (8 * words_of(directories, leaf_words) + 60 * objects)
 
 
-def build(name, directories, leaf_words=4):
+def build(name, directories, leaf_words=4, log=LOG):
     """A heap of so many directories, kept in a file of this name. Its objects are in the spaces for the first time."""
     pages = words_of(directories, leaf_words) // 64 + 8
-    run(["format", str(pages), str(log_bytes(directories, leaf_words)), "1"])
+    run(["format", str(pages), str(log), "1"])
     for made in range(directories):
         run(["play"], directory(leaf_words, made == 0))
     os.replace("heap.img", name)
@@ -112,32 +114,34 @@ def by_size(n):
     print(f"a collection of {2 * n * (LEAVES + 1)} live objects takes {long / short:.2f} times as long as one of {n * (LEAVES + 1)}")
 
 
-def copies_of_c(directories, leaf_words, times):
-    args = ["./collection", "log", str(directories), str(leaf_words), str(times)]
+def copies_of_c(directories, leaf_words, rounds):
+    args = ["./collection", "log", str(directories), str(leaf_words), str(COLLECTIONS), str(rounds)]
     return float(subprocess.run(args, stdout=subprocess.PIPE, check=True).stdout)
 
 
 def beside_c(n, leaf_words):
-    """Copies of a heap whose leaves have so many words. Larger leaves are fewer, so that about as many words are copied."""
+    """Copies of a heap whose leaves have so many words. Larger leaves are fewer, so that about as many words are copied where n is 16 or more."""
     n = max(1, 4 * n // leaf_words)
-    build("copied", n, leaf_words)
+    build("copied", n, leaf_words, log_bytes(n, leaf_words))
     copies = collections(n, leaf_words) + "force\n"
     idle = "scan\n" * (COLLECTIONS * (scans(n, leaf_words) + 1)) + "force\n"
     rounds = [
         (
             timed_once("copied", copies + AGAIN * copies, ("collected", (1 + AGAIN) * COLLECTIONS)),
             timed_once("copied", copies + AGAIN * idle, ("collected", COLLECTIONS)),
-            copies_of_c(n, leaf_words, AGAIN * COLLECTIONS),
+            copies_of_c(n, leaf_words, AGAIN),
             timed_once("copied", copies, ("collected", COLLECTIONS)),
             timed_once("copied", "", ("collected", 0)),
-            copies_of_c(n, leaf_words, COLLECTIONS),
+            copies_of_c(n, leaf_words, 1),
         )
         for _ in range(ROUNDS)
     ]
     whole, base, c, first, empty, c_first = map(min, zip(*rounds))
     words, ours = AGAIN * COLLECTIONS * words_of(n, leaf_words), whole - base
+    own = statistics.median(each[2] / (each[0] - each[1]) for each in rounds)
     print(
-        f"leaves of {leaf_words} words: {words / ours / 1e6:.1f} million words copied a second, the C program {words / c / 1e6:.1f}: ratio {c / ours:.2f};"
+        f"leaves of {leaf_words} words: {words / ours / 1e6:.1f} million words copied a second, the C program {words / c / 1e6:.1f}: ratio {c / ours:.2f}"
+        f" of the least times, {own:.2f} in the median of the rounds;"
         f" {c_first / (first - empty):.2f} in first collections, with new memory for the log and the text of their lines"
     )
 
