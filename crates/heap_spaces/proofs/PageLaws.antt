@@ -201,13 +201,17 @@ within bits i small here =
       | inr ge ↦ absurd (false≢true (sym (ap (λ b. b == 1) (bit_at_above bits 64 i small ge)) ∙ here))
     ]
 
--- an address of a page by its place
-pub named_at : (pages : List ℕ) (page place : ℕ) → place < 64 → is_set (get_or pages page 0) place ≡ true → contains (named pages) (64 * page + place) ≡ true
+-- whether a page names an address, by its place
+pub bits_named : (pages : List ℕ) (page place : ℕ) → place < 64 → contains (named pages) (64 * page + place) ≡ is_set (get_or pages page 0) place
 unfolding is_named
-named_at pages page place lt here =
+bits_named pages page place lt =
     let there : page_of (64 * page + place) ≡ page = omega arith in
     let spot : (64 * page + place) % 64 ≡ place = omega arith in
-    seen pages (64 * page + place) ∙ (λ i. is_set (get_or pages (there i) 0) (spot i)) ∙ here
+    seen pages (64 * page + place) ∙ (λ i. is_set (get_or pages (there i) 0) (spot i))
+
+-- an address of a page by its place
+pub named_at : (pages : List ℕ) (page place : ℕ) → place < 64 → is_set (get_or pages page 0) place ≡ true → contains (named pages) (64 * page + place) ≡ true
+named_at pages page place lt here = bits_named pages page place lt ∙ here
 
 -- no bit of a page's is before the first one from a place on
 pub least_in : (pages : List ℕ) (p low place q : ℕ) → ((i : ℕ) → low ≤ i → i < place → is_set (get_or pages p 0) i ≡ false) → place < 64 → contains (named pages) q ≡ true → 64 * p + low ≤ q → 64 * p + place ≤ q

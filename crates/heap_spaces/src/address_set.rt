@@ -1,7 +1,7 @@
 //! Sets of word addresses.
 ghost use Rattle.std.specs.Prelude.{◌≡◌, ◌+◌, ◌*◌, ◌%◌, ◌≤◌, ◌<◌, ◌^◌, ◌↔◌, ℕ, true, false, OnOk, IfSome, IfNone, IsTrue, slice_index};
 ghost use Rattle.std.specs.FinSet.{empty, contains, insert, remove};
-ghost use Rattle.heap_spaces.specs.Addresses.{AddressState, without_page};
+ghost use Rattle.heap_spaces.specs.Addresses.{AddressState, is_set, without_page};
 ghost use Rattle.heap_spaces.specs.Collection.{page_of};
 
 use crate::page_bits::{first_bit, first_bit_from, has_bit, with_bit, without_bit};
@@ -113,6 +113,13 @@ impl AddressSet {
         while self.first < self.pages.len() && self.pages[self.first] == 0 {
             self.first += 1;
         }
+    }
+
+    /// Which words of a page are among them, as its bits.
+    pub(crate) fn bits_in(&self, page: u32) -> u64
+        ensures { (place : ℕ) → place < 64 → is_set result place ≡ contains self.now.set (64 * page + place) }
+    {
+        page_bits(&self.pages, page as usize)
     }
 
     /// The least address in a page.

@@ -1,7 +1,8 @@
 //! A collection that runs.
 ghost use Rattle.std.specs.List.{list_any};
-ghost use Rattle.std.specs.Prelude.{◌≡◌, ◌+◌, ◌≤◌, ◌<◌, ◌^◌, ◌↔◌, ◌==◌, ◌&&◌, not, ℕ, true, false, sum_by, Some, IfSome, IfNone, OnOk, OnErr, IsTrue};
+ghost use Rattle.std.specs.Prelude.{◌≡◌, ◌+◌, ◌*◌, ◌≤◌, ◌<◌, ◌^◌, ◌↔◌, ◌==◌, ◌&&◌, not, ℕ, true, false, sum_by, Some, IfSome, IfNone, OnOk, OnErr, IsTrue};
 ghost use Rattle.std.specs.FinSet.{empty, contains};
+ghost use Rattle.heap_spaces.specs.Addresses.{is_set};
 ghost use Rattle.heap_spaces.specs.Collection.{owed_by, page_of};
 ghost use Rattle.heap_spaces.specs.declared.collection.CopiedObject.{CopiedObject};
 ghost use Rattle.heap_spaces.specs.Copying.{begun, with_copies, with_scanned, IsLeastGrayPage};
@@ -95,6 +96,13 @@ impl Collection {
         ensures { result ≡ contains self.now.gray at }
     {
         self.gray.contains(at)
+    }
+
+    /// Which words of a page have a gray object, as its bits: the lowest is the page's first word.
+    pub fn gray_bits(&self, page: u32) -> u64
+        ensures { (place : ℕ) → place < 64 → is_set result place ≡ contains self.now.gray (64 * page + place) }
+    {
+        self.gray.bits_in(page)
     }
 
     /// The least address of a gray object from this one on.

@@ -10,6 +10,7 @@ ghost use Rattle.heap_spaces.specs.Spaces.{IsSpaces, free_words, open_words, wit
 
 pub use collection::{Collection, CopiedObject};
 use heap_words::PAGE_WORDS;
+pub use page_bits::{first_bit_from, with_bit};
 use std::marker::Model;
 
 /// Fewer words may be taken than are needed.

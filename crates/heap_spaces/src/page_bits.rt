@@ -11,8 +11,8 @@ pub(crate) fn has_bit(bits: u64, place: u32) -> bool
     bits >> place & 1 == 1
 }
 
-/// With the word at a place.
-pub(crate) fn with_bit(bits: u64, place: u32) -> u64
+/// The bits of a page with the word at a place, from 0 to 63, besides.
+pub fn with_bit(bits: u64, place: u32) -> u64
     requires { place < 64 }
     ensures here { is_set result place ≡ true }
     ensures other { (i : ℕ) → i < 64 → i ≢ place → is_set result i ≡ is_set bits i }
@@ -43,8 +43,8 @@ pub(crate) fn first_bit(bits: u64) -> Option<u32>
     Some(bits.trailing_zeros())
 }
 
-/// The first of them from a place on.
-pub(crate) fn first_bit_from(bits: u64, place: u32) -> Option<u32>
+/// The place of the first word that the bits of a page have, from a place on, which is from 0 to 63.
+pub fn first_bit_from(bits: u64, place: u32) -> Option<u32>
     requires { place < 64 }
     ensures low { IfSome result (λ found. found < 64) }
     ensures some { IfSome result (λ found. is_set bits found ≡ true) }
