@@ -1,10 +1,11 @@
 -- What is left to be visited, and to be followed.
-use Rattle.std.proofs.Common.{◌≡◌, ℕ, zero, suc, ◌+◌, ◌-◌, ◌<◌, List, length, take, drop, get_or, Option, None, Some, refl, ap, ◌∙◌, arith}
-use Rattle.std.specs.Prelude.{option_and_then}
+use Rattle.std.proofs.Common.{◌≡◌, ℕ, zero, suc, ◌+◌, ◌-◌, ◌≤◌, ◌<◌, false, List, length, take, drop, get_or, Option, None, Some, refl, sym, ap, ◌∙◌, arith}
+use Rattle.std.specs.Prelude.{option_and_then, if◌then◌else◌}
 use Rattle.heap_spaces.specs.Collection.{Collection}
 use Rattle.heap_spaces.specs.Spaces.{SpacesState}
 use Rattle.heap_words.specs.Word.{meaning}
-use Rattle.page_scanner.specs.Scan.{Planned, follow, follow_all, visit, visit_all}
+use Rattle.object_layout.specs.Layout.{field_words}
+use Rattle.page_scanner.specs.Scan.{Planned, follow, follow_all, is_gray, source, visit, visit_all}
 use Rattle.page_scanner.proofs.Fields.{run_next}
 
 visit_next : (spaces : SpacesState) (k : Collection) (words : List ℕ) (q : Planned) (at count : ℕ) → 0 < count
@@ -25,6 +26,24 @@ visit_on spaces k words q r at count some is =
 pub visit_stop : (spaces : SpacesState) (k : Collection) (words : List ℕ) (q : Planned) (at count : ℕ) → 0 < count → visit spaces k words q at ≡ None → visit_all spaces k words q at count ≡ None
 visit_stop spaces k words q at count some is =
     visit_next spaces k words q at count some ∙ ap (option_and_then (λ next. visit_all spaces k words next (at + 1) (count - 1))) is
+
+-- places where no object is gray are passed
+pub visit_past : (spaces : SpacesState) (k : Collection) (words : List ℕ) (q : Planned) (at count n : ℕ) → n ≤ count → ((i : ℕ) → i < n → is_gray k q (at + i) ≡ false)
+    → visit_all spaces k words q at count ≡ visit_all spaces k words q (at + n) (count - n)
+visit_past spaces k words q at count zero within none =
+    let here : at ≡ at + 0 = omega arith in
+    let all : count ≡ count - 0 = omega arith in
+    (λ i. visit_all spaces k words q (here i) (all i))
+visit_past spaces k words q at count (suc n) within none =
+    let here : at + 0 ≡ at = omega arith in
+    let not_gray : is_gray k q at ≡ false = ap (is_gray k q) (sym here) ∙ none 0 (omega arith) in
+    let stays : visit spaces k words q at ≡ Some q = ap (λ b. if b then follow_all spaces k words q (at + 2) (field_words words (source q at)) else Some q) not_gray in
+    let next = λ (i : ℕ) (lt : i < n). let on : at + 1 + i ≡ at + suc i = omega arith in ap (is_gray k q) on ∙ none (suc i) (omega (arith, lt)) in
+    let to : at + 1 + n ≡ at + suc n = omega arith in
+    let left : count - 1 - n ≡ count - suc n = omega arith in
+    visit_on spaces k words q q at count (omega (arith, within)) stays
+    ∙ visit_past spaces k words q (at + 1) (count - 1) n (omega (arith, within)) next
+    ∙ (λ i. visit_all spaces k words q (to i) (left i))
 
 -- all were visited
 pub visit_end : (spaces : SpacesState) (k : Collection) (words : List ℕ) (q : Planned) (at count : ℕ) → count ≡ 0 → visit_all spaces k words q at count ≡ Some q

@@ -1,5 +1,7 @@
 //! The plan of a scan, as it grows.
-ghost use Rattle.std.specs.Prelude.{◌≡◌, ◌+◌, ◌*◌, ◌≤◌, ◌<◌, ◌++◌, [], ◌∷◌, length, take, drop, vec_len, IsTrue, IfOk, OnOk, Err, None, Some};
+ghost use Rattle.std.specs.Prelude.{◌≡◌, ◌+◌, ◌*◌, ◌≤◌, ◌<◌, ◌==◌, ◌||◌, ◌++◌, ℕ, true, false, [], ◌∷◌, length, take, drop, vec_len, IsTrue, IfOk, OnOk, Err, None, Some};
+ghost use Rattle.heap_spaces.specs.Addresses.{is_set};
+ghost use Rattle.heap_spaces.specs.Collection.{Collection as CollectionState};
 ghost use Rattle.heap_words.specs.Word.{meaning};
 ghost use Rattle.log_records.specs.declared.Record.TheVariants.{Copy as CopyOf};
 ghost use Rattle.object_layout.specs.Layout.{object_at as object_of};
@@ -12,7 +14,7 @@ use crate::destinations::Destinations;
 use crate::reading::{field_count, header_at, read_words};
 use crate::scan_error::ScanError;
 use crate::spaces::{is_in_from_space, is_left, space_words};
-use heap_spaces::{Collection, CopiedObject, Spaces};
+use heap_spaces::{Collection, CopiedObject, Spaces, first_bit_from, with_bit};
 use heap_words::{FIELDS_AT, Header, PAGE_WORDS, STABLE_WORDS, Word, decode, encode};
 use object_layout::{Words, object_at};
 use std::alloc::{AllocError, Global};
@@ -37,10 +39,12 @@ pub(crate) struct Plan {
     pub(crate) first: u32,
     /// Where each copy comes from that stands in the page, by its place there.
     pub(crate) sources: [Option<u32>; PAGE_WORDS as usize],
+    /// Which words of the page have such a copy, as its bits.
+    pub(crate) placed: u64,
 }
 
 impl Plan {
-    ghost use Rattle.page_scanner.specs.Plan.{planned, with_source, IsPlan};
+    ghost use Rattle.page_scanner.specs.Plan.{planned, with_source, ArePageBits, IsPlan};
 
     /// Nothing is planned yet for the page that begins at the address `first`. Does not allocate.
     pub(crate) fn new(alloc: Global, first: u32) -> Plan
@@ -57,10 +61,30 @@ impl Plan {
             destinations: Destinations::new(alloc),
             first,
             sources: [None; PAGE_WORDS as usize],
+            placed: 0,
         }
     }
 
-    /// Follows the fields of the object at an address of the page, if it is gray.
+    /// The first place of the page from this one on at which a gray object stands or one is copied, or the number of a page's words. The gray
+    /// objects are given as the page's bits.
+    pub(crate) fn next_gray(&self, gray: u64, place: u32) -> u32
+        requires plan { IsPlan self.now }
+        requires within { place ≤ 64 }
+        ensures from { place ≤ result }
+        ensures low { result ≤ 64 }
+        ensures gray { (k : CollectionState) → ArePageBits gray k self.now.first → result < 64 → plans.is_gray k (planned self.now) (self.now.first + result) ≡ true }
+        ensures passed { (k : CollectionState) → ArePageBits gray k self.now.first → (i : ℕ) → place ≤ i → i < result → plans.is_gray k (planned self.now) (self.now.first + i) ≡ false }
+    {
+        if place >= PAGE_WORDS {
+            return PAGE_WORDS;
+        }
+        match first_bit_from(gray | self.placed, place) {
+            Some(found) => found,
+            None => PAGE_WORDS,
+        }
+    }
+
+    /// Follows the fields of the gray object at an address of the page.
     pub(crate) fn visit<W: Words>(
         &mut self,
         words: &mut W,
@@ -72,6 +96,7 @@ impl Plan {
         requires low { at < 2147483648 }
         requires from { self.old.first ≤ at }
         requires before { at < self.old.first + 64 }
+        requires gray { plans.is_gray collection.now (planned self.old) at ≡ true }
         ensures visited { IsTrue W.tells → OnOk result (plans.visit spaces.now collection.now (W.content words.old) (planned self.old) at ≡ Some (planned self.new)) }
         ensures damaged { IsTrue W.tells → result ≡ Err Damaged → plans.visit spaces.now collection.now (W.content words.old) (planned self.old) at ≡ None }
         ensures plan { OnOk result (IsPlan self.new) }
@@ -79,22 +104,9 @@ impl Plan {
         ensures few { OnOk result (vec_len self.new.writes ≤ vec_len self.old.writes + 510) }
         ensures read { IsRead W.tells W.extent W.content W.keeps W.faults W.stops words.old words.new (scan_failure result) }
     {
-        if !self.is_gray(collection, at) {
-            return Ok(());
-        }
         let source = self.source(at);
         let n = field_count(words, source)?;
         self.follow_all(words, spaces, collection, at, source, n)
-    }
-
-    // Whether a gray object stands at an address, or one that is copied there.
-    fn is_gray(&self, collection: &Collection, at: u32) -> bool
-        requires plan { IsPlan self.now }
-        requires from { self.now.first ≤ at }
-        requires before { at < self.now.first + 64 }
-        ensures { result ≡ plans.is_gray collection.now (planned self.now) at }
-    {
-        collection.is_gray(at) || self.copied_from(at).is_some()
     }
 
     // Where the words of the object that is to stand at an address are.
@@ -321,10 +333,13 @@ impl Plan {
     // Notes where a copy comes from, if it stands in the page.
     fn note_source(&mut self, from: u32, to: u32)
         requires { length self.old.sources ≡ 64 }
-        ensures { self.new ≡ record self.old { sources = with_source self.old.sources self.old.first from to } }
+        ensures noted { self.new ≡ record self.old { sources = with_source self.old.sources self.old.first from to; placed = self.new.placed } }
+        ensures placed { (place : ℕ) → place < 64 → is_set self.new.placed place ≡ (to == self.old.first + place || is_set self.old.placed place) }
     {
         if self.first <= to && to - self.first < PAGE_WORDS {
-            self.sources[(to - self.first) as usize] = Some(from);
+            let place = to - self.first;
+            self.sources[place as usize] = Some(from);
+            self.placed = with_bit(self.placed, place);
         }
     }
 

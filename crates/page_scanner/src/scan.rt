@@ -71,7 +71,7 @@ fn plan_records<W: Words>(
         return Err(ScanError::Damaged);
     }
     let mut plan = Plan::new(alloc, PAGE_WORDS * page);
-    visit_page(&mut plan, words, spaces, collection)?;
+    visit_page(&mut plan, words, spaces, collection, page)?;
     Ok(PageScan::of(page, plan))
 }
 
@@ -81,8 +81,10 @@ fn visit_page<W: Words>(
     words: &mut W,
     spaces: &Spaces,
     collection: &Collection,
+    page: u32,
 ) -> Result<(), ScanError>
     requires plan { IsPlan plan.old }
+    requires page { plan.old.first ≡ 64 * page }
     requires low { plan.old.first + 64 < 2147483648 }
     ensures visited { IsTrue W.tells → OnOk result (visit_all spaces.now collection.now (W.content words.old) (planned plan.old) plan.old.first 64 ≡ Some (planned plan.new)) }
     ensures damaged { IsTrue W.tells → result ≡ Err Damaged → visit_all spaces.now collection.now (W.content words.old) (planned plan.old) plan.old.first 64 ≡ None }
@@ -91,8 +93,12 @@ fn visit_page<W: Words>(
     ensures read { IsRead W.tells W.extent W.content W.keeps W.faults W.stops words.old words.new (scan_failure result) }
 {
     let first = plan.first;
-    for at in first..first + PAGE_WORDS {
-        plan.visit(words, spaces, collection, at)?;
+    let gray = collection.gray_bits(page);
+    let mut place = plan.next_gray(gray, 0);
+    while place < PAGE_WORDS {
+        plan.visit(words, spaces, collection, first + place)?;
+        // A visit may have copied objects into the page.
+        place = plan.next_gray(gray, place + 1);
     }
     Ok(())
 }

@@ -28,8 +28,8 @@ returns-clause-copies g c told =
     let all : length words + length found.0 ≡ length words + length run =
     sym (length-append words found.0) ∙ ap (λ (l : List ℕ). length l) (sym found.1 ∙ these) ∙ length-append words run in
     let size : length run ≡ c.args.size = omega (arith, found.2, all) in
-    let copies = ap (λ (q : Plan). q.copies.items) c.note_source.ensures ∙ c.in_ok-push.ensures.items in
-    let grown = ap (λ (q : Plan). q.words.items) c.note_source.ensures ∙ these in
+    let copies = ap (λ (q : Plan). q.copies.items) c.note_source.ensures.noted ∙ c.in_ok-push.ensures.items in
+    let grown = ap (λ (q : Plan). q.words.items) c.note_source.ensures.noted ∙ these in
     let count : c.args.from + c.args.size - c.args.from ≡ c.args.size = omega arith in
     records_grown p.copies.items _ words _ k run c.requires.plan.filled size copies grown
     ∙ ap (λ (n : ℕ). copy_records p ++ Copy c.args.from c.args.to (take n (drop c.args.from content)) ∷ []) count
@@ -53,14 +53,14 @@ returns-clause-plan g c =
     ∙ get_or-append_right words run (length words) place word refl (omega (arith, here))
     ∙ ap (λ i. get_or run i word) first_place
     ∙ get_or_default_zero run 0 word some in
-    let copies = ap (λ (q : Plan). q.copies.items) c.note_source.ensures ∙ c.in_ok-push.ensures.items in
-    let grown = ap (λ (q : Plan). q.words.items) c.note_source.ensures ∙ found.1 in
-    let counted = ap (λ (q : Plan). q.size) c.note_source.ensures in
-    let sources = ap (λ (q : Plan). q.sources) c.note_source.ensures in
-    let first = ap (λ (q : Plan). q.first) c.note_source.ensures in
-    let going = ap (λ (q : Plan). q.destinations) c.note_source.ensures in
+    let copies = ap (λ (q : Plan). q.copies.items) c.note_source.ensures.noted ∙ c.in_ok-push.ensures.items in
+    let grown = ap (λ (q : Plan). q.words.items) c.note_source.ensures.noted ∙ found.1 in
+    let counted = ap (λ (q : Plan). q.size) c.note_source.ensures.noted in
+    let sources = ap (λ (q : Plan). q.sources) c.note_source.ensures.noted in
+    let first = ap (λ (q : Plan). q.first) c.note_source.ensures.noted in
+    let going = ap (λ (q : Plan). q.destinations) c.note_source.ensures.noted in
     plan_more p _ k run c.requires.plan c.requires.some size header copies grown
     (ap (λ n. n + c.args.size) counted)
     (omega (arith, counted, c.requires.small))
     (going ∙ c.in_ok-add.ensures)
-    sources first
+    sources c.note_source.ensures.placed first
