@@ -2,4 +2,5 @@ pub mod Flushing
 pub mod ImageLaws
 pub mod Opening
 pub mod PutLaws
+pub mod RaiseLaws
 pub mod StoredLaws

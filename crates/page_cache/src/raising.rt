@@ -22,15 +22,18 @@ pub(crate) fn raise_touched(lsns: &mut [u64], lsn: u64, rec: &Record)
     }
 }
 
-/// Raises the LSN of each page of words from an address on.
+/// Raises the LSN of each page of words from an address on: once a page, since most words share theirs with the next.
 pub(crate) fn raise_from(lsns: &mut [u64], lsn: u64, address: usize, words: &[u64])
     requires inside { AreBelow (64 * length lsns.old) (enumerate_from address words.now) }
     requires fits { 64 * length lsns.old < 2 ^ 64 }
     ensures { lsns.new ≡ raised_to lsn lsns.old (pages_of (enumerate_from address words.now)) }
 {
-    for i in 0..words.len() {
-        let page = (address + i) / PAGE_WORDS;
+    let end = address + words.len();
+    let mut at = address;
+    while at < end {
+        let page = at / PAGE_WORDS;
         raise_page(lsns, lsn, page);
+        at = (page + 1) * PAGE_WORDS;
     }
 }
 
