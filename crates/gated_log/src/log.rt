@@ -6,7 +6,7 @@ ghost use Rattle.disk_model.specs.Keeps.{KeepsDisk, OnlyReads};
 ghost use Rattle.disk_model.specs.Moments.{LeavesOnly};
 ghost use Rattle.gate_slot.specs.Passing.{Passes};
 ghost use Rattle.log_records.specs.declared.Record.{Record};
-ghost use Rattle.log_records.specs.Record.{copy_record, spelling, spellings, IsRecord};
+ghost use Rattle.log_records.specs.Record.{spelling, spellings, AreSpelled, IsRecord};
 ghost use Rattle.gated_log.specs.Log.{records_of, with_batch, HoldsBatches, BreaksAt};
 ghost use Rattle.gated_log.specs.declared.reading.LogError.TheVariants.{BadBatch};
 ghost use Rattle.gated_log.specs.LogCause.{log_device_result};
@@ -16,7 +16,7 @@ use crate::batch::{NO_LENGTH, bytes_of, close_batch};
 use crate::reading::{LogError, LogReader};
 use disk_model::{Disk, DiskError};
 use gate_slot::fill_and_open;
-use log_records::{BATCH_BYTES, CopyRef, FIRST_LSN, Record};
+use log_records::{BATCH_BYTES, FIRST_LSN, Record};
 use std::alloc::{AllocError, Global};
 
 /// A log that lies in a part of a disk. What was forced is there after a crash; a pending record is in memory alone.
@@ -45,7 +45,7 @@ pub struct Log {
 }
 
 impl Log {
-    ghost use Rattle.gated_log.specs.LogState.{log_place, log_room, log_tail, log_buffer, is_waiting, IsBufferEmpty, HasSpare, KeepsMemory, log_used, log_used_with, log_need, log_forced, log_count, Keeps, IsPlaced, IsSameLog};
+    ghost use Rattle.gated_log.specs.LogState.{log_place, log_room, log_tail, log_buffer, buffer_size, is_waiting, IsBufferEmpty, HasSpare, KeepsMemory, log_used, log_used_with, log_need, log_forced, log_count, Keeps, IsPlaced, IsSameLog};
 
     /// Reads the log of `room` bytes from byte `at` of the disk on, and the records of its batches in order. All of them are in
     /// memory then; a `LogReader` keeps none.
@@ -198,24 +198,26 @@ impl Log {
         Ok(())
     }
 
-    /// Adds the record of a copy after the pending ones, as `append` adds a record. The words of the copy may lie among those of others.
-    pub fn append_copy(&mut self, copy: &CopyRef<'_>) -> Result<(), AllocError>
-        requires { log_used self.old + log_need self.old (length (spelling (copy_record copy.now))) ≤ log_room self.old }
+    /// Adds records that are spelled already after the pending ones, `count` of them, if the log has room for them: all of them, or after an `Err`
+    /// none.
+    pub fn append_spelled(&mut self, spelled: &[u8], count: u64) -> Result<(), AllocError>
+        requires spelled { AreSpelled spelled.now count }
+        requires room { log_used_with self.old (length spelled.now) ≤ log_room self.old }
 
-        ensures added { (batches : List (List Record)) (pending : List Record) → Keeps self.old batches pending → OnOk result (Keeps self.new batches (pending ++ copy_record copy.now ∷ [])) }
-        ensures ok { OnOk result (log_buffer self.new ≡ log_buffer self.old ++ spelling (copy_record copy.now)) }
-        ensures used { OnOk result (log_used self.new ≡ log_used self.old + log_need self.old (length (spelling (copy_record copy.now)))) }
-        ensures count { OnOk result (log_count self.new ≡ log_count self.old + 1) }
+        ensures added { (batches : List (List Record)) (pending records : List Record) → spelled.now ≡ spellings records → length records ≡ count → Keeps self.old batches pending → OnOk result (Keeps self.new batches (pending ++ records)) }
+        ensures ok { OnOk result (log_buffer self.new ≡ log_buffer self.old ++ spelled.now) }
+        ensures size { OnOk result (buffer_size self.new ≡ buffer_size self.old + length spelled.now) }
+        ensures used { OnOk result (log_used self.new ≡ log_used_with self.old (length spelled.now)) }
+        ensures count { OnOk result (log_count self.new ≡ log_count self.old + count) }
         ensures err { OnErr result (IsSameLog self.old self.new) }
         ensures place { IsPlaced self.old self.new }
         // With memory that `reserve` allocated it does not fail.
-        ensures in_room { HasSpare self.old (length (spelling (copy_record copy.now))) → IsOk result }
+        ensures in_room { HasSpare self.old (length spelled.now) → IsOk result }
         ensures memory { KeepsMemory self.old self.new }
     {
-        self.buffer
-            .reserve(log_records::copy_length(copy) as usize + 1)?;
-        log_records::encode_copy(copy, &mut self.buffer)?;
-        self.waiting += 1;
+        self.buffer.reserve(spelled.len() + 1)?;
+        self.buffer.extend_from_slice(spelled)?;
+        self.waiting += count;
         Ok(())
     }
 

@@ -72,3 +72,29 @@ room_next old mid records rec rest is room =
 -- and memory
 pub spare_next : (old mid : Log) (records : List Record) (rec : Record) (rest : List Record) → IsAppended old mid records → HasSpare old (length (spellings (records ++ rec ∷ rest))) → HasSpare mid (length (spelling rec))
 spare_next old mid records rec rest is spare = omega (arith, spelled_more records (rec ∷ rest), spelled_first rec rest, is.size, is.memory, spare)
+
+used_less : (tail size less more : ℕ) → less ≤ more → used_bytes tail (size + less) ≤ used_bytes tail (size + more)
+used_less tail size less more is = grind (arith, nat_tests)
+
+-- there is room for the bytes of the first of records for which there was room
+pub room_front : (log : Log) (records more : List Record) (bytes : List ℕ) → bytes ≡ spellings records → log_used_with log (length (spellings (records ++ more))) ≤ log_room log
+    → log_used_with log (length bytes) ≤ log_room log
+room_front log records more bytes spelled room =
+    let less : length bytes ≤ length (spellings (records ++ more)) = omega (arith, spelled_more records more, ap (λ (l : List ℕ). length l) spelled) in
+    omega (arith, used_less (log_tail log) (buffer_size log) (length bytes) (length (spellings (records ++ more))) less, room)
+
+-- and memory
+pub spare_front : (log : Log) (records more : List Record) (bytes : List ℕ) → bytes ≡ spellings records → HasSpare log (length (spellings (records ++ more))) → HasSpare log (length bytes)
+spare_front log records more bytes spelled spare = omega (arith, spelled_more records more, ap (λ (l : List ℕ). length l) spelled, spare)
+
+-- records are appended as their bytes
+pub appended_bytes : (old new : Log) (records : List Record) (bytes : List ℕ) (count : ℕ) → bytes ≡ spellings records → length records ≡ count → IsPlaced old new
+    → ((batches : List (List Record)) (pending all : List Record) → bytes ≡ spellings all → length all ≡ count → Keeps old batches pending → Keeps new batches (pending ++ all))
+    → buffer_size new ≡ buffer_size old + length bytes → log_count new ≡ log_count old + count → KeepsMemory old new → IsAppended old new records
+appended_bytes old new records bytes count spelled counted place added size more memory = record {
+  place = place;
+  kept = λ batches pending keeps. added batches pending records spelled counted keeps;
+  size = omega (arith, size, ap (λ (l : List ℕ). length l) spelled);
+  count = omega (arith, more, counted);
+  memory = memory;
+}

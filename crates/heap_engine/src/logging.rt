@@ -1,12 +1,12 @@
 //! Records are appended to the log, and then put on their pages: no page has a record that the log lacks.
-ghost use Rattle.std.specs.Prelude.{◌≡◌, ℕ, ◌+◌, ◌<◌, ◌≤◌, ◌^◌, ◌++◌, ◌∷◌, [], length, fold};
+ghost use Rattle.std.specs.Prelude.{◌≡◌, ℕ, ◌+◌, ◌<◌, ◌≤◌, ◌^◌, ◌++◌, ◌∷◌, [], length, fold, map};
 ghost use Rattle.gated_log.specs.LogState.{log_room, log_used, log_used_with, HasSpare};
 ghost use Rattle.heap_memory.specs.Leaves.{Adds};
 ghost use Rattle.heap_model.specs.Lsns.{log_next_lsn};
 ghost use Rattle.log_machine.specs.Effect.{EachWritesBelow};
 ghost use Rattle.log_machine.specs.Machine.{put_record};
 ghost use Rattle.log_records.specs.declared.Record.{Record};
-ghost use Rattle.log_records.specs.Record.{spellings};
+ghost use Rattle.log_records.specs.Record.{copy_record, spellings};
 ghost use Rattle.page_cache.specs.CacheState.{cached, cache_store};
 ghost use Rattle.page_redo.specs.Redo.{EachLacks, redo_all};
 ghost use Rattle.page_scanner.specs.PageScan.{records_in};
@@ -99,10 +99,18 @@ fn append_scan(log: &mut Log, scan: &PageScan)
     requires room { log_used_with log.old (length (spellings (records_in scan.now))) ≤ log_room log.old }
     ensures { IsAppended log.old log.new (records_in scan.now) }
 {
-    for copy in scan.iter() {
-        log.append_copy(&copy).unwrap();
-    }
+    append_copies(log, scan);
     log.append(scan.record()).unwrap();
+}
+
+/// Appends the records of its copies, which are spelled already.
+fn append_copies(log: &mut Log, scan: &PageScan)
+    requires memory { HasSpare log.old (length (spellings (records_in scan.now))) }
+    requires room { log_used_with log.old (length (spellings (records_in scan.now))) ≤ log_room log.old }
+    ensures { IsAppended log.old log.new (map copy_record scan.now.copies) }
+{
+    let spelled = scan.spelled_copies();
+    log.append_spelled(spelled, scan.copy_count()).unwrap();
 }
 
 /// Puts the records of a scan, if there is one, on their pages, which all lack them. The first of them has that LSN. It returns the LSN of the record

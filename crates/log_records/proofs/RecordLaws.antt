@@ -1,5 +1,5 @@
 -- Laws of the records' spelling: bytes begin with the spelling of at most one record.
-use Rattle.std.specs.Prelude.{◌≡◌, ℕ, ◌+◌, ◌*◌, ◌^◌, ◌<◌, List, [], ◌∷◌, ◌++◌, length, drop, get_or, refl}
+use Rattle.std.specs.Prelude.{◌≡◌, ℕ, ◌+◌, ◌*◌, ◌^◌, ◌<◌, ◌≤◌, List, [], ◌∷◌, ◌++◌, length, drop, get_or, refl}
 use Rattle.std.proofs.Common.{sym, ap, ◌∙◌, arith, length-append, append_assoc}
 use Rattle.std.proofs.lemmas.List.{drop_at}
 use Rattle.std.specs.Int.{w16, w32, w64, to_le_bytes, bytes_low_first}
@@ -28,6 +28,11 @@ some_spelling (Copy from to words) = omega arith
 some_spelling (Scan page writes) = omega arith
 some_spelling (Flip copies) = omega arith
 some_spelling Collected = omega arith
+
+-- so records have no fewer bytes than they are
+pub few_spelled : (records : List Record) → length records ≤ length (spellings records)
+few_spelled [] = omega arith
+few_spelled (r ∷ rs) = omega (arith, some_spelling r, few_spelled rs, length-append (spelling r) (spellings rs))
 
 -- a field's word takes eight bytes
 pub field_word_small : (w : ℕ) → IsFieldWord w → w < 256 ^ 8

@@ -27,6 +27,10 @@ spelling Collected = 10 ∷ []
 abbrev pub spellings : List Record → List ℕ
 spellings records = flat_map spelling records
 
+-- the bytes are the spellings of so many records, one after another
+abbrev pub AreSpelled : List ℕ → ℕ → Type 0
+AreSpelled bytes count = (records : List Record) × (bytes ≡ spellings records) × (length records ≡ count)
+
 -- the record of one copy
 abbrev pub copy_record : ObjectCopy → Record
 copy_record copy = Copy copy.from copy.to copy.words

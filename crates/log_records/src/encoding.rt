@@ -54,14 +54,15 @@ pub fn encode(rec: &Record, into: &mut Vec<u8>) -> Result<(), AllocError>
     }
 }
 
-/// Appends the spelling of a `Copy` whose words lie elsewhere. An `Err` changes nothing, and comes only if memory has to be allocated.
-pub fn encode_copy(copy: &CopyRef<'_>, into: &mut Vec<u8>) -> Result<(), AllocError>
-    ensures ok { OnOk result (into.new.items ≡ into.old.items ++ spelling (copy_record copy.now)) }
-    ensures err { OnErr result (into.new.items ≡ into.old.items) }
-    ensures in_room { vec_len into.old + length (spelling (copy_record copy.now)) ≤ vec_capacity into.old → IsOk result }
-    ensures capacity { vec_capacity into.old ≤ vec_capacity into.new }
+/// Writes the spelling of a `Copy` whose words lie elsewhere over bytes, of which there are exactly as many: where many copies are spelled, memory
+/// is made for all of them at once.
+pub fn write_copy(copy: &CopyRef<'_>, into: &mut [u8])
+    requires { length into.old ≡ length (spelling (copy_record copy.now)) }
+    ensures { into.new ≡ spelling (copy_record copy.now) }
 {
-    encode_object(COPY, copy.from(), copy.to(), copy.words(), into)
+    let head = object_head(COPY, copy.from(), copy.to());
+    into[..BASE_HEAD_BYTES].copy_from_slice(&head);
+    LittleEndian::write_u64_into(copy.words(), &mut into[BASE_HEAD_BYTES..]);
 }
 
 // Appends the spelling of a record of an object, as a `Base` and a `Copy` are: its kind, two numbers, and the object's

@@ -14,7 +14,7 @@ ghost use Rattle.log_records.specs.Record.{spelling};
 pub use copies::{Copies, ObjectCopy};
 pub use copy_ref::{CopyRef, copy_length};
 pub use decoding::decode;
-pub use encoding::{encode, encode_copy};
+pub use encoding::{encode, write_copy};
 pub use object_words::ObjectWords;
 pub use writes::Writes;
 

@@ -1,5 +1,5 @@
 -- Copies whose words stand one after another.
-use Rattle.std.proofs.Common.{◌≡◌, ℕ, ◌+◌, ◌*◌, ◌<◌, ◌≤◌, List, [], ◌∷◌, ◌++◌, length, take, drop, map, refl, sym, ap, ◌∙◌, subst, arith, get_or}
+use Rattle.std.proofs.Common.{◌≡◌, ℕ, suc, ◌+◌, ◌*◌, ◌<◌, ◌≤◌, List, [], ◌∷◌, ◌++◌, length, take, drop, map, refl, sym, ap, ◌∙◌, subst, arith, get_or}
 use Rattle.std.specs.Prelude.{sum_by}
 use Rattle.std.proofs.lemmas.List.{append-nil, length-append, length-take, length-drop, map-append, take-append-le, drop-append-le, take_all, drop_all}
 use Rattle.std.proofs.lemmas.Grind.{flat_map-append}
@@ -94,13 +94,19 @@ length-copies (k ∷ ks) ws all =
     ∙ omega (arith, within, spelled, rest, length-take {A = ℕ} k.words ws, length-drop {A = ℕ} k.words ws)
 
 -- how many bytes the records of a planned scan take
-pub length-records : (cs : List CopiedObject) (ws : List ℕ) (page : ℕ) (scan : Record) → IsScanOf cs ws page scan
-    → length (spellings (records_in (record { copies = copies_of cs ws; page = page; writes = scan_writes scan }))) ≡ 9 * length cs + 8 * length ws + length (spelling scan)
-length-records cs ws page scan is =
+pub length-records : (cs : List CopiedObject) (ws bytes : List ℕ) (page : ℕ) (scan : Record) → IsScanOf cs ws bytes page scan
+    → length (spellings (records_in (record { copies = copies_of cs ws; page = page; writes = scan_writes scan }))) ≡ length bytes + length (spelling scan)
+length-records cs ws bytes page scan is =
     let copies = map copy_record (copies_of cs ws) in
     let last : List Record = Scan page (scan_writes scan) ∷ [] in
     let end : length (spellings last) ≡ length (spelling scan) = ap (λ (l : List ℕ). length l) (append-nil (spelling (Scan page (scan_writes scan)))) ∙ ap (λ r. length (spelling r)) (sym is.scans) in
-    ap (λ (l : List ℕ). length l) (flat_map-append spelling copies last) ∙ omega (arith, length-append (spellings copies) (spellings last), length-copies cs ws is.filled, end)
+    let front : length (spellings copies) ≡ length bytes = ap (λ (l : List ℕ). length l) (sym is.spelled) in
+    ap (λ (l : List ℕ). length l) (flat_map-append spelling copies last) ∙ omega (arith, length-append (spellings copies) (spellings last), front, end)
+
+-- as many copies as objects
+pub length-copies_of : (cs : List CopiedObject) (ws : List ℕ) → length (copies_of cs ws) ≡ length cs
+length-copies_of [] ws = refl
+length-copies_of (k ∷ ks) ws = ap suc (length-copies_of ks (drop k.words ws))
 
 -- the record of the scan copies nothing
 pub copied-scan : (scan : ScanState) → copied_in (records_in scan) ≡ copied_in (map copy_record scan.copies)

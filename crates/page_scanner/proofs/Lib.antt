@@ -9,5 +9,6 @@ mod Headers
 mod Loops
 mod Plans
 pub mod Rising
+mod Spelled
 pub mod Steps
 pub mod Total

@@ -4,7 +4,7 @@ use Rattle.heap_spaces.specs.declared.collection.CopiedObject.{CopiedObject}
 use Rattle.log_records.specs.declared.copies.ObjectCopy.{ObjectCopy}
 use Rattle.log_records.specs.declared.Record.{Record}
 use Rattle.log_records.specs.declared.Record.TheVariants.{Scan}
-use Rattle.log_records.specs.Record.{copy_record}
+use Rattle.log_records.specs.Record.{copy_record, spellings}
 
 -- What the scan of a page does.
 pub record ScanState : Type 0 where
@@ -31,8 +31,10 @@ abbrev pub scan_writes : Record → List (ℕ × ℕ)
 scan_writes (Scan page writes) = writes
 scan_writes rec = []
 
--- A planned scan as it lies in memory: the words are those of its copies, no more than the largest space has, and the record is that of its page.
-pub record IsScanOf (copies : List CopiedObject) (words : List ℕ) (page : ℕ) (scan : Record) : Type 0 where
+-- A planned scan as it lies in memory: the words are those of its copies, no more than the largest space has, the bytes spell the records of its copies,
+-- and the record is that of its page.
+pub record IsScanOf (copies : List CopiedObject) (words bytes : List ℕ) (page : ℕ) (scan : Record) : Type 0 where
   pub filled : HaveWords copies words
+  pub spelled : bytes ≡ spellings (map copy_record (copies_of copies words))
   pub small : length words ≤ 1048576
   pub scans : scan ≡ Scan page (scan_writes scan)

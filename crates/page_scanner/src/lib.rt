@@ -8,6 +8,7 @@ mod reading;
 mod scan;
 mod scan_error;
 mod spaces;
+mod spelling;
 
 pub use page_scan::{PageCopies, PageScan};
 pub use scan::{next_gray_page, plan_scan};

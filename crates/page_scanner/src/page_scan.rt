@@ -1,13 +1,15 @@
 //! The scan of a page, as it is planned.
-ghost use Rattle.std.specs.Prelude.{◌≡◌, ◌≤◌, ◌*◌, length, map, sum_by, vec_len};
+ghost use Rattle.std.specs.Prelude.{◌≡◌, ◌≤◌, ◌*◌, length, map, sum_by, vec_len, IfOk};
 ghost use Rattle.heap_spaces.specs.declared.collection.CopiedObject.{CopiedObject};
 ghost use Rattle.log_records.specs.declared.Record.TheVariants.{Scan};
 ghost use Rattle.log_records.specs.Record.{copy_record, spellings};
 ghost use Rattle.page_scanner.specs.Copied.{copied_in};
 
 use crate::plan::Plan;
+use crate::spelling::{bytes_of, spell};
 use heap_spaces::CopiedObject;
-use log_records::{COPY_HEAD_BYTES, CopyRef, Record, WORD_BYTES, Writes, length};
+use log_records::{CopyRef, Record, Writes, length};
+use std::alloc::{AllocError, Global};
 use std::marker::Model;
 
 /// The scan of a page as it is planned: what it copies, with the words of all copies one after another, and the record of the fields that it
@@ -17,6 +19,8 @@ pub struct PageScan {
     copies: Vec<CopiedObject>,
     // The words of all copies, in the copies' order: a vector for each would cost an allocation.
     words: Vec<u64>,
+    // The records of all copies, as the log spells them, in their order: a record at a time would look for room at each.
+    spelled: Vec<u8>,
     page: u32,
     scan: Record,
 }
@@ -28,7 +32,7 @@ impl Model for PageScan {
 
     ghost view = { λ s. record { copies = copies_of s.copies.items s.words.items; page = s.page; writes = scan_writes s.scan } };
 
-    ghost invariant = { λ s. IsScanOf s.copies.items s.words.items s.page s.scan };
+    ghost invariant = { λ s. IsScanOf s.copies.items s.words.items s.spelled.items s.page s.scan };
 }
 
 impl PageScan {
@@ -37,20 +41,26 @@ impl PageScan {
     ghost use Rattle.page_scanner.specs.Plan.{planned, IsPlan};
     ghost use Rattle.page_scanner.specs.Scan.{records_of};
 
-    /// The scan of a page that a plan has come to. Does not allocate.
-    pub(crate) fn of(page: u32, plan: Plan) -> PageScan
+    /// The scan of a page that a plan has come to. It allocates if there is a copy.
+    pub(crate) fn of(alloc: Global, page: u32, plan: Plan) -> Result<PageScan, AllocError>
         requires plan { IsPlan plan }
         requires few { vec_len plan.writes ≤ 64 * 510 }
-        ensures page { result.page ≡ page }
-        ensures records { records_in result ≡ records_of page (planned plan) }
+        ensures page { IfOk result (λ scan. scan.page ≡ page) }
+        ensures records { IfOk result (λ scan. records_in scan ≡ records_of page (planned plan)) }
     {
+        let copies = PageCopies {
+            copies: &plan.copies,
+            words: &plan.words,
+        };
+        let spelled = spell(alloc, copies, bytes_of(&plan.copies, &plan.words))?;
         let writes = Writes::new(plan.writes);
-        PageScan {
+        Ok(PageScan {
             copies: plan.copies,
             words: plan.words,
+            spelled,
             page,
             scan: Record::Scan { page, writes },
-        }
+        })
     }
 
     /// The page that is scanned.
@@ -65,6 +75,20 @@ impl PageScan {
         ensures { result.now ≡ copied_in (map copy_record self.now.copies) }
     {
         &self.copies
+    }
+
+    /// How many they are.
+    pub fn copy_count(&self) -> u64
+        ensures { result ≡ length self.now.copies }
+    {
+        self.copies.len() as u64
+    }
+
+    /// Their records, as the log spells them.
+    pub fn spelled_copies(&self) -> &[u8]
+        ensures { result.now ≡ spellings (map copy_record self.now.copies) }
+    {
+        &self.spelled
     }
 
     /// Its copies, in their order, with their words.
@@ -106,8 +130,7 @@ impl PageScan {
     pub fn bytes(&self) -> u64
         ensures { result ≡ length (spellings (records_in self.now)) }
     {
-        let heads = (1 + COPY_HEAD_BYTES) * self.copies.len();
-        (heads + WORD_BYTES * self.words.len()) as u64 + length(&self.scan)
+        self.spelled.len() as u64 + length(&self.scan)
     }
 }
 

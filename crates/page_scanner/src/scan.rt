@@ -72,7 +72,7 @@ fn plan_records<W: Words>(
     }
     let mut plan = Plan::new(alloc, PAGE_WORDS * page);
     visit_page(&mut plan, words, spaces, collection, page)?;
-    Ok(PageScan::of(page, plan))
+    Ok(PageScan::of(alloc, page, plan)?)
 }
 
 // Visits all gray objects of the plan's page.

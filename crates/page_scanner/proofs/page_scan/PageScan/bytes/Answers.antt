@@ -1,30 +1,16 @@
--- The bytes are counted, and their number fits.
-use Rattle.std.proofs.Common.{◌≡◌, length, sym, arith}
-use Rattle.page_scanner.proofs.Copies.{few-copies, length-records}
+-- The bytes of the copies are counted, and their number fits.
+use Rattle.std.proofs.Common.{◌≡◌, ℕ, List, length, sym, ap, arith}
+use Rattle.page_scanner.proofs.Copies.{length-copies, few-copies, length-records}
 use Rattle.page_scanner.proofs.page_scan.PageScan.bytes.Goals as goal
-
-pub overflow_mul-heads : goal.overflow_mul-heads
-overflow_mul-heads c =
-    let few = few-copies c.self.inside.copies.items c.self.inside.words.items c.self.invariant.filled in
-    let small = c.self.invariant.small in
-    omega (arith, few, small, c.len.ensures, c.self.inside.copies.ok)
 
 pub overflow_add-result : goal.overflow_add-result
 overflow_add-result c =
-    let few = few-copies c.self.inside.copies.items c.self.inside.words.items c.self.invariant.filled in
-    let small = c.self.invariant.small in
-    omega (arith, few, small, c.len.ensures, c.self.inside.copies.ok, c.len-2.ensures, c.self.inside.words.ok)
-
-pub overflow_add-result-2 : goal.overflow_add-result-2
-overflow_add-result-2 c =
-    let few = few-copies c.self.inside.copies.items c.self.inside.words.items c.self.invariant.filled in
-    let small = c.self.invariant.small in
-    omega (arith, few, small, c.len.ensures, c.self.inside.copies.ok, c.len-2.ensures, c.self.inside.words.ok)
+    let all = c.self.inside in
+    let is = c.self.invariant in
+    omega (arith, few-copies all.copies.items all.words.items is.filled, length-copies all.copies.items all.words.items is.filled, is.small, ap (λ (l : List ℕ). length l) is.spelled, c.len.ensures, all.spelled.ok)
 
 pub returns : goal.returns
 returns c =
-    let copies = c.self.inside.copies.items in
-    let words = c.self.inside.words.items in
-    let count : c.len.result ≡ length copies = omega (arith, c.len.ensures, c.self.inside.copies.ok) in
-    let all : c.len-2.result ≡ length words = omega (arith, c.len-2.ensures, c.self.inside.words.ok) in
-    rw (← c.self.view_is) (rw (count, all, c.length.ensures.value) (sym (length-records copies words c.self.inside.page c.self.inside.scan c.self.invariant)))
+    let all = c.self.inside in
+    let count : c.len.result ≡ length all.spelled.items = omega (arith, c.len.ensures, all.spelled.ok) in
+    rw (← c.self.view_is) (rw (count, c.length.ensures.value) (sym (length-records all.copies.items all.words.items all.spelled.items all.page all.scan c.self.invariant)))
