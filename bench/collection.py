@@ -6,10 +6,13 @@
 The heap is a list of directories of 509 leaves each, reached from the root; N is how many directories the short one has, 16 if left out, and
 at most 32. Each run begins on a copy of the same file. Whole runs are timed by the processor time of the program, which other work on the
 machine changes least, and the least of 9 runs counts; the time of a run on an empty script, which opens the heap and prints its graph, is
-taken off. Beside the C program 30 rounds count, in each of which all take their turn. Its memory was written before its clock began; so what is timed are
-collections after others and a force, whose memory the log has kept, with a force after each six; what is taken off is a run with as many scans
-that have nothing to do in their place. Pauses are the processor time of `heap session` between a line and its answer, as Linux tells it. It needs gcc, measures, and judges
-nothing. With --quick the program is that which is compiled with nothing proved; it has checks at each step, and its times say little.
+taken off. Beside the C program 60 rounds count, in each of which all take their turn. There the collections are made by calls of the library
+(`library_bench collect`, which `rt run` in crates/library_bench builds; without it the C program is left out), as C makes no text either, and once more by a
+script, with its lines and answers. The C program's memory was written before its clock began; so what is timed are collections after others and a
+force, whose memory the log has kept, with a force after each six. A run with the first six alone is taken off, and in a script a run with as many
+scans that have nothing to do in place of the others. Pauses are the processor time of `heap session` between a line and its answer, as
+Linux tells it. It needs gcc, measures, and judges nothing. With --quick the program is that which is compiled with nothing proved; it has checks at
+each step, and its times say little.
 """
 import os
 import resource
@@ -23,8 +26,9 @@ TOP = os.path.dirname(os.path.dirname(os.path.realpath(__file__)))
 QUICK = ["--quick"] * (sys.argv[1:2] == ["--quick"])
 BUILT = os.path.join(TOP, ".build", *["quick"] * bool(QUICK))
 HEAP, SESSION = os.path.join(BUILT, "heap_shell"), os.path.join(BUILT, "heap_session")
+LIBRARY = os.path.join(TOP, "crates/library_bench/out/library_bench")
 RUNS = 9
-ROUNDS = 30
+ROUNDS = 60
 PAUSES = 15
 LEAVES = 509
 LOG = 12 * 1_048_576
@@ -115,34 +119,51 @@ def by_size(n):
 
 
 def copies_of_c(directories, leaf_words, rounds):
+    """The seconds of processor time of the C program."""
     args = ["./collection", "log", str(directories), str(leaf_words), str(COLLECTIONS), str(rounds)]
     return float(subprocess.run(args, stdout=subprocess.PIPE, check=True).stdout)
+
+
+def by_library(rounds):
+    """The seconds of processor time of so many rounds of collections, with a force after each, by calls of the library on a copy of the heap."""
+    shutil.copyfile("copied", "heap.img")
+    before = spent()
+    told = subprocess.run([LIBRARY, "collect", "heap.img", str(rounds)], stdout=subprocess.PIPE, check=True, text=True).stdout
+    if told != f"collected {rounds * COLLECTIONS}\n":
+        sys.exit(f"collection: the library says {told.strip()!r} after {rounds * COLLECTIONS} collections")
+    return spent() - before
+
+
+def one_round(n, leaf_words):
+    """The seconds of the copies by the library and by a script, each with all rounds and with what is taken off, and those of C."""
+    copies = collections(n, leaf_words) + "force\n"
+    idle = "scan\n" * (COLLECTIONS * (scans(n, leaf_words) + 1)) + "force\n"
+    return (
+        by_library(1 + AGAIN),
+        by_library(1),
+        timed_once("copied", copies + AGAIN * copies, ("collected", (1 + AGAIN) * COLLECTIONS)),
+        timed_once("copied", copies + AGAIN * idle, ("collected", COLLECTIONS)),
+        copies_of_c(n, leaf_words, AGAIN),
+    )
+
+
+def ratios(c, whole, base):
+    """What C takes of the time of a run, what is taken off left out: of the least times, and in the median of the rounds."""
+    least = min(c) / (min(whole) - min(base))
+    median = statistics.median(each / (more - less) for each, more, less in zip(c, whole, base))
+    return f"ratio {least:.2f} of the least times, {median:.2f} in the median of the rounds"
 
 
 def beside_c(n, leaf_words):
     """Copies of a heap whose leaves have so many words. Larger leaves are fewer, so that about as many words are copied where n is 16 or more."""
     n = max(1, 4 * n // leaf_words)
     build("copied", n, leaf_words, log_bytes(n, leaf_words))
-    copies = collections(n, leaf_words) + "force\n"
-    idle = "scan\n" * (COLLECTIONS * (scans(n, leaf_words) + 1)) + "force\n"
-    rounds = [
-        (
-            timed_once("copied", copies + AGAIN * copies, ("collected", (1 + AGAIN) * COLLECTIONS)),
-            timed_once("copied", copies + AGAIN * idle, ("collected", COLLECTIONS)),
-            copies_of_c(n, leaf_words, AGAIN),
-            timed_once("copied", copies, ("collected", COLLECTIONS)),
-            timed_once("copied", "", ("collected", 0)),
-            copies_of_c(n, leaf_words, 1),
-        )
-        for _ in range(ROUNDS)
-    ]
-    whole, base, c, first, empty, c_first = map(min, zip(*rounds))
-    words, ours = AGAIN * COLLECTIONS * words_of(n, leaf_words), whole - base
-    own = statistics.median(each[2] / (each[0] - each[1]) for each in rounds)
+    library, first, script, idle, c = zip(*[one_round(n, leaf_words) for _ in range(ROUNDS)])
+    words = AGAIN * COLLECTIONS * words_of(n, leaf_words)
+    ours = min(library) - min(first)
     print(
-        f"leaves of {leaf_words} words: {words / ours / 1e6:.1f} million words copied a second, the C program {words / c / 1e6:.1f}: ratio {c / ours:.2f}"
-        f" of the least times, {own:.2f} in the median of the rounds;"
-        f" {c_first / (first - empty):.2f} in first collections, with new memory for the log and the text of their lines"
+        f"leaves of {leaf_words} words: {words / ours / 1e6:.1f} million words copied a second, the C program {words / min(c) / 1e6:.1f}:"
+        f" {ratios(c, library, first)}; with the lines of a script, {ratios(c, script, idle)}"
     )
 
 
@@ -226,7 +247,7 @@ def main():
     subprocess.run(["gcc", "-O2", "-o", "collection", f"{TOP}/bench/collection.c"], check=True)
     print(f"load {os.getloadavg()[0]:.1f}")
     by_size(n)
-    for leaf_words in (4, 7, 16, 64):
+    for leaf_words in (4, 7, 16, 64) if os.path.exists(LIBRARY) else ():
         beside_c(n, leaf_words)
     without, within = reads(10_000)
     print(f"a read beside a collection, of a page with nothing gray: {within / without:.2f} times as long as without one")

@@ -1,7 +1,11 @@
-//! Plays a load on a heap in memory through the library's calls, with no text made and nothing printed but how many events there were.
+//! Plays a load on a heap in memory, or collects a heap in a file, through the library's calls, with no text made and nothing printed but how many events
+//! or collections there were.
 #![tactic(auto)]
 
+mod collecting;
+
 use anyhow::Error;
+use collecting::collect_file;
 use disk_model::{Disk, MemoryDisk, Pick};
 use graph_model::Event;
 use heap_core::Heap;
@@ -65,14 +69,8 @@ fn new_heap(alloc: Global, count: u32) -> Result<Heap<MemoryDisk>, Error> {
     Ok(Heap::open(alloc, disk).map_err(|e| e.0)?)
 }
 
-fn main(rt: HostRuntime) -> Result<(), Error> {
-    let alloc = rt.alloc();
-    let words: Vec<String> = env::args(&rt)?.collect(alloc)?;
-    let [_, seed, count] = words.as_slice() else {
-        println!(rt; "library_bench SEED COUNT: a load on a heap in memory")?;
-        return Ok(());
-    };
-    let (seed, count) = (seed.parse::<u32>()?, count.parse::<u32>()?);
+/// Plays a load on a new heap, and prints how many events and commits there were.
+fn play_load(rt: &HostRuntime, alloc: Global, seed: u32, count: u32) -> Result<(), Error> {
     let mut heap = new_heap(alloc, count)?;
     play(
         alloc,
@@ -82,5 +80,24 @@ fn main(rt: HostRuntime) -> Result<(), Error> {
     )?;
     let (events, commits) = (heap.history().len(), heap.commits());
     println!(rt; "events {events} commits {commits}")?;
+    Ok(())
+}
+
+fn main(rt: HostRuntime) -> Result<(), Error> {
+    let alloc = rt.alloc();
+    let words: Vec<String> = env::args(&rt)?.collect(alloc)?;
+    match words.as_slice() {
+        [_, verb, path, rounds] if verb.as_str() == "collect" => {
+            let collected = collect_file(&rt, alloc, path, rounds.parse::<u32>()?)?;
+            println!(rt; "collected {collected}")?;
+        }
+        [_, seed, count] => play_load(&rt, alloc, seed.parse::<u32>()?, count.parse::<u32>()?)?,
+        _ => {
+            println!(rt; "library_bench SEED COUNT: a load on a heap in memory")?;
+            println!(rt;
+                "library_bench collect FILE ROUNDS: rounds of six collections and a force of the heap in FILE"
+            )?;
+        }
+    }
     Ok(())
 }
