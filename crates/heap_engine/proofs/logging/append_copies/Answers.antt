@@ -1,5 +1,5 @@
 -- The bytes that are appended are those of the copies' records.
-use Rattle.std.proofs.Common.{◌≡◌, ℕ, ◌+◌, ◌≤◌, List, [], ◌∷◌, ◌++◌, length, map, sym, ◌∙◌}
+use Rattle.std.proofs.Common.{◌≡◌, List, [], ◌∷◌, ◌++◌, length, map, sym, ◌∙◌}
 use Rattle.std.proofs.lemmas.List.{length-map}
 use Rattle.gated_log.specs.LogState.{Keeps}
 use Rattle.log_records.specs.declared.Record.{Record}

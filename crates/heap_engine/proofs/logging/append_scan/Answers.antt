@@ -1,5 +1,5 @@
 -- The record of a scan comes after those of its copies.
-use Rattle.std.proofs.Common.{◌≡◌, ℕ, ◌+◌, ◌≤◌, List, [], ◌∷◌, ◌++◌, length, map, sym, subst}
+use Rattle.std.proofs.Common.{◌+◌, ◌≤◌, List, [], ◌∷◌, ◌++◌, length, map, sym, subst}
 use Rattle.gated_log.specs.LogState.{Keeps, log_used, log_need, log_room, HasSpare}
 use Rattle.log_records.specs.declared.Record.{Record}
 use Rattle.log_records.specs.declared.Record.TheVariants.{Scan}

@@ -1,4 +1,6 @@
-use Rattle.std.proofs.Common.{rules, ◌≡◌, ◌+◌, None, Some, Option, length, refl, sym, ap, ◌∙◌}
+use Rattle.std.proofs.Common.{rules, ◌≡◌, ℕ, ◌+◌, None, Some, Option, List, length, refl, sym, ap, ◌∙◌}
+use Rattle.std.specs.List.{fold}
+use Rattle.log_machine.specs.Machine.{put_record}
 use Rattle.gated_log.specs.LogState.{HasSpare}
 use Rattle.log_records.specs.Record.{spellings}
 use Rattle.std.specs.Prelude.{slice_index}
@@ -20,7 +22,7 @@ use Rattle.object_locks.specs.declared.holding.Holding.{Holding}
 use Rattle.object_locks.specs.declared.holding.Mode.TheVariants.{Shared}
 use Rattle.heap_memory.specs.Refusals.{asked, records_room}
 use Rattle.heap_memory.specs.Replies.{word_reply}
-use Rattle.heap_engine.proofs.FieldRefused.{read_refused}
+use Rattle.heap_engine.proofs.FieldRefused.{read_answer}
 use Rattle.heap_engine.proofs.Scanned.{same_ready, noted, noted_owes, noted_sound, got_at}
 use Rattle.heap_engine.proofs.engine.Engine.get_stable.Goals as goal
 
@@ -86,7 +88,20 @@ returns-in-Some-2-clause-reply c =
     let m = memory c.args.self.now in
     let free : busy_with (holder_of m.locks (asked c.number.result Shared c.args.object)) ≡ None = ap (λ (lock : Holding). busy_with (holder_of m.locks lock)) (sym c.lock_of-lock.ensures) ∙ sym c.lock_refusal.ensures.why ∙ c.in_default.is in
     let room : records_room m (barrier_records m c.args.object c.args.field) ≡ Some c.in-Some-2.why = ap (records_room m) (sym c.in_ok-scan.ensures.records) ∙ sym c.in_ok-why.ensures.why ∙ c.in-Some-2.is in
-    read_refused m c.args.session c.args.object c.args.field c.number.result c.in-Some-2.why c.refused-in-Some-2.result _ c.requires.active c.number.ensures c.requires.there free room c.refused-in-Some-2.ensures
+    read_answer m c.args.session c.args.object c.args.field c.number.result (Some c.in-Some-2.why) c.refused-in-Some-2.result _ c.requires.active c.number.ensures c.requires.there free room c.refused-in-Some-2.ensures
+
+pub returns-clause-reply : goal.returns-clause-reply
+returns-clause-reply c =
+    let m = memory c.args.self.now in
+    let words = (cached c.args.self.now.cache).words in
+    let free : busy_with (holder_of m.locks (asked c.number.result Shared c.args.object)) ≡ None = ap (λ (lock : Holding). busy_with (holder_of m.locks lock)) (sym c.lock_of-lock.ensures) ∙ sym c.lock_refusal.ensures.why ∙ c.in_default.is in
+    let room : records_room m (barrier_records m c.args.object c.args.field) ≡ None = ap (records_room m) (sym c.in_ok-scan.ensures.records) ∙ sym c.in_ok-why.ensures.why ∙ c.in_default-2.is in
+    let word : c.unwrap_or-word.result ≡ slice_index (field_words (cached c.carry_out_scan.new.cache).words c.args.object) c.args.field = search rules in
+    let behind : (cached c.carry_out_scan.new.cache).words ≡ fold put_record words (barrier_records m c.args.object c.args.field) =
+    c.carry_out_scan.ensures.words ∙ (λ i. fold put_record (c.make_room_for.ensures.same.words i) (c.in_ok-scan.ensures.records i)) in
+    let told = c.read_into.ensures.reply
+    ∙ ap (λ n. word_reply (meaning n)) (word ∙ ap (λ (ws : List ℕ). slice_index (field_words ws c.args.object) c.args.field) behind) in
+    read_answer m c.args.session c.args.object c.args.field c.number.result None c.read_into.result _ c.requires.active c.number.ensures c.requires.there free room told
 
 -- what is read is no refusal
 not_refused : (w : Option Word) (why : Refusal) → word_reply w ≡ Refused why → ⊥

@@ -14,6 +14,7 @@ use Rattle.heap_engine.specs.Barrier.{planned_records, page_in, word_after}
 use Rattle.heap_engine.specs.EngineState.{memory}
 use Rattle.heap_engine.proofs.ObjectFields.{field_within}
 use Rattle.graph_model.specs.Plain.{busy_with}
+use Rattle.graph_model.specs.declared.reply.Reply.TheVariants.{Done}
 use Rattle.log_machine.specs.Effect.{WritesBelow}
 use Rattle.log_machine.proofs.ListLaws.{AllByRecursion-append}
 use Rattle.object_locks.specs.Holder.{holder_of}
@@ -21,7 +22,7 @@ use Rattle.object_locks.specs.declared.holding.Holding.{Holding}
 use Rattle.object_locks.specs.declared.holding.Mode.TheVariants.{Exclusive}
 use Rattle.txn_table.specs.declared.place.Place.TheVariants.{Stable}
 use Rattle.heap_memory.specs.Refusals.{asked, write_room}
-use Rattle.heap_engine.proofs.FieldRefused.{write_refused}
+use Rattle.heap_engine.proofs.FieldRefused.{write_answer}
 use Rattle.heap_engine.proofs.Scanned.{noted, noted_owes, noted_sound, update_bytes, wrote_at}
 use Rattle.heap_engine.proofs.Tables.{sound_same, sound_write}
 use Rattle.heap_engine.proofs.engine.Engine.write_stable.Goals as goal
@@ -117,4 +118,11 @@ returns-in-Some-2-clause-reply c =
     let m = memory c.args.self.now in
     let free : busy_with (holder_of m.locks (asked c.number-t.result Exclusive c.args.object)) ≡ None = ap (λ (lock : Holding). busy_with (holder_of m.locks lock)) (sym c.lock_of-lock.ensures) ∙ sym c.lock_refusal.ensures.why ∙ c.in_default.is in
     let room : write_room m (Stable c.args.object) c.args.field ≡ Some c.in-Some-2.why = search rules in
-    write_refused m c.args.session c.args.object c.args.field c.number-t.result c.in-Some-2.why c.refused-in-Some-2.result _ c.requires.active c.number-t.ensures c.requires.there free room c.refused-in-Some-2.ensures
+    write_answer m c.args.session c.args.object c.args.field c.number-t.result (Some c.in-Some-2.why) c.refused-in-Some-2.result _ c.requires.active c.number-t.ensures c.requires.there free room c.refused-in-Some-2.ensures
+
+pub returns-clause-reply : goal.returns-clause-reply
+returns-clause-reply c =
+    let m = memory c.args.self.now in
+    let free : busy_with (holder_of m.locks (asked c.number-t.result Exclusive c.args.object)) ≡ None = ap (λ (lock : Holding). busy_with (holder_of m.locks lock)) (sym c.lock_of-lock.ensures) ∙ sym c.lock_refusal.ensures.why ∙ c.in_default.is in
+    let room : write_room m (Stable c.args.object) c.args.field ≡ None = search rules in
+    write_answer m c.args.session c.args.object c.args.field c.number-t.result None Done Done c.requires.active c.number-t.ensures c.requires.there free room refl
