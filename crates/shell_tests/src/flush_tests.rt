@@ -1,9 +1,9 @@
 //! Scripts with flushes, played with a stop at each of their device calls and of their recoveries, by each pick of a restart. The slow heap, which has
 //! no pages, plays the same scripts without the flushes.
+use crate::drawing::{DRAWN, DRAWN_LINES, FOUR, ONE, Sessions, draw_script, ending_of};
 use crate::playing::{Played, disk_of, expect_played, make_disk, play_on, same};
 use crate::stop_tests::{
-    DRAWN, DRAWN_LINES, FLUSH_STOPPED, FORCE_CALLS, FORCED_INSIDE, FOUR, OBJECTS_FORCED_INSIDE,
-    ONE, Sessions, Told, check_played, draw_script, ending_of,
+    FLUSH_STOPPED, FORCE_CALLS, FORCED_INSIDE, OBJECTS_FORCED_INSIDE, Told, check_played,
 };
 use disk_model::Pick;
 use heap_program::Status;

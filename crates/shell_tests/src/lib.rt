@@ -2,6 +2,10 @@
 #![tactic(auto)]
 
 #[cfg(test)]
+mod drawing;
+#[cfg(test)]
+mod drawn_tests;
+#[cfg(test)]
 mod flush_tests;
 #[cfg(test)]
 mod kept_tests;

@@ -7,7 +7,6 @@ use heap_program::Status;
 use script_text::{Line, read_script};
 use slow_heap::SlowHeap;
 use std::alloc::{AllocError, Global};
-use std::ops::Range;
 use std::process::Abort;
 use std::test::Fail;
 
@@ -57,11 +56,11 @@ pub const OBJECTS_FORCED_INSIDE: &str =
 /// A script, what the slow heap answers to it, and of each force how many were sealed since the one before.
 #[derive(Drop)]
 pub struct Told<'a> {
-    script: &'a str,
+    pub script: &'a str,
     pub heap: SlowHeap,
     pub lines: String,
     forced: usize,
-    forces: Vec<usize>,
+    pub forces: Vec<usize>,
 }
 
 impl<'a> Told<'a> {
@@ -189,7 +188,12 @@ fn play_by(alloc: Global, line: &str, script: &str, pick: Pick) -> Result<Played
     play(alloc, line, script, (HEAP_BYTES, pick))
 }
 
-fn play_to(alloc: Global, script: &str, pick: Pick, calls: usize) -> Result<Played, AllocError> {
+pub fn play_to(
+    alloc: Global,
+    script: &str,
+    pick: Pick,
+    calls: usize,
+) -> Result<Played, AllocError> {
     let line = format!(in alloc; "{FRESH} --stop {calls}")?;
     play_by(alloc, line.as_str(), script, pick)
 }
@@ -267,7 +271,7 @@ fn check_stops(
 }
 
 /// Plays the script without a stop, which ends with these lines of its own.
-fn expect_whole(
+pub fn expect_whole(
     rt: &impl Abort,
     alloc: Global,
     told: &Told<'_>,
@@ -379,363 +383,6 @@ fn forced_volatile_words_are_taken_back_from_filled_bytes(rt: HostRuntime) -> Re
     check_script(&rt, rt.alloc(), OBJECTS_FORCED_INSIDE, ONE_FORCED, FILLED)
 }
 
-/// The sessions of a drawn script, of which each line's is drawn, and what a run appends for them: the abort of each one, ascending.
-#[derive(Clone, Copy)]
-pub struct Sessions {
-    numbers: [u32; 4],
-    aborts: &'static str,
-}
-
-/// Four sessions side by side, two of them at the end of their numbers, and one alone.
-pub const FOUR: Sessions = Sessions {
-    numbers: [1, 2, 3, 4],
-    aborts: "1 abort -> aborted\n2 abort -> aborted\n3 abort -> aborted\n4 abort -> aborted\n",
-};
-
-const LAST_TWO: Sessions = Sessions {
-    numbers: [31, 32, 31, 32],
-    aborts: "31 abort -> aborted\n32 abort -> aborted\n",
-};
-
-pub const ONE: Sessions = Sessions {
-    numbers: [1, 1, 1, 1],
-    aborts: "1 abort -> aborted\n",
-};
-
-/// How many lines are drawn of a script that is played to its end.
-pub const DRAWN_LINES: usize = 100;
-
-/// A commit of objects for all: each of them is met from the root, and two of them from another one.
-const SHARED: &str =
-    "1 begin\n1 root 0\n1 new 1 2\n1 new 2 3\n1 link 0 0 1\n1 link 0 1 2\n1 link 1 1 2\n1 link 2 0 1\n1 commit\n";
-
-/// Begins a transaction, which first reads one of two fields of the root, or none, so that others can write it.
-fn write_begin(script: &mut String, s: u32, field: u64) -> Result<(), AllocError> {
-    writeln!(script, "{s} begin\n{s} root 0")?;
-    if field < 2 {
-        writeln!(script, "{s} get 0 {field} 1")?;
-    }
-    Ok(())
-}
-
-/// The calls that are drawn, each as often as it stands here, and which of the three drawn numbers it names.
-const DRAWN_CALLS: [(&str, &[usize]); 14] = [
-    (" len", &[0]),
-    (" drop", &[0]),
-    (" new", &[0, 1]),
-    (" new", &[0, 1]),
-    (" link", &[0, 1, 2]),
-    (" link", &[0, 1, 2]),
-    (" link", &[0, 1, 2]),
-    (" put", &[0, 1, 2]),
-    (" put", &[0, 1, 2]),
-    (" put", &[0, 1, 2]),
-    (" get", &[0, 1, 2]),
-    (" get", &[0, 1, 2]),
-    (" same", &[0, 2]),
-    (" clear", &[0, 1]),
-];
-
-fn write_number(script: &mut String, number: u64) -> Result<(), AllocError> {
-    Ok(write!(script, " {number}")?)
-}
-
-fn write_call(
-    script: &mut String,
-    s: u32,
-    (verb, named): (&str, &[usize]),
-    numbers: [u64; 3],
-) -> Result<(), AllocError> {
-    write!(script, "{s}{verb}")?;
-    for place in named {
-        if let Some(number) = numbers.get(*place) {
-            write_number(script, *number)?;
-        }
-    }
-    script.push('\n')
-}
-
-/// Writes a drawn line: a call, a force, or the end of a transaction.
-fn write_drawn(
-    script: &mut String,
-    s: u32,
-    kind: usize,
-    numbers: [u64; 3],
-) -> Result<(), AllocError> {
-    match DRAWN_CALLS.get(kind) {
-        Some(call) => write_call(script, s, *call, numbers),
-        None if kind == DRAWN_CALLS.len() => script.push_str("force\n"),
-        None => write_end(script, s, numbers[1], numbers[0]),
-    }
-}
-
-/// The transactions of these sessions begin.
-fn draw_begin(alloc: Global, sessions: &Sessions) -> Result<String, AllocError> {
-    let mut script = String::from_str(alloc, SHARED)?;
-    for i in 0..4usize {
-        write_begin(&mut script, sessions.numbers[3 - i], i as u64 % 3)?;
-    }
-    Ok(script)
-}
-
-/// A script of that many lines drawn from a seed: in transactions of these sessions, which are sealed or taken back and forced in
-/// between, objects are made, linked, dropped and compared. Each session has a transaction at its end.
-pub fn draw_script(
-    alloc: Global,
-    seed: u64,
-    sessions: &Sessions,
-    lines: usize,
-) -> Result<String, AllocError> {
-    let mut script = draw_begin(alloc, sessions)?;
-    let mut state = seed;
-    for _ in 0..lines {
-        state = state
-            .wrapping_mul(6_364_136_223_846_793_005)
-            .wrapping_add(1_442_695_040_888_963_407);
-        let s = sessions.numbers[(state >> 51) as usize % 4];
-        // A handle, a field, and a second handle.
-        let numbers = [(state >> 33) % 3, (state >> 41) % 3, (state >> 37) % 3];
-        write_drawn(&mut script, s, (state >> 45) as usize % 16, numbers)?;
-    }
-    Ok(script)
-}
-
-/// Ends the transaction of a session in one of three ways, and begins the next one.
-fn write_end(script: &mut String, s: u32, way: u64, field: u64) -> Result<(), AllocError> {
-    let verb = match way {
-        0 => "abort",
-        1 => "seal",
-        _ => "commit",
-    };
-    writeln!(script, "{s} {verb}")?;
-    write_begin(script, s, field)
-}
-
-/// What a run appends to a drawn script: the aborts of its sessions, and a force of what they leave.
-pub fn ending_of(
-    alloc: Global,
-    told: &Told<'_>,
-    sessions: &Sessions,
-) -> Result<String, AllocError> {
-    let aborts = sessions.aborts;
-    let sealed = told.heap.sealed();
-    format!(in alloc; "{aborts}force -> durable {sealed}\n")
-}
-
-/// How many scripts are drawn of each kind.
-pub const DRAWN: u64 = 12;
-
-/// Plays a drawn script of these sessions without a stop.
-fn check_drawn(
-    rt: &impl Abort,
-    alloc: Global,
-    script: &str,
-    sessions: &Sessions,
-) -> Result<(), Fail> {
-    let told = Told::of(rt, alloc, script)?;
-    let ending = ending_of(alloc, &told, sessions)?;
-    expect_whole(rt, alloc, &told, ending.as_str())?;
-    Ok(())
-}
-
-fn check_whole(rt: &impl Abort, alloc: Global, sessions: &Sessions) -> Result<(), Fail> {
-    for seed in 0..DRAWN {
-        let script = draw_script(alloc, seed, sessions, DRAWN_LINES)?;
-        check_drawn(rt, alloc, script.as_str(), sessions)?;
-    }
-    Ok(())
-}
-
-#[test]
-fn drawn_scripts_are_answered_as_by_the_slow_heap(rt: HostRuntime) -> Result<(), Fail> {
-    check_whole(&rt, rt.alloc(), &ONE)
-}
-
-#[test]
-fn four_drawn_sessions_are_answered_as_by_the_slow_heap(rt: HostRuntime) -> Result<(), Fail> {
-    check_whole(&rt, rt.alloc(), &FOUR)
-}
-
-#[test]
-fn the_last_drawn_sessions_are_answered_as_by_the_slow_heap(rt: HostRuntime) -> Result<(), Fail> {
-    check_whole(&rt, rt.alloc(), &LAST_TWO)
-}
-
-/// Sessions, and a seed by which they commit before and after a force at which two of them are losers, in few forces.
-type Table = (Sessions, u64);
-
-const FOUR_LOSERS: Table = (FOUR, 291);
-
-const LAST_LOSERS: Table = (LAST_TWO, 306);
-
-/// How many lines are drawn of a script that is stopped at each of its calls.
-const STOPPED_LINES: usize = 24;
-
-/// The forces of these scripts. After the first one there may be losers.
-const FORCES: usize = 3;
-
-/// Stops a drawn script after that many calls, and if there may be losers also the recovery at each of its own.
-fn check_losers(
-    rt: &impl Abort,
-    alloc: Global,
-    told: &Told<'_>,
-    pick: Pick,
-    calls: usize,
-) -> Result<(), Fail> {
-    let once = play_to(alloc, told.script, pick, calls)?;
-    let (stopped, _) = check_played(rt, told, &once, pick, calls)?;
-    same(rt, (calls, stopped), (calls, calls < FORCES * FORCE_CALLS));
-    if calls >= FORCE_CALLS {
-        expect_each_same(rt, alloc, told, &once, (pick, calls, FORCE_CALLS))?;
-    }
-    Ok(())
-}
-
-/// Stops a drawn script at each of these calls.
-fn check_losers_at(
-    rt: &impl Abort,
-    alloc: Global,
-    told: &Told<'_>,
-    pick: Pick,
-    stops: Range<usize>,
-) -> Result<(), Fail> {
-    same(rt, told.forces.len(), FORCES);
-    for calls in stops {
-        check_losers(rt, alloc, told, pick, calls)?;
-    }
-    Ok(())
-}
-
-fn check_table(
-    rt: &impl Abort,
-    alloc: Global,
-    (sessions, seed): &Table,
-    pick: Pick,
-    stops: Range<usize>,
-) -> Result<(), Fail> {
-    let script = draw_script(alloc, *seed, sessions, STOPPED_LINES)?;
-    let told = Told::of(rt, alloc, script.as_str())?;
-    check_losers_at(rt, alloc, &told, pick, stops)
-}
-
-/// The stops in the first two forces.
-const EARLY: Range<usize> = 0..2 * FORCE_CALLS;
-
-/// Those in the last force, and after it.
-const LATE: Range<usize> = 2 * FORCE_CALLS..FORCES * FORCE_CALLS + 1;
-
-#[test]
-fn four_drawn_sessions_stop_early_and_come_back_from_synced_bytes(
-    rt: HostRuntime,
-) -> Result<(), Fail> {
-    check_table(&rt, rt.alloc(), &FOUR_LOSERS, Pick::Synced, EARLY)
-}
-
-#[test]
-fn four_drawn_sessions_stop_late_and_come_back_from_synced_bytes(
-    rt: HostRuntime,
-) -> Result<(), Fail> {
-    check_table(&rt, rt.alloc(), &FOUR_LOSERS, Pick::Synced, LATE)
-}
-
-#[test]
-fn four_drawn_sessions_stop_early_and_come_back_from_newest_bytes(
-    rt: HostRuntime,
-) -> Result<(), Fail> {
-    check_table(&rt, rt.alloc(), &FOUR_LOSERS, Pick::Newest, EARLY)
-}
-
-#[test]
-fn four_drawn_sessions_stop_late_and_come_back_from_newest_bytes(
-    rt: HostRuntime,
-) -> Result<(), Fail> {
-    check_table(&rt, rt.alloc(), &FOUR_LOSERS, Pick::Newest, LATE)
-}
-
-#[test]
-fn four_drawn_sessions_stop_early_and_come_back_from_bytes_of_ones(
-    rt: HostRuntime,
-) -> Result<(), Fail> {
-    check_table(&rt, rt.alloc(), &FOUR_LOSERS, Pick::AllOnes, EARLY)
-}
-
-#[test]
-fn four_drawn_sessions_stop_late_and_come_back_from_bytes_of_ones(
-    rt: HostRuntime,
-) -> Result<(), Fail> {
-    check_table(&rt, rt.alloc(), &FOUR_LOSERS, Pick::AllOnes, LATE)
-}
-
-#[test]
-fn four_drawn_sessions_stop_early_and_come_back_from_open_gates(
-    rt: HostRuntime,
-) -> Result<(), Fail> {
-    check_table(&rt, rt.alloc(), &FOUR_LOSERS, Pick::AllOpen, EARLY)
-}
-
-#[test]
-fn four_drawn_sessions_stop_late_and_come_back_from_open_gates(
-    rt: HostRuntime,
-) -> Result<(), Fail> {
-    check_table(&rt, rt.alloc(), &FOUR_LOSERS, Pick::AllOpen, LATE)
-}
-
-#[test]
-fn the_last_drawn_sessions_stop_early_and_come_back_from_synced_bytes(
-    rt: HostRuntime,
-) -> Result<(), Fail> {
-    check_table(&rt, rt.alloc(), &LAST_LOSERS, Pick::Synced, EARLY)
-}
-
-#[test]
-fn the_last_drawn_sessions_stop_late_and_come_back_from_synced_bytes(
-    rt: HostRuntime,
-) -> Result<(), Fail> {
-    check_table(&rt, rt.alloc(), &LAST_LOSERS, Pick::Synced, LATE)
-}
-
-#[test]
-fn the_last_drawn_sessions_stop_early_and_come_back_from_newest_bytes(
-    rt: HostRuntime,
-) -> Result<(), Fail> {
-    check_table(&rt, rt.alloc(), &LAST_LOSERS, Pick::Newest, EARLY)
-}
-
-#[test]
-fn the_last_drawn_sessions_stop_late_and_come_back_from_newest_bytes(
-    rt: HostRuntime,
-) -> Result<(), Fail> {
-    check_table(&rt, rt.alloc(), &LAST_LOSERS, Pick::Newest, LATE)
-}
-
-#[test]
-fn the_last_drawn_sessions_stop_early_and_come_back_from_bytes_of_ones(
-    rt: HostRuntime,
-) -> Result<(), Fail> {
-    check_table(&rt, rt.alloc(), &LAST_LOSERS, Pick::AllOnes, EARLY)
-}
-
-#[test]
-fn the_last_drawn_sessions_stop_late_and_come_back_from_bytes_of_ones(
-    rt: HostRuntime,
-) -> Result<(), Fail> {
-    check_table(&rt, rt.alloc(), &LAST_LOSERS, Pick::AllOnes, LATE)
-}
-
-#[test]
-fn the_last_drawn_sessions_stop_early_and_come_back_from_open_gates(
-    rt: HostRuntime,
-) -> Result<(), Fail> {
-    check_table(&rt, rt.alloc(), &LAST_LOSERS, Pick::AllOpen, EARLY)
-}
-
-#[test]
-fn the_last_drawn_sessions_stop_late_and_come_back_from_open_gates(
-    rt: HostRuntime,
-) -> Result<(), Fail> {
-    check_table(&rt, rt.alloc(), &LAST_LOSERS, Pick::AllOpen, LATE)
-}
-
 const TAKEN_BACK: &str = "1 abort -> aborted\nforce -> durable 1\n";
 
 #[test]
@@ -763,7 +410,7 @@ fn expect_same(
 }
 
 /// The same of a stop after each number of calls below `recoveries`.
-fn expect_each_same(
+pub fn expect_each_same(
     rt: &impl Abort,
     alloc: Global,
     told: &Told<'_>,
