@@ -12,6 +12,3 @@ pub use gate::{Gate, OpenGate};
 pub use station::Station;
 pub use together::{MOST_WORKERS, work_all};
 pub use worker::{COLLECTOR, FLUSHER, Worker};
-
-#[cfg(test)]
-mod tests;

@@ -4,6 +4,3 @@
 mod cut;
 
 pub use cut::{events_of, worker_of, workers_of};
-
-#[cfg(test)]
-mod tests;

@@ -4,6 +4,3 @@
 mod play;
 
 pub use play::play_together;
-
-#[cfg(test)]
-mod tests;

@@ -12,6 +12,3 @@ pub use lock::{Held, TurnLock};
 pub use pass::Pass;
 pub use turns::Turns;
 pub use view::{Stage, View};
-
-#[cfg(test)]
-mod tests;

@@ -1,4 +1,4 @@
-use Rattle.turn_lock.proofs.tests.a_front_shows_at_once.Goals as goal
+use Rattle.worker_tests.proofs.turn_lock_tests.a_front_shows_at_once.Goals as goal
 
 pub loop-number-init : goal.loop-number-init
 loop-number-init g c =

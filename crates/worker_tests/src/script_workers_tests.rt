@@ -1,7 +1,7 @@
 //! The lines of one script, cut into the events of its workers.
-use crate::workers_of;
 use graph_model::Event;
 use script_text::Line;
+use script_workers::workers_of;
 use std::test::Fail;
 
 #[test]

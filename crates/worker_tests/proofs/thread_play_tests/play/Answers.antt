@@ -3,7 +3,7 @@ use Rattle.std.specs.List.{AllByRecursion}
 use Rattle.graph_model.specs.History.{IsOfSession}
 use Rattle.script_text.specs.Line.{events}
 use Rattle.script_text.proofs.ScriptLaws.{script_sessions}
-use Rattle.thread_play.proofs.tests.play.Goals as goal
+use Rattle.worker_tests.proofs.thread_play_tests.play.Goals as goal
 
 pub play_together-end-requires-clause-sessions : goal.play_together-end-requires-clause-sessions
 play_together-end-requires-clause-sessions g c κs within =

@@ -1,5 +1,4 @@
 //! Scripts that are played by workers on a heap in memory.
-use crate::play_together;
 use disk_model::{MemoryDisk, Pick};
 use graph_model::{Entry, Refusal, Reply};
 use heap_core::Heap;
@@ -10,6 +9,7 @@ use std::process::Abort;
 use std::sync::Wait;
 use std::test::Fail;
 use std::thread::Threads;
+use thread_play::play_together;
 
 // Two objects, to which the root refers.
 const FIRST: &str =

@@ -1,6 +1,6 @@
 use Rattle.std.proofs.Common.{◌≡◌, [], ◌∷◌}
 use Rattle.turn_lock.specs.Passes.{pass_numbers, IsPassOf, IsResting}
-use Rattle.turn_lock.proofs.tests.a_front_shows_at_once.Given as goal
+use Rattle.worker_tests.proofs.turn_lock_tests.a_front_shows_at_once.Given as goal
 
 abbrev pub invariant-loop-number : goal.invariant-loop-number
 invariant-loop-number g l = record {

@@ -1,8 +1,8 @@
 //! Turns in threads, and what follows from the clauses alone.
-use crate::TurnLock;
-use crate::ledger::{Ledger, both, post_four, post_two};
 use std::alloc::Global;
 use std::test::Fail;
+use turn_lock::TurnLock;
+use turn_lock::ledger::{Ledger, both, post_four, post_two};
 
 // How many turns each thread makes.
 const TURNS: u64 = 1000;

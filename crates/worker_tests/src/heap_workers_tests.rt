@@ -1,7 +1,7 @@
 //! Workers over a caller that answers from a table, alone and in threads.
-use crate::{Gate, HeapCalls, OpenGate, Station, Worker, work_all};
 use crossbeam_utils::Backoff;
 use graph_model::{Entry, Event, Refusal, Reply};
+use heap_workers::{Gate, HeapCalls, OpenGate, Station, Worker, work_all};
 use std::alloc::{AllocError, Global};
 use std::sync::Wait;
 use std::sync::atomic::{AtomicU64, Ordering};
