@@ -249,7 +249,7 @@ def main():
     by_size(n)
     for leaf_words in (4, 7, 16, 64) if os.path.exists(LIBRARY) else ():
         beside_c(n, leaf_words)
-    without, within = reads(10_000)
+    without, within = reads(80_000)
     print(f"a read beside a collection, of a page with nothing gray: {within / without:.2f} times as long as without one")
     by_heap(n)
 
