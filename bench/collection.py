@@ -247,8 +247,11 @@ def main():
     subprocess.run(["gcc", "-O2", "-o", "collection", f"{TOP}/bench/collection.c"], check=True)
     print(f"load {os.getloadavg()[0]:.1f}")
     by_size(n)
-    for leaf_words in (4, 7, 16, 64) if os.path.exists(LIBRARY) else ():
-        beside_c(n, leaf_words)
+    if os.path.exists(LIBRARY):
+        for leaf_words in (4, 7, 16, 64):
+            beside_c(n, leaf_words)
+    else:
+        print("without the C program: what is compared with it is built by `rt run` in crates/library_bench")
     without, within = reads(80_000)
     print(f"a read beside a collection, of a page with nothing gray: {within / without:.2f} times as long as without one")
     by_heap(n)
