@@ -11,8 +11,9 @@ taken off. Beside the C program 60 rounds count, in each of which all take their
 script, with its lines and answers. The C program's memory was written before its clock began; so what is timed are collections after others and a
 force, whose memory the log has kept, with a force after each six. A run with the first six alone is taken off, and in a script a run with as many
 scans that have nothing to do in place of the others. Pauses are the processor time of `heap session` between a line and its answer, as
-Linux tells it. It needs gcc, measures, and judges nothing. With --quick the program is that which is compiled with nothing proved; it has checks at
-each step, and its times say little.
+Linux tells it, in the third collection of a run, each with a force after it: in the first one the memory of the log grows, and a scan in which it
+doubles waits for that. They are compared in two sizes of heap, also with the caches emptied, and in the first collection. It needs gcc,
+measures, and judges nothing. With --quick the program is that which is compiled with nothing proved; it has checks at each step, and its times say little.
 """
 import os
 import resource
@@ -30,6 +31,7 @@ LIBRARY = os.path.join(TOP, "crates/library_bench/out/library_bench")
 RUNS = 9
 ROUNDS = 60
 PAUSES = 15
+EVICTING = b"\1" * (128 * 1_048_576)
 LEAVES = 509
 LOG = 12 * 1_048_576
 COLLECTIONS = 6
@@ -203,38 +205,70 @@ class Session:
         self.process.wait()
 
 
-def pauses_once(name, locks):
-    """The pauses of a flip, with so many objects of the first directory read before it, and of each scan until the last."""
-    session = Session(name)
-    for line in ["1 begin", "1 root 0", "1 get 0 0 1"]:
-        session.ask(line)
-    for field in range(1, locks + 1):
-        session.ask(f"1 get 1 {field} 2")
-        session.ask("1 get 2 0 63")
-    flip, _ = session.ask("flip")
-    scans, answer = [], ""
-    while not answer.startswith("collected"):
-        seconds, answer = session.ask("scan")
-        scans.append(seconds)
-    session.close()
-    return [flip] + scans
+def empty_caches():
+    """Reads memory that is larger than any cache, on the processor that the session runs on too, so that nothing of its heap is left in one."""
+    EVICTING[::64]
 
 
-def pauses(name, locks):
-    """The seconds of the flip, and of the longest scan, where each event counts with the least of its times."""
-    rounds = [pauses_once(name, locks) for _ in range(PAUSES)]
-    flip, *scans = map(min, zip(*rounds))
-    return flip, max(scans)
+class Rounds:
+    """The same flip and scans on the same heap, round after round. Before the flip so many objects of the first directory are read, each a lock."""
+
+    def __init__(self, name, locks, collected):
+        """So many collections are made before, with a force after each: what grows by doubling has grown, and is kept."""
+        self.name, self.locks, self.collected = name, locks, collected
+
+    def collect(self, session, cold=()):
+        """The pauses of a flip and of each scan until the last, and their answers. Before the events at the places `cold` the caches are emptied."""
+        seconds, answers = [], []
+        while not answers or not answers[-1].startswith("collected"):
+            if len(answers) in cold:
+                empty_caches()
+            one, answer = session.ask("scan" if answers else "flip")
+            seconds.append(one)
+            answers.append(answer)
+        return seconds, answers
+
+    def once(self, cold=()):
+        session = Session(self.name)
+        for line in ["1 begin", "1 root 0", "1 get 0 0 1"]:
+            session.ask(line)
+        for field in range(1, self.locks + 1):
+            session.ask(f"1 get 1 {field} 2")
+            session.ask("1 get 2 0 63")
+        for _ in range(self.collected):
+            self.collect(session)
+            session.ask("force")
+        told = self.collect(session, cold)
+        session.close()
+        return told
+
+    def copying(self):
+        """The places of the flip, and of the scans that copy the leaves of a directory."""
+        _, answers = self.once()
+        told = [answer.split() for answer in answers]
+        return [0] + [at for at, words in enumerate(told) if words[0] == "scanned" and int(words[2]) >= LEAVES - self.locks]
+
+
+def pauses(heaps, is_cold=False):
+    """The seconds of the flip and of the longest scan of each heap, where each event counts with the least of its times. The heaps take turns."""
+    cold = [heap.copying() if is_cold else () for heap in heaps]
+    rounds = [[heap.once(places)[0] for heap, places in zip(heaps, cold)] for _ in range(PAUSES)]
+    least = [[min(times) for times in zip(*of_one)] for of_one in zip(*rounds)]
+    return [(flip, max(scans)) for flip, *scans in least]
 
 
 def by_heap(n):
     few = n // 8 or 1
     build("small", few)
-    flip, scan = pauses("small", 40)
-    large_flip, large_scan = pauses("long", 40)
-    more_flip, _ = pauses("long", 400)
-    print(f"the longest pauses: a flip of 42 roots {1000 * large_flip:.2f} ms, of 402 roots {1000 * more_flip:.2f} ms, a scan {1000 * large_scan:.2f} ms")
-    print(f"with {2 * n // few} times the heap a flip of 42 roots takes {large_flip / flip:.2f} times as long, the longest scan {large_scan / scan:.2f} times")
+    os.sched_setaffinity(0, {min(os.sched_getaffinity(0))})
+    (flip, scan), (more, _) = pauses([Rounds("long", 40, 2), Rounds("long", 400, 2)])
+    print(f"the longest pauses: a flip of 42 roots {1000 * flip:.2f} ms, of 402 roots {1000 * more:.2f} ms, a scan {1000 * scan:.2f} ms")
+    for collected, is_cold in ((2, False), (2, True), (0, False)):
+        (flip, scan), (small_flip, small_scan) = pauses([Rounds("long", 40, collected), Rounds("small", 40, collected)], is_cold)
+        which = "the third" if collected else "the first"
+        caches = ", with the caches emptied before each" if is_cold else ""
+        times = f"a flip of 42 roots takes {flip / small_flip:.2f} times as long, the longest scan {scan / small_scan:.2f} times"
+        print(f"with {2 * n // few} times the heap, in {which} collection{caches}: {times}")
 
 
 def main():
