@@ -4,16 +4,17 @@
     bench/collection.py [--quick] [N]
 
 The heap is a list of directories of 509 leaves each, reached from the root; N is how many directories the short one has, 16 if left out, and
-at most 32. Each run begins on a copy of the same file. Whole runs are timed by the processor time of the program, which other work on the
+at most 28. Each run begins on a copy of the same file. Whole runs are timed by the processor time of the program, which other work on the
 machine changes least, and the least of 9 runs counts; the time of a run on an empty script, which opens the heap and prints its graph, is
 taken off. Beside the C program 60 rounds count, in each of which all take their turn. There the collections are made by calls of the library
 (`library_bench collect`, which `rt run` in crates/library_bench builds; without it the C program is left out), as C makes no text either, and once more by a
 script, with its lines and answers. The C program's memory was written before its clock began; so what is timed are collections after others and a
 force, whose memory the log has kept, with a force after each six. A run with the first six alone is taken off, and in a script a run with as many
 scans that have nothing to do in place of the others. Pauses are the processor time of `heap session` between a line and its answer, as
-Linux tells it, in the third collection of a run, each with a force after it: in the first one the memory of the log grows, and a scan in which it
-doubles waits for that. They are compared in two sizes of heap, also with the caches emptied, and in the first collection. It needs gcc,
-measures, and judges nothing. With --quick the program is that which is compiled with nothing proved; it has checks at each step, and its times say little.
+Linux tells it, in one of the first three collections of a run, each with a force after it; memory that grows by doubling has grown in the third.
+They are compared with a heap of 16 times the objects and with one of the same objects in the most pages, also with the caches emptied before each, for
+which both programs run on one processor. It needs gcc, measures, and judges nothing. With --quick the program is that which is compiled with nothing
+proved; it has checks at each step, and its times say little.
 """
 import os
 import resource
@@ -31,6 +32,7 @@ LIBRARY = os.path.join(TOP, "crates/library_bench/out/library_bench")
 RUNS = 9
 ROUNDS = 60
 PAUSES = 15
+MOST_PAGES = 16_384
 EVICTING = b"\1" * (128 * 1_048_576)
 LEAVES = 509
 LOG = 12 * 1_048_576
@@ -71,10 +73,9 @@ def log_bytes(directories, leaf_words):
     return 1_048_576 + ((1 + AGAIN) * COLLECTIONS + 2) * (8 * words_of(directories, leaf_words) + 60 * objects)
 
 
-def build(name, directories, leaf_words=4, log=LOG):
+def build(name, directories, leaf_words=4, log=LOG, pages=None):
     """A heap of so many directories, kept in a file of this name. Its objects are in the spaces for the first time."""
-    pages = words_of(directories, leaf_words) // 64 + 8
-    run(["format", str(pages), str(log), "1"])
+    run(["format", str(pages or words_of(directories, leaf_words) // 64 + 8), str(log), "1"])
     for made in range(directories):
         run(["play"], directory(leaf_words, made == 0))
     os.replace("heap.img", name)
@@ -206,7 +207,7 @@ class Session:
 
 
 def empty_caches():
-    """Reads memory that is larger than any cache, on the processor that the session runs on too, so that nothing of its heap is left in one."""
+    """Reads more memory than a cache holds, on the processor that the session runs on too, so that nothing of its heap is left in one."""
     EVICTING[::64]
 
 
@@ -216,16 +217,19 @@ class Rounds:
     def __init__(self, name, locks, collected):
         """So many collections are made before, with a force after each: what grows by doubling has grown, and is kept."""
         self.name, self.locks, self.collected = name, locks, collected
+        self.answers = self.once()[1]
 
     def collect(self, session, cold=()):
         """The pauses of a flip and of each scan until the last, and their answers. Before the events at the places `cold` the caches are emptied."""
         seconds, answers = [], []
-        while not answers or not answers[-1].startswith("collected"):
+        while not answers or answers[-1].startswith("scanned") or len(answers) == 1:
             if len(answers) in cold:
                 empty_caches()
             one, answer = session.ask("scan" if answers else "flip")
             seconds.append(one)
             answers.append(answer)
+        if not answers[-1].startswith("collected"):
+            sys.exit(f"collection: an event is answered {answers[-1]}")
         return seconds, answers
 
     def once(self, cold=()):
@@ -242,39 +246,55 @@ class Rounds:
         session.close()
         return told
 
-    def copying(self):
-        """The places of the flip, and of the scans that copy the leaves of a directory."""
-        _, answers = self.once()
-        told = [answer.split() for answer in answers]
-        return [0] + [at for at, words in enumerate(told) if words[0] == "scanned" and int(words[2]) >= LEAVES - self.locks]
+    def directories(self):
+        """The places of the scans that copy the leaves of a directory and the next directory."""
+        wanted = [str(LEAVES + 1), str(512 + 4 * LEAVES)]
+        return [at for at, answer in enumerate(self.answers) if answer.startswith("scanned") and answer.split()[2:] == wanted]
 
 
 def pauses(heaps, is_cold=False):
-    """The seconds of the flip and of the longest scan of each heap, where each event counts with the least of its times. The heaps take turns."""
-    cold = [heap.copying() if is_cold else () for heap in heaps]
-    rounds = [[heap.once(places)[0] for heap, places in zip(heaps, cold)] for _ in range(PAUSES)]
-    least = [[min(times) for times in zip(*of_one)] for of_one in zip(*rounds)]
-    return [(flip, max(scans)) for flip, *scans in least]
+    """The seconds of the flip and of the longest scan of a directory of each heap, where each event counts with the least of its times. The heaps take
+    turns."""
+    cold = [[0] + heap.directories() if is_cold else [] for heap in heaps]
+    taken = [[] for _ in heaps]
+    for _ in range(PAUSES):
+        for heap, places, times in zip(heaps, cold, taken):
+            seconds, answers = heap.once(places)
+            if answers != heap.answers:
+                sys.exit("collection: two rounds are answered differently")
+            times.append(seconds)
+    least = [[min(times) for times in zip(*rounds)] for rounds in taken]
+    return [(times[0], max(times[at] for at in heap.directories())) for heap, times in zip(heaps, least)]
+
+
+def beside_small(small, long, wide):
+    return f"{1000 * small:.3f} ms, {long / small:.2f} times as long with 16 times the objects, {wide / small:.2f} in {MOST_PAGES} pages"
 
 
 def by_heap(n):
-    few = n // 8 or 1
+    few = max(3, n // 8)
+    pages = words_of(few, 4) // 64 + 8
     build("small", few)
-    os.sched_setaffinity(0, {min(os.sched_getaffinity(0))})
-    (flip, scan), (more, _) = pauses([Rounds("long", 40, 2), Rounds("long", 400, 2)])
-    print(f"the longest pauses: a flip of 42 roots {1000 * flip:.2f} ms, of 402 roots {1000 * more:.2f} ms, a scan {1000 * scan:.2f} ms")
-    for collected, is_cold in ((2, False), (2, True), (0, False)):
-        (flip, scan), (small_flip, small_scan) = pauses([Rounds("long", 40, collected), Rounds("small", 40, collected)], is_cold)
-        which = "the third" if collected else "the first"
-        caches = ", with the caches emptied before each" if is_cold else ""
-        times = f"a flip of 42 roots takes {flip / small_flip:.2f} times as long, the longest scan {scan / small_scan:.2f} times"
-        print(f"with {2 * n // few} times the heap, in {which} collection{caches}: {times}")
+    build("large", 16 * few)
+    build("wide", few, pages=MOST_PAGES)
+    (flip, _), (more, _) = pauses([Rounds("large", 40, 2), Rounds("large", 400, 2)])
+    print(f"the longest pauses, in the third collection: a flip of 42 roots {1000 * flip:.2f} ms, of 402 roots {1000 * more:.2f} ms")
+    processors = os.sched_getaffinity(0)
+    for collected, is_cold in ((2, False), (2, True), (1, False), (0, False)):
+        if is_cold:
+            os.sched_setaffinity(0, {min(processors)})
+        flips, scans = zip(*pauses([Rounds(name, 40, collected) for name in ("small", "large", "wide")], is_cold))
+        os.sched_setaffinity(0, processors)
+        caches = ", with the caches emptied" if is_cold else ""
+        which = ("first", "second", "third")[collected]
+        print(f"{which} collection of a heap of {pages} pages{caches}: a flip of 42 roots {beside_small(*flips)};", end=" ")
+        print(f"the longest scan of a directory {beside_small(*scans)}")
 
 
 def main():
     n = int(sys.argv[1 + len(QUICK)]) if len(sys.argv) > 1 + len(QUICK) else 16
-    if not 1 <= n <= 32:
-        sys.exit("collection: N is from 1 to 32")
+    if not 1 <= n <= 28:
+        sys.exit("collection: N is from 1 to 28")
     heap = [os.path.join(TOP, "heap"), *QUICK]
     subprocess.run([*heap, "format", "1", "65536", "1"], stdout=subprocess.PIPE, check=True)  # builds the program, if it is not built
     subprocess.run([*heap, "session"], stdin=subprocess.DEVNULL, stdout=subprocess.PIPE, check=True)
