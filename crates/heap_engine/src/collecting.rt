@@ -38,7 +38,7 @@ impl Engine {
 
     /// Begins a collection, if none runs: the spaces change their roles, and the root object and all stable objects that transactions name or
     /// lock are copied into the one that is current from now on. What the transactions keep is updated, and none of them has to wait. It
-    /// takes time for these objects and for what the transactions keep, whatever the heap's size.
+    /// takes time for these objects and for what the transactions keep, and a little for each 64 pages of the heap.
     pub(crate) fn flip(&mut self) -> Result<Reply, AllocError>
         ensures reply { IfOk result (λ reply. (roots : List ℕ) × AreRoots self.old.table self.old.locks roots × (reply ≡ reply_of (flip_refusal (memory self.old) roots) (flip_reply (memory self.old) roots))) }
         ensures flipped { (objects words : ℕ) → result ≡ Ok (Flipped objects words) → (roots : List ℕ) × Flips (memory self.old) (memory self.new) roots }

@@ -1,5 +1,5 @@
 -- Pages of bits, and the addresses that they name.
-use Rattle.std.proofs.Common.{◌≡◌, ◌≢◌, ℕ, zero, suc, ◌+◌, ◌*◌, ◌/◌, ◌%◌, ◌^◌, ◌<◌, ◌≤◌, ◌==◌, ◌||◌, ◌&&◌, true, false, not, cond, List, [], ◌∷◌, ◌++◌, length, get_or, set, get_or-set_same, get_or-set_other, refl, sym, ap, ◌∙◌, inl, inr, arith}
+use Rattle.std.proofs.Common.{◌≡◌, ◌≢◌, ℕ, zero, suc, ◌+◌, ◌*◌, ◌/◌, ◌%◌, ◌^◌, ◌<◌, ◌≤◌, ◌==◌, ◌||◌, ◌&&◌, true, false, not, cond, List, [], length, get_or, set, get_or-set_same, get_or-set_other, refl, sym, ap, ◌∙◌, inl, inr, arith}
 use Rattle.std.proofs.lemmas.Bool.{false≢true, cases_lt, cases_eq}
 use Rattle.std.proofs.lemmas.Nat.{shr-shr}
 use Rattle.std.proofs.lemmas.Nat.Bits.{bit_at-zero, bit_at_above}
@@ -63,12 +63,6 @@ pub none_named : (pages : List ℕ) (q : ℕ) → get_or pages (page_of q) 0 ≡
 unfolding is_named
 none_named pages q e = ap (λ bits. is_set bits (q % 64)) e ∙ none_set (q % 64)
 
--- a page that is there is the same whatever stands for one that is not
-pub any_default : (pages : List ℕ) (p a b : ℕ) → p < length pages → get_or pages p a ≡ get_or pages p b
-any_default [] p a b lt = absurd (omega arith)
-any_default (x ∷ xs) zero a b lt = refl
-any_default (x ∷ xs) (suc p) a b lt = any_default xs p a b (omega arith)
-
 -- whether an address is in the set that pages name
 pub seen : (pages : List ℕ) (q : ℕ) → contains (named pages) q ≡ is_named pages q
 unfolding named
@@ -85,17 +79,10 @@ pub none_of_none : named [] ≡ empty
 unfolding named named_below
 none_of_none = refl
 
--- a page that has none, after the others
-pub zero_behind : (pages : List ℕ) (p : ℕ) → get_or (pages ++ 0 ∷ []) p 0 ≡ get_or pages p 0
-zero_behind [] zero = refl
-zero_behind [] (suc p) = refl
-zero_behind (x ∷ xs) zero = refl
-zero_behind (x ∷ xs) (suc p) = zero_behind xs p
-
--- nor does one more page that has none
-pub grown : (pages : List ℕ) → named (pages ++ 0 ∷ []) ≡ named pages
+-- pages with the same numbers name the same addresses
+pub same_named : (pages other : List ℕ) → ((p : ℕ) → get_or pages p 0 ≡ get_or other p 0) → named pages ≡ named other
 unfolding is_named
-grown pages = same_addresses _ _ (λ q. seen (pages ++ 0 ∷ []) q ∙ ap (λ bits. is_set bits (q % 64)) (zero_behind pages (page_of q)) ∙ sym (seen pages q))
+same_named pages other each = same_addresses _ _ (λ q. seen pages q ∙ ap (λ bits. is_set bits (q % 64)) (each (page_of q)) ∙ sym (seen other q))
 
 named_in : (pages : List ℕ) (p bits q : ℕ) → p < length pages → page_of q ≡ p → is_named (set pages p bits) q ≡ is_set bits (q % 64)
 unfolding is_named
@@ -160,16 +147,16 @@ removed pages at bits lt here others = same_addresses _ _ each
         ]
         ∙ sym (contains-remove nat_cmp_total (named pages) at q)
 
--- an address in a page that is not there is none of them
-pub removed_past : (pages : List ℕ) (at : ℕ) → length pages ≤ page_of at → named pages ≡ remove (named pages) at
-removed_past pages at past = same_addresses _ _ each
+-- an address in a page that has none is none of them
+pub removed_none : (pages : List ℕ) (at : ℕ) → get_or pages (page_of at) 0 ≡ 0 → named pages ≡ remove (named pages) at
+removed_none pages at none = same_addresses _ _ each
   where
     each : (q : ℕ) → contains (named pages) q ≡ contains (remove (named pages) at) q
     each q =
         elim (cases_eq q at) [
           | inl is ↦
               seen pages q
-              ∙ none_named pages q (get_or-eq_default pages 0 (omega (arith, is, past)))
+              ∙ none_named pages q (ap (λ n. get_or pages (page_of n) 0) is ∙ none)
               ∙ sym (ap (λ b. not b && contains (named pages) q) (same q at is))
           | inr apart ↦ sym (ap (λ b. not b && contains (named pages) q) (differ q at apart))
         ]
@@ -182,12 +169,12 @@ cleared pages page lt =
     (λ q apart. seen (set pages page 0) q ∙ named_out pages page 0 q apart ∙ sym (seen pages q))
     (λ q here. seen (set pages page 0) q ∙ named_in pages page 0 q lt here ∙ none_set (q % 64))
 
--- and one that is not there
-pub cleared_past : (pages : List ℕ) (page : ℕ) → length pages ≤ page → named pages ≡ without_page (named pages) page
-cleared_past pages page past =
+-- and one that has none
+pub cleared_none : (pages : List ℕ) (page : ℕ) → get_or pages page 0 ≡ 0 → named pages ≡ without_page (named pages) page
+cleared_none pages page none =
     page_removed (named pages) (named pages) page
     (λ q apart. refl)
-    (λ q here. seen pages q ∙ none_named pages q (get_or-eq_default pages 0 (omega (arith, here, past))))
+    (λ q here. seen pages q ∙ none_named pages q (ap (λ n. get_or pages n 0) here ∙ none))
 
 -- the bits of a number that is shifted
 pub shifted : (bits place i : ℕ) → is_set (bits / 2 ^ place) i ≡ is_set bits (place + i)

@@ -1,5 +1,5 @@
 -- Sets of word addresses.
-use Rattle.std.specs.Prelude.{◌≡◌, ℕ, zero, suc, ◌*◌, ◌%◌, ◌<◌, ◌≤◌, ◌==◌, Bool, not, cond, List, [], ◌∷◌, length, slice_index}
+use Rattle.std.specs.Prelude.{◌≡◌, ℕ, zero, suc, ◌*◌, ◌%◌, ◌<◌, ◌==◌, Bool, not, cond, List, [], ◌∷◌, length, slice_index}
 use Rattle.std.specs.Int.{bit_at}
 use Rattle.std.specs.Ordering.{nat_cmp}
 use Rattle.std.specs.FinSet.{FinSet, empty, insert, retain}
@@ -36,9 +36,8 @@ named pages = named_below pages (64 * length pages)
 -- A set of addresses, as contracts see it.
 pub record AddressState : Type 0 where
   pub set : FinSet nat_cmp  -- the addresses
-  pub room : ℕ  -- how many pages have memory
+  pub room : List ℕ  -- for how many pages of each group there is memory
 
--- The pages lie in a heap's address range, and those before the first one have no address.
+-- The pages before the first one have no address.
 pub record HasPages (pages : List ℕ) (first : ℕ) : Type 0 where
-  pub few : length pages ≤ 67108864
   pub none : (page : ℕ) → page < first → slice_index pages page ≡ 0

@@ -2,4 +2,5 @@ pub mod Addresses
 pub mod Collection
 pub mod CollectionCode
 pub mod Copying
+pub mod PageTable
 pub mod Spaces

@@ -1,10 +1,12 @@
 //! Sets of word addresses.
-ghost use Rattle.std.specs.Prelude.{◌≡◌, ◌+◌, ◌*◌, ◌%◌, ◌≤◌, ◌<◌, ◌^◌, ◌↔◌, ℕ, true, false, OnOk, IfSome, IfNone, IsTrue, slice_index};
+ghost use Rattle.std.specs.Prelude.{◌≡◌, ◌+◌, ◌*◌, ◌%◌, ◌≤◌, ◌<◌, ◌^◌, ◌↔◌, ℕ, [], true, false, OnOk, IfSome, IfNone, IsTrue};
 ghost use Rattle.std.specs.FinSet.{empty, contains, insert, remove};
 ghost use Rattle.heap_spaces.specs.Addresses.{AddressState, is_set, without_page};
 ghost use Rattle.heap_spaces.specs.Collection.{page_of};
+ghost use Rattle.heap_spaces.specs.PageTable.{HasRoom};
 
-use crate::page_bits::{first_bit, first_bit_from, has_bit, with_bit, without_bit};
+use crate::page_bits::{first_bit, first_bit_from, has_bit, without_bit};
+use crate::page_table::PageTable;
 use heap_words::PAGE_WORDS;
 use std::alloc::{AllocError, Global};
 use std::marker::Model;
@@ -13,7 +15,7 @@ use std::marker::Model;
 #[derive(Debug, Drop)]
 pub(crate) struct AddressSet {
     /// The words of each page that are among them, as its bits.
-    pages: Vec<u64>,
+    pages: PageTable,
     /// Pages before this one have none.
     first: usize,
 }
@@ -21,24 +23,23 @@ pub(crate) struct AddressSet {
 impl Model for AddressSet {
     ghost use Rattle.heap_spaces.specs.Addresses.{AddressState, named, HasPages};
     ghost use Rattle.heap_spaces.specs.CollectionCode.{address_state_code};
-    ghost use Rattle.std.specs.Prelude.{vec_len};
 
     ghost Value = { AddressState };
 
     ghost coded = { address_state_code };
 
-    ghost view = { λ s. record { set = named s.pages.items; room = vec_len s.pages } };
+    ghost view = { λ s. record { set = named s.pages.numbers; room = s.pages.room } };
 
-    ghost invariant = { λ s. HasPages s.pages.items s.first };
+    ghost invariant = { λ s. HasPages s.pages.numbers s.first };
 }
 
 impl AddressSet {
     /// An empty set. Does not allocate.
     pub(crate) fn new(alloc: Global) -> AddressSet
-        ensures { result ≡ record { set = empty; room = 0 } }
+        ensures { result ≡ record { set = empty; room = [] } }
     {
         AddressSet {
-            pages: Vec::new(alloc),
+            pages: PageTable::new(alloc),
             first: 0,
         }
     }
@@ -57,29 +58,25 @@ impl AddressSet {
     pub(crate) fn contains(&self, at: u32) -> bool
         ensures { result ≡ contains self.now.set at }
     {
-        has_bit(page_bits(&self.pages, page_of(at)), place_of(at))
+        has_bit(self.pages.get(page_of(at)), place_of(at))
     }
 
     /// Allocates the memory for an address. An error adds none.
     pub(crate) fn make_room(&mut self, at: u32) -> Result<(), AllocError>
-        ensures room { OnOk result (page_of at < self.new.room) }
-        ensures grows { self.old.room ≤ self.new.room }
+        ensures room { OnOk result (HasRoom self.new.room (page_of at)) }
+        ensures grows { (p : ℕ) → HasRoom self.old.room p → HasRoom self.new.room p }
         ensures same { self.new.set ≡ self.old.set }
     {
-        let end = page_of(at) + 1;
-        for page in self.pages.len()..end {
-            self.pages.push(0)?;
-        }
-        Ok(())
+        self.pages.make_room(page_of(at))
     }
 
     /// Adds the address, for which there is room.
     pub(crate) fn add(&mut self, at: u32)
-        requires { page_of at < self.old.room }
+        requires { HasRoom self.old.room (page_of at) }
         ensures { self.new ≡ record self.old { set = insert self.old.set at } }
     {
         let page = page_of(at);
-        self.pages[page] = with_bit(self.pages[page], place_of(at));
+        self.pages.set_bit(page, place_of(at));
         self.first = self.first.min(page);
     }
 
@@ -88,10 +85,11 @@ impl AddressSet {
         ensures { self.new ≡ record self.old { set = remove self.old.set at } }
     {
         let page = page_of(at);
-        if page >= self.pages.len() {
+        let bits = self.pages.get(page);
+        if bits == 0 {
             return;
         }
-        self.pages[page] = without_bit(self.pages[page], place_of(at));
+        self.pages.put(page, without_bit(bits, place_of(at)));
     }
 
     /// Removes the addresses of a page. Does not allocate, and visits no other address.
@@ -99,10 +97,10 @@ impl AddressSet {
         ensures { self.new ≡ record self.old { set = without_page self.old.set page } }
     {
         let page = page as usize;
-        if page >= self.pages.len() {
+        if self.pages.get(page) == 0 {
             return;
         }
-        self.pages[page] = 0;
+        self.pages.put(page, 0);
         self.skip_empty_pages();
     }
 
@@ -110,16 +108,17 @@ impl AddressSet {
     fn skip_empty_pages(&mut self)
         ensures { self.new ≡ self.old }
     {
-        while self.first < self.pages.len() && self.pages[self.first] == 0 {
-            self.first += 1;
-        }
+        self.first = match self.pages.next_from(self.first) {
+            Some(page) => page,
+            None => self.pages.len(),
+        };
     }
 
     /// Which words of a page are among them, as its bits.
     pub(crate) fn bits_in(&self, page: u32) -> u64
         ensures { (place : ℕ) → place < 64 → is_set result place ≡ contains self.now.set (64 * page + place) }
     {
-        page_bits(&self.pages, page as usize)
+        self.pages.get(page as usize)
     }
 
     /// The least address in a page.
@@ -128,7 +127,7 @@ impl AddressSet {
         ensures some { IfSome result (λ at. (contains self.now.set at ≡ true) × (page_of at ≡ page)) }
         ensures none { IfNone result ((q : ℕ) → page_of q ≡ page → contains self.now.set q ≡ false) }
     {
-        let place = first_bit(page_bits(&self.pages, page as usize))?;
+        let place = first_bit(self.pages.get(page as usize))?;
         Some(PAGE_WORDS * page + place)
     }
 
@@ -138,7 +137,7 @@ impl AddressSet {
         ensures none { IfNone result ((q : ℕ) → from ≤ q → contains self.now.set q ≡ false) }
     {
         let page = page_of(from);
-        if let Some(place) = first_bit_from(page_bits(&self.pages, page), place_of(from)) {
+        if let Some(place) = first_bit_from(self.pages.get(page), place_of(from)) {
             return Some(PAGE_WORDS * page as u32 + place);
         }
         let at = self.first_behind(page + 1)?;
@@ -159,17 +158,14 @@ impl AddressSet {
         ensures some { IfSome result (λ at. (contains self.now.set at ≡ true) × (64 * page ≤ at) × ((q : ℕ) → contains self.now.set q ≡ true → 64 * page ≤ q → at ≤ q)) }
         ensures none { IfNone result ((q : ℕ) → 64 * page ≤ q → contains self.now.set q ≡ false) }
     {
-        for p in page..self.pages.len() {
-            if let Some(place) = first_bit(self.pages[p]) {
-                return Some(PAGE_WORDS * p as u32 + place);
-            }
-        }
-        None
+        let page = self.pages.next_from(page)?;
+        let place = first_bit(self.pages.get(page))?;
+        Some(PAGE_WORDS * page as u32 + place)
     }
 }
 
 /// The page in which an address lies.
-fn page_of(at: u32) -> usize
+pub(crate) fn page_of(at: u32) -> usize
     ensures page { result ≡ page_of at }
     ensures few { result < 2 ^ 26 }
 {
@@ -182,11 +178,4 @@ fn place_of(at: u32) -> u32
     ensures low { result < 64 }
 {
     at % PAGE_WORDS
-}
-
-/// The bits of a page, which are 0 if it has none.
-fn page_bits(pages: &[u64], page: usize) -> u64
-    ensures { result ≡ slice_index pages.now page }
-{
-    pages.get(page).copied().unwrap_or(0)
 }

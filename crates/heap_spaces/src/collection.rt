@@ -7,7 +7,7 @@ ghost use Rattle.heap_spaces.specs.Collection.{owed_by, page_of};
 ghost use Rattle.heap_spaces.specs.declared.collection.CopiedObject.{CopiedObject};
 ghost use Rattle.heap_spaces.specs.Copying.{begun, with_copies, with_scanned, IsLeastGrayPage};
 
-use crate::address_set::AddressSet;
+use crate::address_set::{AddressSet, page_of};
 use heap_words::PAGE_WORDS;
 use std::alloc::{AllocError, Global};
 use std::marker::Model;
@@ -142,9 +142,15 @@ impl Collection {
         ensures ok { OnOk result (self.new ≡ with_copies self.old copies.now) }
         ensures err { OnErr result (self.new ≡ self.old) }
     {
+        // One more than the numbers of the last copy's pages, which have room, and 0 before the first: most copies lie in the pages of the one before.
+        let mut last = (0, 0);
         'room: for copy in copies {
-            self.moved.make_room(copy.from)?;
-            self.gray.make_room(copy.to)?;
+            let pages = (page_of(copy.from) + 1, page_of(copy.to) + 1);
+            if pages.0 != last.0 || pages.1 != last.1 {
+                self.moved.make_room(copy.from)?;
+                self.gray.make_room(copy.to)?;
+                last = pages;
+            }
         }
         'copies: for copy in copies {
             self.moved.add(copy.from);

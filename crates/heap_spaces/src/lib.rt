@@ -4,6 +4,7 @@
 mod address_set;
 mod collection;
 mod page_bits;
+mod page_table;
 
 ghost use Rattle.std.specs.Prelude.{◌≡◌, ◌+◌, ◌*◌, ◌≤◌, ◌<◌, ◌⊎◌, ◌↔◌, IsErr, IfOk, IfErr, OnOk, OnErr};
 ghost use Rattle.heap_spaces.specs.Spaces.{IsSpaces, free_words, open_words, with_taken, flipped, with_copied, with_none_owed};

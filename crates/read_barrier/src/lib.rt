@@ -9,8 +9,8 @@ use heap_spaces::Collection;
 use heap_words::PAGE_WORDS;
 
 /// The page that has to be scanned before a field of the object at the word address `object` is read or written: the one in which the
-/// object starts, exactly if a collection runs and a gray object starts in it. Does not allocate; takes time logarithmic in the number of
-/// gray objects.
+/// object starts, exactly if a collection runs and a gray object starts in it. Does not allocate; takes the same time however many objects
+/// are gray.
 pub fn needs_scan(collection: Option<&Collection>, object: u32, field: u32) -> Option<u32>
     ensures page { IfSome result (λ page. page ≡ barrier_page_of object field) }
     ensures needed { IsSome result ↔ IsGrayIn (option_map (λ c. c.now) collection.entry) (barrier_page_of object field) }

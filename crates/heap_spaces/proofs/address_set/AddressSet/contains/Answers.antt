@@ -7,9 +7,9 @@ use Rattle.heap_spaces.proofs.address_set.AddressSet.contains.Goals as goal
 
 pub returns : goal.returns
 returns c =
-    let pages = c.self.inside.pages.items in
+    let pages = c.self.inside.pages.numbers in
     let at = c.args.at in
-    let bits : c.page_bits.result ≡ get_or pages (page_of at) 0 = c.page_bits.ensures ∙ (λ i. get_or (c.deref.ensures.value i) (c.page_of.ensures.page i) 0) in
+    let bits : c.get.result ≡ get_or pages (page_of at) 0 = c.get.ensures.number ∙ ap (λ p. get_or pages p 0) c.page_of.ensures.page in
     c.has_bit.ensures
     ∙ (λ i. is_set (bits i) (c.place_of.ensures.place i))
     ∙ named_here pages (page_of at) at refl

@@ -8,11 +8,11 @@ use Rattle.heap_spaces.proofs.address_set.AddressSet.first_from.Goals as goal
 
 pub returns-in-Some-clause-some : goal.returns-in-Some-clause-some
 returns-in-Some-clause-some c =
-    let pages = c.self.inside.pages.items in
+    let pages = c.self.inside.pages.numbers in
     let page = c.page_of-page.result in
     let place = c.in-Some.place in
     let found = c.in-Some.ensures in
-    let bits : c.page_bits.result ≡ get_or pages page 0 = c.page_bits.ensures ∙ ap (λ v. get_or v page 0) c.deref.ensures.value in
+    let bits : c.get.result ≡ get_or pages page 0 = c.get.ensures.number in
     let view = λ (q : ℕ). ap (λ (s : AddressState). contains s.set q) c.self.view_is in (
       sym (view (64 * page + place)) ∙ named_at pages page place found.low (ap (λ b. is_set b place) (sym bits) ∙ found.some),
       omega (arith, found.from, c.page_of-page.ensures.page, c.place_of.ensures.place),
@@ -23,9 +23,9 @@ returns-in-Some-clause-some c =
 
 pub returns-in_err-at-clause-none : goal.returns-in_err-at-clause-none
 returns-in_err-at-clause-none c =
-    let pages = c.self.inside.pages.items in
+    let pages = c.self.inside.pages.numbers in
     let page = c.page_of-page.result in
-    let bits : c.page_bits.result ≡ get_or pages page 0 = c.page_bits.ensures ∙ ap (λ v. get_or v page 0) c.deref.ensures.value in
+    let bits : c.get.result ≡ get_or pages page 0 = c.get.ensures.number in
     if_none c.from_residual.result _ (λ q from.
     elim (cases_lt q (64 * (page + 1))) [
       | inl lt ↦
@@ -37,10 +37,10 @@ returns-in_err-at-clause-none c =
 
 pub returns-clause-some : goal.returns-clause-some
 returns-clause-some c =
-    let pages = c.self.inside.pages.items in
+    let pages = c.self.inside.pages.numbers in
     let page = c.page_of-page.result in
     let some = c.in_ok-at.ensures.some in
-    let bits : c.page_bits.result ≡ get_or pages page 0 = c.page_bits.ensures ∙ ap (λ v. get_or v page 0) c.deref.ensures.value in (
+    let bits : c.get.result ≡ get_or pages page 0 = c.get.ensures.number in (
       some.0,
       omega (arith, some.1, c.page_of-page.ensures.page),
       λ q here from.

@@ -12,7 +12,7 @@ returns-in_err-at-clause-none c =
     let inside = c.self.inside in
     if_none c.from_residual.result _ (same_addresses _ _ (λ q.
     elim (cases_lt q (64 * inside.first)) [
-      | inl before ↦ sym (ap (λ (s : AddressState). contains s.set q) c.self.view_is) ∙ none_first inside.pages.items inside.first q c.self.invariant before
+      | inl before ↦ sym (ap (λ (s : AddressState). contains s.set q) c.self.view_is) ∙ none_first inside.pages.numbers inside.first q c.self.invariant before
       | inr ge ↦ c.in_err-at.ensures.none q ge
     ]
     ∙ sym (contains-empty nat_cmp q)))
@@ -25,7 +25,7 @@ returns-clause-some c =
       λ q here.
           some.2 q here
           (elim (cases_lt q (64 * inside.first)) [
-            | inl before ↦ absurd (false≢true (sym (none_first inside.pages.items inside.first q c.self.invariant before) ∙ ap (λ (s : AddressState). contains s.set q) c.self.view_is ∙ here))
+            | inl before ↦ absurd (false≢true (sym (none_first inside.pages.numbers inside.first q c.self.invariant before) ∙ ap (λ (s : AddressState). contains s.set q) c.self.view_is ∙ here))
             | inr ge ↦ ge
           ]),
     )

@@ -1,14 +1,19 @@
-use Rattle.std.proofs.Common.{◌+◌, ◌<◌, List, [], ◌∷◌, get_or, length, take, take_all, map, sum_by, ◌∙◌, ap, sym, arith}
+use Rattle.std.proofs.Common.{◌≡◌, ◌+◌, ◌<◌, ℕ, List, [], ◌∷◌, get_or, length, take, take_all, map, sum_by, ◌∙◌, ap, sym, subst, inl, inr, arith}
 use Rattle.std.specs.List.{flat_map}
 use Rattle.std.specs.FinSet.{insert}
 use Rattle.std.proofs.lemmas.List.{take_more, map_more}
 use Rattle.std.proofs.lemmas.List.Concat.{flat_map-append}
-use Rattle.std.proofs.lemmas.List.Sums.{sum_by_more}
+use Rattle.std.proofs.lemmas.List.Sums.{sum_by_more, sum_by_more_le}
+use Rattle.std.proofs.lemmas.Bool.{cases_lt}
+use Rattle.std.proofs.lemmas.Grind.{common_steps}
 use Rattle.heap_spaces.specs.declared.collection.CopiedObject.{CopiedObject}
 use Rattle.heap_spaces.specs.Addresses.{AddressState, with_all}
-use Rattle.heap_spaces.specs.Collection.{gray_from}
+use Rattle.heap_spaces.specs.Collection.{gray_from, page_of}
+use Rattle.heap_spaces.specs.PageTable.{HasRoom}
 use Rattle.heap_spaces.proofs.AddressLaws.{on_err, with_all-push}
+use Rattle.heap_spaces.specs.declared.collection.Collection.TheInside.{Inside}
 use Rattle.heap_spaces.proofs.collection.Collection.add_copies.Goals as goal
+use Rattle.heap_spaces.proofs.collection.Collection.add_copies.Goals.{then-pages-last+in_ok-make_room+in_ok-make_room-2, else-pages-last+else-pages-last-2}
 
 pub returns-in_err-make_room-clause-err : goal.returns-in_err-make_room-clause-err
 returns-in_err-make_room-clause-err c =
@@ -27,8 +32,73 @@ returns-in_err-make_room-2-clause-err c =
       used = so_far.used i;
       copied = so_far.copied i;
       moved = (c.make_room.ensures.same ∙ so_far.moved) i;
-      gray = (c.make_room-in-room.ensures.same ∙ so_far.gray) i;
+      gray = (c.make_room-then-pages-last.ensures.same ∙ so_far.gray) i;
     })
+
+pub room-preserved : goal.room-preserved
+room-preserved c =
+    let xs = c.args.copies.now in
+    let n = c.room.copy-index in
+    let d : CopiedObject = record { from = 0; to = 0; header = 0; words = 0 } in
+    let so_far = c.room.invariant in
+    elim c.if-pages-last.branch [
+      | then-pages-last+in_ok-make_room+in_ok-make_room-2 w ↦
+          let inside = w.self-inside-is in
+          let from : (k : ℕ) → k < n + 1 → HasRoom w.make_room.new.self.room (page_of (get_or xs k d).from) = λ k lt.
+          elim (cases_lt k n) [
+            | inl before ↦ w.make_room.ensures.grows (page_of (get_or xs k d).from) (so_far.from k before)
+            | inr ge ↦ subst (λ i. HasRoom w.make_room.new.self.room (page_of (get_or xs i d).from)) (omega (arith, lt, ge)) w.in_ok-make_room.ensures.room
+          ]
+          in
+          let to : (k : ℕ) → k < n + 1 → HasRoom w.make_room-then-pages-last.new.self.room (page_of (get_or xs k d).to) = λ k lt.
+          elim (cases_lt k n) [
+            | inl before ↦ w.make_room-then-pages-last.ensures.grows (page_of (get_or xs k d).to) (so_far.to k before)
+            | inr ge ↦ subst (λ i. HasRoom w.make_room-then-pages-last.new.self.room (page_of (get_or xs i d).to)) (omega (arith, lt, ge)) w.in_ok-make_room-2.ensures.room
+          ]
+          in
+          record {
+            used = ap (λ (s : Inside). s.used) inside ∙ so_far.used;
+            copied = ap (λ (s : Inside). s.copied) inside ∙ so_far.copied;
+            moved = ap (λ (s : Inside). s.moved.set) inside ∙ w.make_room.ensures.same ∙ so_far.moved;
+            gray = ap (λ (s : Inside). s.gray.set) inside ∙ w.make_room-then-pages-last.ensures.same ∙ so_far.gray;
+            from = λ k lt. subst (λ (r : List ℕ). HasRoom r (page_of (get_or xs k d).from)) (sym (ap (λ (s : Inside). s.moved.room) inside)) (from k lt);
+            to = λ k lt. subst (λ (r : List ℕ). HasRoom r (page_of (get_or xs k d).to)) (sym (ap (λ (s : Inside). s.gray.room) inside)) (to k lt);
+            last_from = λ page is.
+                let here : page_of (get_or xs n d).from ≡ page = omega (arith, is, ap (λ (l : ℕ × ℕ). l.0) w.last-is) in
+                subst (λ (r : List ℕ). HasRoom r page) (sym (ap (λ (s : Inside). s.moved.room) inside)) (subst (HasRoom w.make_room.new.self.room) here (from n (omega arith)));
+            last_to = λ page is.
+                let here : page_of (get_or xs n d).to ≡ page = omega (arith, is, ap (λ (l : ℕ × ℕ). l.1) w.last-is) in
+                subst (λ (r : List ℕ). HasRoom r page) (sym (ap (λ (s : Inside). s.gray.room) inside)) (subst (HasRoom w.make_room-then-pages-last.new.self.room) here (to n (omega arith)));
+          }
+      | else-pages-last+else-pages-last-2 w ↦
+          let inside = w.self-inside-is in
+          let from : (k : ℕ) → k < n + 1 → HasRoom c.room.self-inside.moved.room (page_of (get_or xs k d).from) = λ k lt.
+          elim (cases_lt k n) [
+            | inl before ↦ so_far.from k before
+            | inr ge ↦
+                let here : k ≡ n = omega (arith, lt, ge) in
+                so_far.last_from (page_of (get_or xs k d).from) (omega (arith, w.if-pages-last.false, ap (λ i. (get_or xs i d).from) here))
+          ]
+          in
+          let to : (k : ℕ) → k < n + 1 → HasRoom c.room.self-inside.gray.room (page_of (get_or xs k d).to) = λ k lt.
+          elim (cases_lt k n) [
+            | inl before ↦ so_far.to k before
+            | inr ge ↦
+                let here : k ≡ n = omega (arith, lt, ge) in
+                so_far.last_to (page_of (get_or xs k d).to) (omega (arith, w.if-pages-last-2.false, ap (λ i. (get_or xs i d).to) here))
+          ]
+          in
+          record {
+            used = ap (λ (s : Inside). s.used) inside ∙ so_far.used;
+            copied = ap (λ (s : Inside). s.copied) inside ∙ so_far.copied;
+            moved = ap (λ (s : Inside). s.moved.set) inside ∙ so_far.moved;
+            gray = ap (λ (s : Inside). s.gray.set) inside ∙ so_far.gray;
+            from = λ k lt. subst (λ (r : List ℕ). HasRoom r (page_of (get_or xs k d).from)) (sym (ap (λ (s : Inside). s.moved.room) inside)) (from k lt);
+            to = λ k lt. subst (λ (r : List ℕ). HasRoom r (page_of (get_or xs k d).to)) (sym (ap (λ (s : Inside). s.gray.room) inside)) (to k lt);
+            last_from = λ page is. subst (λ (r : List ℕ). HasRoom r page) (sym (ap (λ (s : Inside). s.moved.room) inside)) (so_far.last_from page (is ∙ ap (λ (l : ℕ × ℕ). l.0) w.last-is));
+            last_to = λ page is. subst (λ (r : List ℕ). HasRoom r page) (sym (ap (λ (s : Inside). s.gray.room) inside)) (so_far.last_to page (is ∙ ap (λ (l : ℕ × ℕ). l.1) w.last-is));
+          }
+    ]
 
 pub copies-init : goal.copies-init
 copies-init c =
@@ -63,9 +133,18 @@ copies-preserved c =
           ap (λ (s : AddressState). s.set) c.add-in-copies.ensures
           ∙ ap (λ s. insert s (get_or xs i d).to) so_far.gray
           ∙ sym (ap (with_all c.args.self.now.gray) tos ∙ with_all-push c.args.self.now.gray (flat_map gray_of (take i xs)) (get_or xs i d).to);
-      from = λ k lt. omega (arith, so_far.from k lt, ap (λ (s : AddressState). s.room) c.add.ensures);
-      to = λ k lt. omega (arith, so_far.to k lt, ap (λ (s : AddressState). s.room) c.add-in-copies.ensures);
+      from = λ k lt. subst (λ (r : List ℕ). HasRoom r (page_of (get_or xs k d).from)) (sym (ap (λ (s : AddressState). s.room) c.add.ensures)) (so_far.from k lt);
+      to = λ k lt. subst (λ (r : List ℕ). HasRoom r (page_of (get_or xs k d).to)) (sym (ap (λ (s : AddressState). s.room) c.add-in-copies.ensures)) (so_far.to k lt);
     }
+
+pub overflow_add-self : goal.overflow_add-self
+overflow_add-self c =
+    let xs = c.args.copies.now in
+    let i = c.copies.copy-index in
+    let d : CopiedObject = record { from = 0; to = 0; header = 0; words = 0 } in
+    let so_far = c.copies.invariant in
+    let least = sum_by_more_le (λ (k : CopiedObject). k.words) xs i d c.copies-test.true in
+    grind (arith, common_steps, least, so_far.copied, so_far.used)
 
 pub invariant_of-self-in-copies : goal.invariant_of-self-in-copies
 invariant_of-self-in-copies c =

@@ -3,6 +3,7 @@ use Rattle.std.specs.List.{flat_map}
 use Rattle.heap_spaces.specs.declared.collection.CopiedObject.{CopiedObject}
 use Rattle.heap_spaces.specs.Addresses.{with_all}
 use Rattle.heap_spaces.specs.Collection.{gray_from, page_of}
+use Rattle.heap_spaces.specs.PageTable.{HasRoom}
 use Rattle.heap_spaces.proofs.collection.Collection.add_copies.Given as goal
 
 -- there is room for the copies so far
@@ -12,8 +13,10 @@ invariant-room l = record {
   copied : l.self-inside.copied ≡ l.fn.self.copied;
   moved : l.self-inside.moved.set ≡ l.fn.self.moved;
   gray : l.self-inside.gray.set ≡ l.fn.self.gray;
-  from : (k : ℕ) → k < l.copy-index → page_of (get_or l.copies k (record { from = 0; to = 0; header = 0; words = 0 })).from < l.self-inside.moved.room;
-  to : (k : ℕ) → k < l.copy-index → page_of (get_or l.copies k (record { from = 0; to = 0; header = 0; words = 0 })).to < l.self-inside.gray.room;
+  from : (k : ℕ) → k < l.copy-index → HasRoom l.self-inside.moved.room (page_of (get_or l.copies k (record { from = 0; to = 0; header = 0; words = 0 })).from);
+  to : (k : ℕ) → k < l.copy-index → HasRoom l.self-inside.gray.room (page_of (get_or l.copies k (record { from = 0; to = 0; header = 0; words = 0 })).to);
+  last_from : (page : ℕ) → page + 1 ≡ l.last.0 → HasRoom l.self-inside.moved.room page;
+  last_to : (page : ℕ) → page + 1 ≡ l.last.1 → HasRoom l.self-inside.gray.room page;
 }
 
 -- the copies so far are added, and there is room for all
@@ -23,6 +26,6 @@ invariant-copies l = record {
   copied : l.self-inside.copied ≡ l.fn.self.copied + sum_by (λ (c : CopiedObject). c.words) (take l.copy-index l.copies);
   moved : l.self-inside.moved.set ≡ with_all l.fn.self.moved (map (λ (c : CopiedObject). c.from) (take l.copy-index l.copies));
   gray : l.self-inside.gray.set ≡ with_all l.fn.self.gray (flat_map (λ (c : CopiedObject). gray_from c.to c.header) (take l.copy-index l.copies));
-  from : (k : ℕ) → k < length l.copies → page_of (get_or l.copies k (record { from = 0; to = 0; header = 0; words = 0 })).from < l.self-inside.moved.room;
-  to : (k : ℕ) → k < length l.copies → page_of (get_or l.copies k (record { from = 0; to = 0; header = 0; words = 0 })).to < l.self-inside.gray.room;
+  from : (k : ℕ) → k < length l.copies → HasRoom l.self-inside.moved.room (page_of (get_or l.copies k (record { from = 0; to = 0; header = 0; words = 0 })).from);
+  to : (k : ℕ) → k < length l.copies → HasRoom l.self-inside.gray.room (page_of (get_or l.copies k (record { from = 0; to = 0; header = 0; words = 0 })).to);
 }

@@ -1,0 +1,82 @@
+use Rattle.std.proofs.Common.{◌≡◌, ◌<◌, ℕ, ◌/◌, ◌%◌, List, [], length, map, get_or, set, ap, sym, subst, ◌∙◌, arith, Vec, Global}
+use Rattle.std.proofs.lemmas.List.{length-map, map-set}
+use Rattle.std.proofs.lemmas.Grind.{get_or_default_zero}
+use Rattle.heap_spaces.specs.Addresses.{is_set}
+use Rattle.heap_spaces.specs.PageTable.{AreGroups, PageNumbers, numbers_in, rooms_of}
+use Rattle.heap_spaces.proofs.TableLaws.{number-at, put-at, put-groups, rooms-put, room-is, group-is, group-there, numbers-length}
+use Rattle.heap_spaces.proofs.page_table.PageTable.set_bit.Goals as goal
+
+items : Vec ℕ Global → List ℕ
+items v = v.items
+
+-- the group of the page as it is found
+found : (all : List (Vec ℕ Global)) (k : ℕ) (group : Vec ℕ Global) → k < length all → group ≡ get_or all k group → get_or (map items all) k [] ≡ group.items
+unfolding items
+found all k group lt is = group-is items all k group lt ∙ ap items (sym is)
+
+pub index-requires : goal.index-requires
+unfolding items
+index-requires c =
+    let all = c.self.inside.groups.items in
+    let k = c.args.page / 64 in
+    let group = c.index_mut-group.result.now in
+    let room : get_or c.args.self.now.room k 0 ≡ length (get_or (map items all) k []) = ap (λ (s : PageNumbers). get_or s.room k 0) (sym c.self.view_is) ∙ room-is (map items all) k in
+    let within : c.args.page % 64 < length (get_or (map items all) k []) = omega (arith, room, c.requires.room) in
+    let is = found all k group (group-there items all k (c.args.page % 64) within) c.index_mut-group.ensures.value in
+    omega (arith, within, ap (length {A = ℕ}) is)
+
+pub index_mut-requires : goal.index_mut-requires
+unfolding items
+index_mut-requires c =
+    let all = c.self.inside.groups.items in
+    let k = c.args.page / 64 in
+    let group = c.index_mut-group.result.now in
+    let room : get_or c.args.self.now.room k 0 ≡ length (get_or (map items all) k []) = ap (λ (s : PageNumbers). get_or s.room k 0) (sym c.self.view_is) ∙ room-is (map items all) k in
+    let within : c.args.page % 64 < length (get_or (map items all) k []) = omega (arith, room, c.requires.room) in
+    let is = found all k group (group-there items all k (c.args.page % 64) within) c.index_mut-group.ensures.value in
+    omega (arith, within, ap (length {A = ℕ}) is)
+
+pub invariant_of-self : goal.invariant_of-self
+unfolding items
+invariant_of-self c =
+    let all = c.self.inside.groups.items in
+    let k = c.args.page / 64 in
+    let i = c.args.page % 64 in
+    let n = c.with_bit-bits.result in
+    let group = c.index_mut-group.result.now in
+    let room : get_or c.args.self.now.room k 0 ≡ length (get_or (map items all) k []) = ap (λ (s : PageNumbers). get_or s.room k 0) (sym c.self.view_is) ∙ room-is (map items all) k in
+    let within : i < length (get_or (map items all) k []) = omega (arith, room, c.requires.room) in
+    let is = found all k group (group-there items all k i within) c.index_mut-group.ensures.value in
+    subst AreGroups (sym (map-set items all k _ ∙ ap (λ (g : List ℕ). set (map items all) k (set g i n)) (sym is))) (put-groups (map items all) k i n c.self.invariant)
+
+pub returns : goal.returns
+unfolding items
+returns c =
+    let all = c.self.inside.groups.items in
+    let k = c.args.page / 64 in
+    let i = c.args.page % 64 in
+    let n = c.with_bit-bits.result in
+    let group = c.index_mut-group.result.now in
+    let room : get_or c.args.self.now.room k 0 ≡ length (get_or (map items all) k []) = ap (λ (s : PageNumbers). get_or s.room k 0) (sym c.self.view_is) ∙ room-is (map items all) k in
+    let within : i < length (get_or (map items all) k []) = omega (arith, room, c.requires.room) in
+    let lt : k < length all = group-there items all k i within in
+    let is = found all k group lt c.index_mut-group.ensures.value in
+    let there : i < length group.items = omega (arith, within, ap (length {A = ℕ}) is) in
+    let changed = map-set items all k _ ∙ ap (λ (g : List ℕ). set (map items all) k (set g i n)) (sym is) in
+    let was : c.index.result.now ≡ get_or c.args.self.now.numbers c.args.page 0 =
+    c.index.ensures
+    ∙ get_or_default_zero group.items i c.index.result.now there
+    ∙ ap (λ (g : List ℕ). get_or g i 0) (sym is)
+    ∙ sym (number-at (map items all) c.args.page c.self.invariant)
+    ∙ ap (λ (s : PageNumbers). get_or s.numbers c.args.page 0) c.self.view_is
+    in
+    record {
+      within = omega (arith, lt, length-map all items, numbers-length (map items all) c.self.invariant.each, ap (λ (s : PageNumbers). length s.numbers) c.self.view_is);
+      bits = n;
+      put = λ j. record {
+        numbers = (ap numbers_in changed ∙ put-at (map items all) c.args.page n c.self.invariant within ∙ ap (λ (s : PageNumbers). set s.numbers c.args.page n) c.self.view_is) j;
+        room = (ap rooms_of changed ∙ rooms-put (map items all) k i n ∙ ap (λ (s : PageNumbers). s.room) c.self.view_is) j;
+      };
+      here = c.with_bit-bits.ensures.here;
+      other = λ q low apart. c.with_bit-bits.ensures.other q low apart ∙ ap (λ v. is_set v q) was;
+    }
