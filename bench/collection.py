@@ -253,8 +253,8 @@ class Rounds:
 
 
 def pauses(heaps, is_cold=False):
-    """The seconds of the flip and of the longest scan of a directory of each heap, where each event counts with the least of its times. The heaps take
-    turns."""
+    """The seconds of the flip, of the scan of a directory in the median, and of the longest such scan, of each heap, where each event counts with the
+    least of its times. The heaps take turns."""
     cold = [[0] + heap.directories() if is_cold else [] for heap in heaps]
     taken = [[] for _ in heaps]
     for _ in range(PAUSES):
@@ -264,7 +264,8 @@ def pauses(heaps, is_cold=False):
                 sys.exit("collection: two rounds are answered differently")
             times.append(seconds)
     least = [[min(times) for times in zip(*rounds)] for rounds in taken]
-    return [(times[0], max(times[at] for at in heap.directories())) for heap, times in zip(heaps, least)]
+    scans = [[times[at] for at in heap.directories()] for heap, times in zip(heaps, least)]
+    return [(times[0], statistics.median(some), max(some)) for times, some in zip(least, scans)]
 
 
 def beside_small(small, long, wide):
@@ -277,18 +278,18 @@ def by_heap(n):
     build("small", few)
     build("large", 16 * few)
     build("wide", few, pages=MOST_PAGES)
-    (flip, _), (more, _) = pauses([Rounds("large", 40, 2), Rounds("large", 400, 2)])
+    (flip, *_), (more, *_) = pauses([Rounds("large", 40, 2), Rounds("large", 400, 2)])
     print(f"the longest pauses, in the third collection: a flip of 42 roots {1000 * flip:.2f} ms, of 402 roots {1000 * more:.2f} ms")
     processors = os.sched_getaffinity(0)
     for collected, is_cold in ((2, False), (2, True), (1, False), (0, False)):
         if is_cold:
             os.sched_setaffinity(0, {min(processors)})
-        flips, scans = zip(*pauses([Rounds(name, 40, collected) for name in ("small", "large", "wide")], is_cold))
+        flips, scans, longest = zip(*pauses([Rounds(name, 40, collected) for name in ("small", "large", "wide")], is_cold))
         os.sched_setaffinity(0, processors)
         caches = ", with the caches emptied" if is_cold else ""
         which = ("first", "second", "third")[collected]
         print(f"{which} collection of a heap of {pages} pages{caches}: a flip of 42 roots {beside_small(*flips)};", end=" ")
-        print(f"the longest scan of a directory {beside_small(*scans)}")
+        print(f"the scan of a directory {beside_small(*scans)}; the longest of these {beside_small(*longest)}")
 
 
 def main():
