@@ -2,6 +2,7 @@
 ghost use Rattle.flip_copy.specs.declared.flip_error.FlipError.TheVariants.{NoMemory};
 
 use disk_model::DiskError;
+use object_layout::ReadError;
 use std::alloc::{AllocError, AllocFailed};
 
 /// Why a flip was not planned. Nothing has changed.
@@ -23,6 +24,20 @@ impl From<DiskError> for FlipError {
 
     fn from(error: DiskError) -> FlipError {
         FlipError::Disk(error)
+    }
+}
+
+impl From<ReadError> for FlipError {
+    ghost use Rattle.std.specs.Prelude.{◌≡◌};
+    ghost use Rattle.flip_copy.specs.FlipFailure.{flip_error};
+
+    ghost from_gives = { λ error e. e ≡ flip_error error };
+
+    fn from(error: ReadError) -> FlipError {
+        match error {
+            ReadError::Disk(error) => FlipError::Disk(error),
+            ReadError::NoMemory => FlipError::NoMemory,
+        }
     }
 }
 

@@ -101,7 +101,11 @@ fn object_words<W: Words>(
     ensures read { IsRead W.tells W.extent W.content W.keeps W.faults W.stops words.old words.new (flip_failure result) }
 {
     match object_before(words, end, at)? {
-        Some(n) => read_run(alloc, words, at, at + FIELDS_AT + n),
+        Some(n) => {
+            let mut object = Vec::new(alloc);
+            words.append_to(at, at + FIELDS_AT + n, &mut object)?;
+            Ok(object)
+        }
         None => Err(FlipError::NoObject { address: at }),
     }
 }
@@ -117,26 +121,4 @@ fn object_before<W: Words>(words: &mut W, end: u32, at: u32) -> Result<Option<u3
         Some(n) if n <= MOST_FIELDS && at < end && FIELDS_AT + n <= end - at => Ok(Some(n)),
         _ => Ok(None),
     }
-}
-
-// The words from an address up to an end.
-fn read_run<W: Words>(
-    alloc: Global,
-    words: &mut W,
-    from: u32,
-    end: u32,
-) -> Result<Vec<u64>, FlipError>
-    requires order { from ≤ end }
-    requires within { end ≤ W.extent words.old }
-    ensures run { IsTrue W.tells → IfOk result (λ run. run.items ≡ take (end - from) (drop from (W.content words.old))) }
-    ensures size { IfOk result (λ run. vec_len run ≡ end - from) }
-    ensures complete { (address : ℕ) → result ≡ Err (FlipError.NoObject address) → ⊥ }
-    ensures read { IsRead W.tells W.extent W.content W.keeps W.faults W.stops words.old words.new (flip_failure result) }
-{
-    let mut run = Vec::new(alloc);
-    for at in from..end {
-        let word = words.word(at)?;
-        run.push(word)?;
-    }
-    Ok(run)
 }

@@ -1,5 +1,5 @@
 -- What reads leave of the words that are read.
-use Rattle.std.specs.Prelude.{◌≡◌, ℕ, ◌≤◌, List, Bool, IsTrue, Option, Some, None, Result, Ok, Err}
+use Rattle.std.specs.Prelude.{◌≡◌, ℕ, ◌≤◌, ◌++◌, List, length, Bool, IsTrue, Option, Some, None, Result, Ok, Err}
 use Rattle.counts.specs.Count.{Rose}
 use Rattle.disk_model.specs.declared.disk.DiskError.{DiskError}
 use Rattle.disk_model.specs.declared.disk.DiskError.TheVariants.{Failed, Stopped}
@@ -15,6 +15,10 @@ pub record IsRead {S : Type 0} (tells : Bool) (extent : S → ℕ) (content : S 
   pub failed : failure ≡ Some Failed → Rose (faults old) (faults new)
   pub stopped : failure ≡ Some Stopped → Rose (stops old) (stops new)
   pub no_first_stop : stops old ≡ 0 → stops new ≡ 0
+
+-- that many words stand after the others
+abbrev pub HasRunAfter : List ℕ → List ℕ → ℕ → Type 0
+HasRunAfter before after n = (run : List ℕ) × (after ≡ before ++ run) × (length run ≡ n)
 
 -- the error of a read, if it has one
 abbrev pub disk_failure : {T : Type 0} → Result T DiskError → Option DiskError

@@ -83,28 +83,9 @@ pub fn fields<W: Words>(
         None => Ok(None),
         Some(n) => {
             let from = at + FIELDS_AT;
-            let run = read_run(alloc, words, from, from + n)?;
-            Ok(Some(run))
+            let mut fields = Vec::new(alloc);
+            words.append_to(from, from + n, &mut fields)?;
+            Ok(Some(fields))
         }
     }
-}
-
-// The words from an address up to an end.
-fn read_run<W: Words>(
-    alloc: Global,
-    words: &mut W,
-    from: u32,
-    end: u32,
-) -> Result<Vec<u64>, ReadError>
-    requires order { from ≤ end }
-    requires within { end ≤ W.extent words.old }
-    ensures run { IsTrue W.tells → IfOk result (λ run. run.items ≡ take (end - from) (drop from (W.content words.old))) }
-    ensures read { IsRead W.tells W.extent W.content W.keeps W.faults W.stops words.old words.new (read_failure result) }
-{
-    let mut run = Vec::new(alloc);
-    for at in from..end {
-        let word = words.word(at)?;
-        run.push(word)?;
-    }
-    Ok(run)
 }

@@ -1,6 +1,7 @@
 //! Words in memory.
 ghost use Rattle.std.specs.Prelude.{◌≡◌, ◌<◌, ◌^◌, length};
 
+use crate::read_error::ReadError;
 use crate::words::Words;
 use disk_model::DiskError;
 
@@ -43,6 +44,12 @@ impl<'a> Words for WordSlice<'a> {
 
     fn word(&mut self, at: u32) -> Result<u64, DiskError> {
         Ok(self.words[at as usize])
+    }
+
+    // All at once: a word at a time would take longer to append than to read.
+    fn append_to(&mut self, from: u32, end: u32, run: &mut Vec<u64>) -> Result<(), ReadError> {
+        run.extend_from_slice(&self.words[from as usize..end as usize])?;
+        Ok(())
     }
 
     ghost same_size = { λ tells words. refl };

@@ -1,7 +1,9 @@
 //! The heap's words as code that only reads them sees them.
-ghost use Rattle.std.specs.Prelude.{◌≡◌, ℕ, ◌<◌, Bool, List, length, slice_index, IsTrue, IfOk};
-ghost use Rattle.object_layout.specs.Read.{IsRead, disk_failure};
+ghost use Rattle.std.specs.Prelude.{◌≡◌, ℕ, ◌<◌, ◌≤◌, ◌-◌, ◌++◌, Bool, List, length, slice_index, take, drop, IsTrue, IfOk, OnOk};
+ghost use Rattle.object_layout.specs.Read.{HasRunAfter, IsRead, disk_failure};
+ghost use Rattle.object_layout.specs.ReadFailure.{read_failure};
 
+use crate::read_error::ReadError;
 use disk_model::DiskError;
 
 /// Words by address, which are read one at a time from a source that may fail as a disk does.
@@ -33,6 +35,22 @@ pub trait Words {
         requires { at < extent self.old }
         ensures word { IsTrue tells → IfOk result (λ w. w ≡ slice_index (content self.old) at) }
         ensures read { IsRead tells extent content keeps faults stops self.old self.new (disk_failure result) };
+
+    /// Appends the words from an address up to an end to `run`. After an error some of them may stand there.
+    fn append_to(&mut self, from: u32, end: u32, run: &mut Vec<u64>) -> Result<(), ReadError>
+        requires order { from ≤ end }
+        requires within { end ≤ extent self.old }
+        ensures run { OnOk result (HasRunAfter run.old.items run.new.items (end - from)) }
+        ensures these { IsTrue tells → OnOk result (run.new.items ≡ run.old.items ++ take (end - from) (drop from (content self.old))) }
+        ensures read { IsRead tells extent content keeps faults stops self.old self.new (read_failure result) }
+    {
+        run.reserve((end - from) as usize)?;
+        for at in from..end {
+            let word = self.word(at)?;
+            run.push(word)?;
+        }
+        Ok(())
+    }
 
     /// There are as many words as it has.
     ghost same_size: { IsTrue tells → (words : Self) → length (content words) ≡ extent words };

@@ -4,7 +4,6 @@ pub mod Copies
 mod Errors
 mod Fields
 mod Following
-mod Grown
 mod Headers
 mod Loops
 mod Plans

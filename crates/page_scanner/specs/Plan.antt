@@ -31,10 +31,6 @@ with_source sources first from to = if is_in_page first to then slice_set source
 abbrev pub ArePageBits : ℕ → Collection → ℕ → Type 0
 ArePageBits gray k first = (place : ℕ) → place < PAGE_WORDS → is_set gray place ≡ contains k.gray (first + place)
 
--- that many words stand after the others
-abbrev pub HasRunAfter : List ℕ → List ℕ → ℕ → Type 0
-HasRunAfter before after n = (run : List ℕ) × (after ≡ before ++ run) × (length run ≡ n)
-
 -- It has the words of its copies, no more than the largest space, and knows where each object goes, and where each copy in the page stands and comes
 -- from.
 pub record IsPlan (plan : Plan) : Type 0 where

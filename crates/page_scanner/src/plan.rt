@@ -11,7 +11,7 @@ ghost use Rattle.page_scanner.specs.Scan as plans;
 ghost use Rattle.page_scanner.specs.ScanFailure.{scan_failure};
 
 use crate::destinations::Destinations;
-use crate::reading::{field_count, header_at, read_words};
+use crate::reading::{field_count, header_at};
 use crate::scan_error::ScanError;
 use crate::spaces::{is_in_from_space, is_left, space_words};
 use heap_spaces::{Collection, CopiedObject, Spaces, first_bit_from, with_bit};
@@ -316,7 +316,7 @@ impl Plan {
         // Words end within 32 bits.
         let _end = words.size();
         let place = self.words.len();
-        read_words(words, from, from + size, &mut self.words)?;
+        words.append_to(from, from + size, &mut self.words)?;
         let header = self.words[place];
         self.copies.push(CopiedObject {
             from,

@@ -1,14 +1,12 @@
 //! What a scan reads.
-ghost use Rattle.std.specs.Prelude.{◌≡◌, ◌≤◌, ◌<◌, ◌+◌, ◌-◌, ◌++◌, IsTrue, IfOk, OnOk, take, drop, slice_index};
+ghost use Rattle.std.specs.Prelude.{◌≡◌, ◌≤◌, ◌<◌, ◌+◌, IsTrue, IfOk, take, drop, slice_index};
 ghost use Rattle.object_layout.specs.Layout.{field_words};
 ghost use Rattle.heap_words.specs.Header.{header as header_of_word};
 ghost use Rattle.object_layout.specs.Read.{IsRead, disk_failure};
-ghost use Rattle.object_layout.specs.ReadFailure.{read_failure};
-ghost use Rattle.page_scanner.specs.Plan.{HasRunAfter};
 
 use disk_model::DiskError;
 use heap_words::{Header, MOST_FIELDS, header_of};
-use object_layout::{ReadError, Words, object_at};
+use object_layout::{Words, object_at};
 
 /// The header at an address, if one stands there.
 #[tactic(auto, using(crate::proofs::Headers::header_past))]
@@ -38,25 +36,4 @@ pub(crate) fn field_count<W: Words>(words: &mut W, at: u32) -> Result<u32, DiskE
         return Ok(0);
     }
     Ok(n)
-}
-
-/// Appends the words from an address up to an end to `run`. After an error some of them may stand there.
-pub(crate) fn read_words<W: Words>(
-    words: &mut W,
-    from: u32,
-    end: u32,
-    run: &mut Vec<u64>,
-) -> Result<(), ReadError>
-    requires order { from ≤ end }
-    requires within { end ≤ W.extent words.old }
-    ensures run { OnOk result (HasRunAfter run.old.items run.new.items (end - from)) }
-    ensures these { IsTrue W.tells → OnOk result (run.new.items ≡ run.old.items ++ take (end - from) (drop from (W.content words.old))) }
-    ensures read { IsRead W.tells W.extent W.content W.keeps W.faults W.stops words.old words.new (read_failure result) }
-{
-    run.reserve((end - from) as usize)?;
-    for at in from..end {
-        let word = words.word(at)?;
-        run.push(word)?;
-    }
-    Ok(())
 }

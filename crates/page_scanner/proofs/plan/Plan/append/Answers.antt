@@ -22,9 +22,9 @@ returns-clause-copies g c told =
     let words : List ℕ = p.words.items in
     let content = g.W.Words.content c.args.words.now in
     let k : CopiedObject = record { from = c.args.from; to = c.args.to; header = c.index-header.result.now; words = c.args.size } in
-    let found = c.in_ok-read_words.ensures.run in
+    let found = c.in_ok-append_to.ensures.run in
     let run = take (c.args.from + c.args.size - c.args.from) (drop c.args.from content) in
-    let these = c.in_ok-read_words.ensures.these told in
+    let these = c.in_ok-append_to.ensures.these told in
     let all : length words + length found.0 ≡ length words + length run =
     sym (length-append words found.0) ∙ ap (λ (l : List ℕ). length l) (sym found.1 ∙ these) ∙ length-append words run in
     let size : length run ≡ c.args.size = omega (arith, found.2, all) in
@@ -38,7 +38,7 @@ pub returns-clause-plan : goal.returns-clause-plan
 returns-clause-plan g c =
     let p = c.args.self.now in
     let words : List ℕ = p.words.items in
-    let found = c.in_ok-read_words.ensures.run in
+    let found = c.in_ok-append_to.ensures.run in
     let run = found.0 in
     let word = c.index-header.result.now in
     let place = c.len-place.result in

@@ -1,8 +1,8 @@
 -- One more word is read, and follows those that were.
 use Rattle.std.proofs.Common.{◌≡◌, ℕ, List, ◌∙◌, ◌+◌, ◌-◌, ◌≤◌, ◌<◌, ap, arith, get_or, length}
 use Rattle.object_layout.proofs.ReadLaws.{read_on}
-use Rattle.page_scanner.proofs.Grown.{run_grown, these_grown}
-use Rattle.page_scanner.proofs.reading.read_words.Goals as goal
+use Rattle.object_layout.proofs.Grown.{run_grown, these_grown}
+use Rattle.object_layout.proofs.words.Words.append_to.Goals as goal
 
 pub loop-at-preserved : goal.loop-at-preserved
 loop-at-preserved g c =
@@ -12,11 +12,11 @@ loop-at-preserved g c =
     let next : List ℕ = c.push.new.self.items in
     let begins : c.args.from ≤ c.loop-at.at = omega arith in
     record {
-      read = read_on _ _ _ _ _ _ _ _ _ _ g.met.W.Words.keeps_on c.loop-at.invariant.read c.in_ok-word.ensures.read;
+      read = read_on _ _ _ _ _ _ _ _ _ _ g.met.Self.Words.keeps_on c.loop-at.invariant.read c.in_ok-word.ensures.read;
       run = run_grown before now next w (c.loop-at.at - c.args.from) (c.loop-at.at + 1 - c.args.from) c.in_ok-push.ensures.items (omega (arith, begins)) c.loop-at.invariant.run;
       these = λ told.
-          let words : List ℕ = g.W.Words.content c.args.words.now in
-          let size : length words ≡ g.W.Words.extent c.args.words.now = g.met.W.Words.same_size told c.args.words.now in
+          let words : List ℕ = g.Self.Words.content c.args.self.now in
+          let size : length words ≡ g.Self.Words.extent c.args.self.now = g.met.Self.Words.same_size told c.args.self.now in
           let within : c.loop-at.at < length words = omega arith in
           let word : w ≡ get_or words c.loop-at.at 0 = c.in_ok-word.ensures.word told ∙ ap (λ ws. get_or ws c.loop-at.at 0) (c.loop-at.invariant.read.same_words told) in
           these_grown before now next words c.args.from c.loop-at.at w begins within word c.in_ok-push.ensures.items (c.loop-at.invariant.these told);

@@ -1,7 +1,7 @@
 -- One more word is read, and follows those that were.
 use Rattle.std.proofs.Common.{◌≡◌, ℕ, List, ◌∙◌, ◌++◌, ◌∷◌, [], ◌+◌, ◌-◌, ◌≤◌, ◌<◌, ap, arith, get_or, length, take, drop, length-append, append_assoc}
+use Rattle.object_layout.specs.Read.{HasRunAfter}
 use Rattle.object_layout.proofs.Runs.{run_more}
-use Rattle.page_scanner.specs.Plan.{HasRunAfter}
 
 pub run_grown : (before now next : List ℕ) (w n more : ℕ) → next ≡ now ++ w ∷ [] → more ≡ n + 1 → HasRunAfter before now n → HasRunAfter before next more
 run_grown before now next w n more is count was =
