@@ -6,7 +6,7 @@ use Rattle.std.specs.List.{list_any}
 use Rattle.std.proofs.lemmas.Map.Views.{exact_unsigned_eq}
 use Rattle.std.specs.Cmp.{nat_cmp_total, unsigned_tied, nat_eq_equiv}
 use Rattle.std.specs.Ordering.{nat_cmp, eq_by_cmp}
-use Rattle.std.specs.FinSet.{FinSet, contains, insert, remove, len, empty_of_len, len-remove, contains-empty, contains-remove, contains-retain, same_set, nat_cmp-IsAntisymmetric}
+use Rattle.std.specs.FinSet.{FinSet, contains, insert, remove, len, empty_of_len, len-remove, contains-empty, contains-insert, contains-remove, contains-retain, same_set, nat_cmp-IsAntisymmetric}
 use Rattle.heap_spaces.specs.Collection.{page_of}
 use Rattle.heap_spaces.specs.Addresses.{with_all, without_page}
 
@@ -23,18 +23,28 @@ on_err (Err e) P p = p
 pub same_addresses : (s t : FinSet nat_cmp) → ((q : ℕ) → contains s q ≡ contains t q) → s ≡ t
 same_addresses s t each = same_set nat_cmp_total nat_cmp-IsAntisymmetric s t each
 
-or-false : (b : Bool) → (b || false) ≡ b
+-- a test of two, of which the second fails
+pub or-false : (b : Bool) → (b || false) ≡ b
 or-false true = refl
 or-false false = refl
+
+pub none_waiting : (b none : Bool) → none ≡ false → (b || none) ≡ b
+none_waiting b none e = ap (λ v. b || v) e ∙ or-false b
 
 -- a test of a list with one more item
 pub any_push : {X : Type 0} (p : X → Bool) (xs : List X) (x : X) → list_any p (xs ++ x ∷ []) ≡ (list_any p xs || p x)
 any_push p xs x = list_any-append p xs (x ∷ []) ∙ ap (λ b. list_any p xs || b) (or-false (p x))
 
--- one more address
-pub with_all-push : (s : FinSet nat_cmp) (xs : List ℕ) (x : ℕ) → with_all s (xs ++ x ∷ []) ≡ insert (with_all s xs) x
+with_all-push : (s : FinSet nat_cmp) (xs : List ℕ) (x : ℕ) → with_all s (xs ++ x ∷ []) ≡ insert (with_all s xs) x
 with_all-push s [] x = refl
 with_all-push s (y ∷ ys) x = with_all-push (insert s y) ys x
+
+-- one more address
+pub with_all-more : (s : FinSet nat_cmp) (xs : List ℕ) (x q : ℕ) → (q == x || contains (with_all s xs) q) ≡ contains (with_all s (xs ++ x ∷ [])) q
+with_all-more s xs x q =
+    sym (ap (λ (t : FinSet nat_cmp). contains t q) (with_all-push s xs x)
+    ∙ contains-insert nat_cmp_total (with_all s xs) x q
+    ∙ ap (λ b. b || contains (with_all s xs) q) (unsigned_tied q x))
 
 none_left : (x any : Bool) → (x && not (any || true)) ≡ false
 none_left true true = refl

@@ -84,11 +84,13 @@ pub same_named : (pages other : List ℕ) → ((p : ℕ) → get_or pages p 0 �
 unfolding is_named
 same_named pages other each = same_addresses _ _ (λ q. seen pages q ∙ ap (λ bits. is_set bits (q % 64)) (each (page_of q)) ∙ sym (seen other q))
 
-named_in : (pages : List ℕ) (p bits q : ℕ) → p < length pages → page_of q ≡ p → is_named (set pages p bits) q ≡ is_set bits (q % 64)
+-- an address of a page whose number is put
+pub named_in : (pages : List ℕ) (p bits q : ℕ) → p < length pages → page_of q ≡ p → is_named (set pages p bits) q ≡ is_set bits (q % 64)
 unfolding is_named
 named_in pages p bits q lt here = ap (λ v. is_set (get_or (set pages p bits) v 0) (q % 64)) here ∙ ap (λ v. is_set v (q % 64)) (get_or-set_same pages p bits 0 lt)
 
-named_out : (pages : List ℕ) (p bits q : ℕ) → page_of q ≢ p → is_named (set pages p bits) q ≡ is_named pages q
+-- and one of another page
+pub named_out : (pages : List ℕ) (p bits q : ℕ) → page_of q ≢ p → is_named (set pages p bits) q ≡ is_named pages q
 unfolding is_named
 named_out pages p bits q apart = ap (λ v. is_set v (q % 64)) (get_or-set_other pages p (page_of q) bits 0 apart)
 
@@ -108,25 +110,6 @@ changed pages at bits lt others q apart =
           named_in pages (page_of at) bits q lt here ∙ others (q % 64) (omega arith) place ∙ named_here pages (page_of at) q here
       | inr there ↦ named_out pages (page_of at) bits q there
     ]
-
--- an address whose bit is set
-pub added : (pages : List ℕ) (at bits : ℕ) → page_of at < length pages → is_set bits (at % 64) ≡ true
-    → ((i : ℕ) → i < 64 → i ≢ at % 64 → is_set bits i ≡ is_set (get_or pages (page_of at) 0) i)
-    → named (set pages (page_of at) bits) ≡ insert (named pages) at
-added pages at bits lt here others = same_addresses _ _ each
-  where
-    each : (q : ℕ) → contains (named (set pages (page_of at) bits)) q ≡ contains (insert (named pages) at) q
-    each q =
-        seen (set pages (page_of at) bits) q
-        ∙ elim (cases_eq q at) [
-          | inl is ↦
-              ap (is_named (set pages (page_of at) bits)) is
-              ∙ named_in pages (page_of at) bits at lt refl
-              ∙ here
-              ∙ sym (ap (λ b. b || contains (named pages) q) (same q at is))
-          | inr apart ↦ changed pages at bits lt others q apart ∙ sym (seen pages q) ∙ sym (ap (λ b. b || contains (named pages) q) (differ q at apart))
-        ]
-        ∙ sym (contains-insert nat_cmp_total (named pages) at q)
 
 -- an address whose bit is cleared
 pub removed : (pages : List ℕ) (at bits : ℕ) → page_of at < length pages → is_set bits (at % 64) ≡ false

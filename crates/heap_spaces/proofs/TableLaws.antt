@@ -1,11 +1,11 @@
 -- The numbers of pages, and where they lie.
-use Rattle.std.proofs.Common.{◌≡◌, ◌≢◌, ℕ, zero, suc, ◌+◌, ◌*◌, ◌-◌, ◌/◌, ◌%◌, ◌<◌, ◌≤◌, List, [], ◌∷◌, ◌++◌, length, get_or, set, get_or-set_same, get_or-set_other, map, replicate, length-append, length-set, refl, sym, subst, ap, ◌∙◌, ◌⊎◌, inl, inr, arith}
+use Rattle.std.proofs.Common.{◌≡◌, ◌≢◌, ℕ, zero, suc, ◌+◌, ◌*◌, ◌-◌, ◌/◌, ◌%◌, ◌^◌, ◌<◌, ◌≤◌, List, [], ◌∷◌, ◌++◌, length, get_or, set, get_or-set_same, get_or-set_other, map, replicate, length-append, length-set, refl, sym, subst, ap, ◌∙◌, ◌⊎◌, inl, inr, arith}
 use Rattle.std.proofs.lemmas.List.{get_or-append-add, get_or_append_left, get_or-replicate, get_or_past, set-append_left, set-append_right}
 use Rattle.std.proofs.lemmas.Bool.{cases_lt, cases_eq}
 use Rattle.heap_spaces.specs.PageTable.{AreGroups, HasRoom, IsGroup, group_numbers, numbers_in, rooms_of}
 
 -- a group has 64 numbers
-pub group-length : (g : List ℕ) → IsGroup g → length (group_numbers g) ≡ 64
+group-length : (g : List ℕ) → IsGroup g → length (group_numbers g) ≡ 64
 group-length [] is = refl
 group-length (n ∷ ns) (inl e) = absurd (omega (arith, e))
 group-length (n ∷ ns) (inr e) = e
@@ -128,7 +128,7 @@ empty-behind [] (suc k) = refl
 empty-behind (g ∷ gs) zero = refl
 empty-behind (g ∷ gs) (suc k) = empty-behind gs k
 
-pub push-groups : (gs : List (List ℕ)) → AreGroups gs → length gs < 1048576 → AreGroups (gs ++ [] ∷ [])
+pub push-groups : (gs : List (List ℕ)) → AreGroups gs → length gs < 2 ^ 20 → AreGroups (gs ++ [] ∷ [])
 push-groups gs sound few = record {
   few = omega (arith, length-append gs ([] ∷ []), few);
   each = λ k. subst IsGroup (sym (empty-behind gs k)) (sound.each k);
@@ -138,10 +138,10 @@ pub push-rooms : (gs : List (List ℕ)) (k : ℕ) → get_or (rooms_of (gs ++ []
 push-rooms gs k = room-is (gs ++ [] ∷ []) k ∙ ap (length {A = ℕ}) (empty-behind gs k) ∙ sym (room-is gs k)
 
 -- tables whose groups have the same numbers
-pub alike : (gs hs : List (List ℕ)) → AreGroups gs → AreGroups hs → ((k i : ℕ) → i < 64 → get_or (get_or gs k []) i 0 ≡ get_or (get_or hs k []) i 0) → (p : ℕ) → get_or (numbers_in gs) p 0 ≡ get_or (numbers_in hs) p 0
+alike : (gs hs : List (List ℕ)) → AreGroups gs → AreGroups hs → ((k i : ℕ) → i < 64 → get_or (get_or gs k []) i 0 ≡ get_or (get_or hs k []) i 0) → (p : ℕ) → get_or (numbers_in gs) p 0 ≡ get_or (numbers_in hs) p 0
 alike gs hs sound other each p = number-at gs p sound ∙ each (p / 64) (p % 64) (omega arith) ∙ sym (number-at hs p other)
 
-pub push-numbers : (gs : List (List ℕ)) → AreGroups gs → length gs < 1048576 → (p : ℕ) → get_or (numbers_in (gs ++ [] ∷ [])) p 0 ≡ get_or (numbers_in gs) p 0
+pub push-numbers : (gs : List (List ℕ)) → AreGroups gs → length gs < 2 ^ 20 → (p : ℕ) → get_or (numbers_in (gs ++ [] ∷ [])) p 0 ≡ get_or (numbers_in gs) p 0
 push-numbers gs sound few = alike (gs ++ [] ∷ []) gs (push-groups gs sound few) sound (λ k i lt. ap (λ (g : List ℕ). get_or g i 0) (empty-behind gs k))
 
 -- a group that gets memory
@@ -180,15 +180,22 @@ fill-room gs k p lt is =
     let long : get_or (rooms_of (set gs k zeros)) (p / 64) 0 ≡ 64 = room-is (set gs k zeros) (p / 64) ∙ ap (length {A = ℕ}) ((fill-group gs k (p / 64) lt).0 is) in
     omega (arith, long)
 
+fill-apart : (gs : List (List ℕ)) (k j : ℕ) → k < length gs → j ≢ k → get_or (rooms_of (set gs k zeros)) j 0 ≡ get_or (rooms_of gs) j 0
+fill-apart gs k j lt apart = room-is (set gs k zeros) j ∙ ap (length {A = ℕ}) ((fill-group gs k j lt).1 apart) ∙ sym (room-is gs j)
+
 pub fill-grows : (gs : List (List ℕ)) (k p : ℕ) → k < length gs → HasRoom (rooms_of gs) p → HasRoom (rooms_of (set gs k zeros)) p
 fill-grows gs k p lt room =
     elim (cases_eq (p / 64) k) [
       | inl is ↦ fill-room gs k p lt is
-      | inr apart ↦
-          let long : get_or (rooms_of (set gs k zeros)) (p / 64) 0 ≡ get_or (rooms_of gs) (p / 64) 0 =
-          room-is (set gs k zeros) (p / 64) ∙ ap (length {A = ℕ}) ((fill-group gs k (p / 64) lt).1 apart) ∙ sym (room-is gs (p / 64))
-          in
-          omega (arith, long, room)
+      | inr apart ↦ omega (arith, fill-apart gs k (p / 64) lt apart, room)
+    ]
+
+-- no other page gets any
+pub fill-only : (gs : List (List ℕ)) (k p : ℕ) → k < length gs → HasRoom (rooms_of (set gs k zeros)) p → HasRoom (rooms_of gs) p ⊎ (p / 64 ≡ k)
+fill-only gs k p lt room =
+    elim (cases_eq (p / 64) k) [
+      | inl is ↦ inr is
+      | inr apart ↦ inl (omega (arith, fill-apart gs k (p / 64) lt apart, room))
     ]
 
 pub group-few : (g : List ℕ) → IsGroup g → length g ≤ 64

@@ -1,6 +1,5 @@
 -- A number for each page, which lies in memory with those of its group, or is 0.
-use Rattle.std.specs.Prelude.{◌≡◌, ◌≢◌, ◌⊎◌, ℕ, ◌/◌, ◌%◌, ◌<◌, ◌≤◌, ◌++◌, List, [], ◌∷◌, length, map, get_or, set, replicate, slice_index, true}
-use Rattle.heap_spaces.specs.Addresses.{is_set}
+use Rattle.std.specs.Prelude.{◌≡◌, ◌≢◌, ◌⊎◌, ℕ, ◌/◌, ◌%◌, ◌^◌, ◌<◌, ◌≤◌, ◌++◌, List, [], ◌∷◌, length, map, get_or, replicate, slice_index}
 
 -- the numbers of a group of 64 pages, which are 0 if it has no memory
 abbrev pub group_numbers : List ℕ → List ℕ
@@ -29,22 +28,14 @@ HasRoom room page = page % 64 < slice_index room (page / 64)
 abbrev pub IsGroup : List ℕ → Type 0
 IsGroup group = (length group ≡ 0) ⊎ (length group ≡ 64)
 
--- The groups are those of pages of a heap's address range.
+-- There are at most 2 ^ 20 groups, and each has memory for all of its pages, or none.
 pub record AreGroups (groups : List (List ℕ)) : Type 0 where
-  pub few : length groups ≤ 1048576
+  pub few : length groups ≤ 2 ^ 20
   pub each : (k : ℕ) → IsGroup (get_or groups k [])
 
--- the first page from one on that has a number
+-- The first page from another on whose number is not 0, and it is below 2 ^ 26.
 pub record IsNextPage (numbers : List ℕ) (from page : ℕ) : Type 0 where
   pub behind : from ≤ page
-  pub low : page < 67108864
+  pub low : page < 2 ^ 26
   pub some : slice_index numbers page ≢ 0
   pub first : (p : ℕ) → from ≤ p → p < page → slice_index numbers p ≡ 0
-
--- the table has one more bit in the number of a page, and is as it was else
-pub record HasBitSet (old new : PageNumbers) (page place : ℕ) : Type 0 where
-  pub within : page < length old.numbers
-  pub bits : ℕ
-  pub put : new ≡ record old { numbers = set old.numbers page bits }
-  pub here : is_set bits place ≡ true
-  pub other : (i : ℕ) → i < 64 → i ≢ place → is_set bits i ≡ is_set (slice_index old.numbers page) i

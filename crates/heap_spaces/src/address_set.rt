@@ -1,11 +1,11 @@
 //! Sets of word addresses.
-ghost use Rattle.std.specs.Prelude.{◌≡◌, ◌+◌, ◌*◌, ◌%◌, ◌≤◌, ◌<◌, ◌^◌, ◌↔◌, ℕ, [], true, false, OnOk, IfSome, IfNone, IsTrue};
-ghost use Rattle.std.specs.FinSet.{empty, contains, insert, remove};
-ghost use Rattle.heap_spaces.specs.Addresses.{AddressState, is_set, without_page};
+ghost use Rattle.std.specs.Prelude.{◌≡◌, ◌+◌, ◌*◌, ◌/◌, ◌%◌, ◌≤◌, ◌<◌, ◌^◌, ◌⊎◌, ◌↔◌, ◌==◌, ◌||◌, ℕ, List, [], true, false, OnOk, IfSome, IfNone, IsTrue};
+ghost use Rattle.std.specs.FinSet.{empty, contains, remove};
+ghost use Rattle.heap_spaces.specs.Addresses.{AddressState, HasRunRoom, in_run, is_set, without_page};
 ghost use Rattle.heap_spaces.specs.Collection.{page_of};
 ghost use Rattle.heap_spaces.specs.PageTable.{HasRoom};
 
-use crate::page_bits::{first_bit, first_bit_from, has_bit, without_bit};
+use crate::page_bits::{first_bit, first_bit_from, has_bit, with_bit, without_bit};
 use crate::page_table::PageTable;
 use heap_words::PAGE_WORDS;
 use std::alloc::{AllocError, Global};
@@ -65,19 +65,24 @@ impl AddressSet {
     pub(crate) fn make_room(&mut self, at: u32) -> Result<(), AllocError>
         ensures room { OnOk result (HasRoom self.new.room (page_of at)) }
         ensures grows { (p : ℕ) → HasRoom self.old.room p → HasRoom self.new.room p }
+        ensures only { (p : ℕ) → HasRoom self.new.room p → HasRoom self.old.room p ⊎ (p / 64 ≡ page_of at / 64) }
         ensures same { self.new.set ≡ self.old.set }
     {
         self.pages.make_room(page_of(at))
     }
 
-    /// Adds the address, for which there is room.
-    pub(crate) fn add(&mut self, at: u32)
-        requires { HasRoom self.old.room (page_of at) }
-        ensures { self.new ≡ record self.old { set = insert self.old.set at } }
+    /// Adds the addresses of a run, for which there is room.
+    pub(crate) fn add_run(&mut self, run: PageRun)
+        requires { HasRunRoom self.old.room run }
+        ensures all { (q : ℕ) → contains self.new.set q ≡ (contains self.old.set q || in_run run q) }
+        ensures room { self.new.room ≡ self.old.room }
     {
-        let page = page_of(at);
-        self.pages.set_bit(page, place_of(at));
-        self.first = self.first.min(page);
+        if run.bits == 0 {
+            return;
+        }
+        self.pages
+            .put(run.page, self.pages.get(run.page) | run.bits);
+        self.first = self.first.min(run.page);
     }
 
     /// Removes the address. Does not allocate.
@@ -161,6 +166,41 @@ impl AddressSet {
         let page = self.pages.next_from(page)?;
         let place = first_bit(self.pages.get(page))?;
         Some(PAGE_WORDS * page as u32 + place)
+    }
+}
+
+/// Addresses of one page that wait to be added to a set together. Most copies lie in the page of the one before, so the set is read and written once a
+/// page and not once a copy.
+#[derive(Clone, Copy, Debug)]
+pub(crate) struct PageRun {
+    page: usize,
+    /// The words of the page that are among them.
+    bits: u64,
+}
+
+impl PageRun {
+    /// A run that has no address.
+    pub(crate) fn new() -> PageRun
+        ensures none { (q : ℕ) → in_run result q ≡ false }
+        ensures room { (room : List ℕ) → HasRunRoom room result }
+    {
+        PageRun { page: 0, bits: 0 }
+    }
+
+    /// Adds the address. Where it lies in another page, those that wait are added to the set first.
+    pub(crate) fn add(&mut self, set: &mut AddressSet, at: u32)
+        requires wait { HasRunRoom set.old.room self.old }
+        requires room { HasRoom set.old.room (page_of at) }
+        ensures all { (q : ℕ) → (contains set.new.set q || in_run self.new q) ≡ (q == at || (contains set.old.set q || in_run self.old q)) }
+        ensures wait { HasRunRoom set.new.room self.new }
+        ensures room { set.new.room ≡ set.old.room }
+    {
+        let page = page_of(at);
+        if page != self.page {
+            set.add_run(*self);
+            *self = PageRun { page, bits: 0 };
+        }
+        self.bits = with_bit(self.bits, place_of(at));
     }
 }
 

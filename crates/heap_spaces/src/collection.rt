@@ -7,7 +7,7 @@ ghost use Rattle.heap_spaces.specs.Collection.{owed_by, page_of};
 ghost use Rattle.heap_spaces.specs.declared.collection.CopiedObject.{CopiedObject};
 ghost use Rattle.heap_spaces.specs.Copying.{begun, with_copies, with_scanned, IsLeastGrayPage};
 
-use crate::address_set::{AddressSet, page_of};
+use crate::address_set::{AddressSet, PageRun, page_of};
 use heap_words::PAGE_WORDS;
 use std::alloc::{AllocError, Global};
 use std::marker::Model;
@@ -152,11 +152,17 @@ impl Collection {
                 last = pages;
             }
         }
+        let mut words = 0;
+        let mut from = PageRun::new();
+        let mut to = PageRun::new();
         'copies: for copy in copies {
-            self.moved.add(copy.from);
-            self.gray.add(copy.to);
-            self.copied += copy.words;
+            from.add(&mut self.moved, copy.from);
+            to.add(&mut self.gray, copy.to);
+            words += copy.words;
         }
+        self.moved.add_run(from);
+        self.gray.add_run(to);
+        self.copied += words;
         Ok(())
     }
 

@@ -24,7 +24,6 @@ pub fn with_bit(bits: u64, place: u32) -> u64
 pub(crate) fn without_bit(bits: u64, place: u32) -> u64
     requires { place < 64 }
     ensures here { is_set result place ≡ false }
-    ensures fewer { result ≤ bits }
     ensures other { (i : ℕ) → i < 64 → i ≢ place → is_set result i ≡ is_set bits i }
 {
     bits & !(1 << place)

@@ -1,8 +1,7 @@
-//! A number for each page, which takes memory for groups of pages alone in which one was put.
-ghost use Rattle.std.specs.Prelude.{◌≡◌, ◌≢◌, ◌+◌, ◌*◌, ◌/◌, ◌<◌, ◌≤◌, ◌^◌, ℕ, [], OnOk, IfSome, IfNone, length, set, slice_index};
-ghost use Rattle.heap_spaces.specs.PageTable.{HasBitSet, HasRoom, IsNextPage};
+//! A number for each page, with memory for the numbers of those groups of pages alone for which room was made.
+ghost use Rattle.std.specs.Prelude.{◌≡◌, ◌≢◌, ◌+◌, ◌*◌, ◌/◌, ◌<◌, ◌≤◌, ◌^◌, ◌⊎◌, ℕ, [], OnOk, IfSome, IfNone, length, set, slice_index};
+ghost use Rattle.heap_spaces.specs.PageTable.{HasRoom, IsNextPage};
 
-use crate::page_bits::with_bit;
 use std::alloc::{AllocError, Global};
 use std::marker::Model;
 
@@ -55,17 +54,17 @@ impl PageTable {
 
     /// How many pages the groups have that are there.
     pub(crate) fn len(&self) -> usize
-        ensures value { result ≡ length self.now.numbers }
-        ensures few { result ≤ 67_108_864 }
+        ensures { result ≡ length self.now.numbers }
     {
         GROUP_PAGES * self.groups.len()
     }
 
-    /// Allocates the memory for the number of a page. An error puts none.
+    /// Allocates the memory for the numbers of a page's group, and of no other. An error puts none.
     pub(crate) fn make_room(&mut self, page: usize) -> Result<(), AllocError>
         requires { page < 2 ^ 26 }
         ensures room { OnOk result (HasRoom self.new.room page) }
         ensures grows { (p : ℕ) → HasRoom self.old.room p → HasRoom self.new.room p }
+        ensures only { (p : ℕ) → HasRoom self.new.room p → HasRoom self.old.room p ⊎ (p / 64 ≡ page / 64) }
         ensures same { (p : ℕ) → slice_index self.new.numbers p ≡ slice_index self.old.numbers p }
     {
         let group = page / GROUP_PAGES;
@@ -75,7 +74,7 @@ impl PageTable {
 
     // Adds groups without memory, up to this one.
     fn grow_to(&mut self, group: usize) -> Result<(), AllocError>
-        requires { group < 1_048_576 }
+        requires { group < 2 ^ 20 }
         ensures there { OnOk result (group < length self.new.room) }
         ensures room { (k : ℕ) → slice_index self.new.room k ≡ slice_index self.old.room k }
         ensures same { (p : ℕ) → slice_index self.new.numbers p ≡ slice_index self.old.numbers p }
@@ -91,6 +90,7 @@ impl PageTable {
         requires { group < length self.old.room }
         ensures room { OnOk result ((p : ℕ) → p / 64 ≡ group → HasRoom self.new.room p) }
         ensures grows { (p : ℕ) → HasRoom self.old.room p → HasRoom self.new.room p }
+        ensures only { (p : ℕ) → HasRoom self.new.room p → HasRoom self.old.room p ⊎ (p / 64 ≡ group) }
         ensures same { (p : ℕ) → slice_index self.new.numbers p ≡ slice_index self.old.numbers p }
     {
         if self.groups[group].is_empty() {
@@ -137,7 +137,7 @@ impl PageTable {
         ensures few { length result.now ≤ 64 }
         ensures numbers { (i : ℕ) → i < 64 → slice_index self.now.numbers (64 * group + i) ≡ slice_index result.now i }
         ensures within { 0 < length result.now → 64 * group + 64 ≤ length self.now.numbers }
-        ensures all { length self.now.numbers ≤ 67_108_864 }
+        ensures all { length self.now.numbers ≤ 2 ^ 26 }
     {
         match self.groups.get(group) {
             Some(numbers) => numbers.as_slice(),
@@ -153,17 +153,6 @@ impl PageTable {
     {
         let group = &mut self.groups[page / GROUP_PAGES];
         group[page % GROUP_PAGES] = number;
-    }
-
-    /// Sets a bit of the number of a page, for which there is room.
-    pub(crate) fn set_bit(&mut self, page: usize, place: u32)
-        requires room { HasRoom self.old.room page }
-        requires place { place < 64 }
-        ensures { HasBitSet self.old self.new page place }
-    {
-        let group = &mut self.groups[page / GROUP_PAGES];
-        let bits = with_bit(group[page % GROUP_PAGES], place);
-        group[page % GROUP_PAGES] = bits;
     }
 }
 

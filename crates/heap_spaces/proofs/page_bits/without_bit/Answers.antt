@@ -1,6 +1,5 @@
 use Rattle.std.proofs.Common.{◌==◌, ap, w64}
 use Rattle.std.proofs.lemmas.Nat.Bits.{bit_at_clear_same, bit_at_clear_other}
-use Rattle.std.proofs.lemmas.Nat.{and_le_l}
 use Rattle.heap_spaces.proofs.page_bits.without_bit.Goals as goal
 
 pub returns-clause-here : goal.returns-clause-here
@@ -8,6 +7,3 @@ returns-clause-here c = ap (λ b. b == 1) (bit_at_clear_same w64 c.args.bits c.a
 
 pub returns-clause-other : goal.returns-clause-other
 returns-clause-other c i low apart = ap (λ b. b == 1) (bit_at_clear_other w64 c.args.bits c.args.place c.requires i low apart)
-
-pub returns-clause-fewer : goal.returns-clause-fewer
-returns-clause-fewer c = and_le_l c.args.bits _

@@ -1,16 +1,17 @@
-use Rattle.std.proofs.Common.{◌≡◌, ◌+◌, ◌<◌, ℕ, List, [], ◌∷◌, get_or, length, take, take_all, map, sum_by, ◌∙◌, ap, sym, subst, inl, inr, arith}
+use Rattle.std.proofs.Common.{◌≡◌, ◌+◌, ◌<◌, ◌==◌, ◌||◌, ℕ, refl, List, [], ◌∷◌, get_or, length, take, take_all, map, sum_by, ◌∙◌, ap, sym, subst, inl, inr, arith}
 use Rattle.std.specs.List.{flat_map}
-use Rattle.std.specs.FinSet.{insert}
+use Rattle.std.specs.Ordering.{nat_cmp}
+use Rattle.std.specs.FinSet.{FinSet, contains}
 use Rattle.std.proofs.lemmas.List.{take_more, map_more}
 use Rattle.std.proofs.lemmas.List.Concat.{flat_map-append}
 use Rattle.std.proofs.lemmas.List.Sums.{sum_by_more, sum_by_more_le}
 use Rattle.std.proofs.lemmas.Bool.{cases_lt}
 use Rattle.std.proofs.lemmas.Grind.{common_steps}
 use Rattle.heap_spaces.specs.declared.collection.CopiedObject.{CopiedObject}
-use Rattle.heap_spaces.specs.Addresses.{AddressState, with_all}
+use Rattle.heap_spaces.specs.Addresses.{in_run, with_all}
 use Rattle.heap_spaces.specs.Collection.{gray_from, page_of}
 use Rattle.heap_spaces.specs.PageTable.{HasRoom}
-use Rattle.heap_spaces.proofs.AddressLaws.{on_err, with_all-push}
+use Rattle.heap_spaces.proofs.AddressLaws.{none_waiting, on_err, same_addresses, with_all-more}
 use Rattle.heap_spaces.specs.declared.collection.Collection.TheInside.{Inside}
 use Rattle.heap_spaces.proofs.collection.Collection.add_copies.Goals as goal
 use Rattle.heap_spaces.proofs.collection.Collection.add_copies.Goals.{then-pages-last+in_ok-make_room+in_ok-make_room-2, else-pages-last+else-pages-last-2}
@@ -105,11 +106,14 @@ copies-init c =
     let so_far = c.room.invariant in
     record {
       used = so_far.used;
-      copied = omega (arith, so_far.copied);
-      moved = so_far.moved;
-      gray = so_far.gray;
+      copied = so_far.copied;
+      words = refl;
+      moved = λ q. none_waiting (contains c.room.self-inside.moved.set q) (in_run c.new-from.result q) (c.new-from.ensures.none q) ∙ ap (λ (s : FinSet nat_cmp). contains s q) so_far.moved;
+      gray = λ q. none_waiting (contains c.room.self-inside.gray.set q) (in_run c.new-to.result q) (c.new-to.ensures.none q) ∙ ap (λ (s : FinSet nat_cmp). contains s q) so_far.gray;
       from = λ k lt. so_far.from k (omega arith);
       to = λ k lt. so_far.to k (omega arith);
+      wait_from = c.new-from.ensures.room c.room.self-inside.moved.room;
+      wait_to = c.new-to.ensures.room c.room.self-inside.gray.room;
     }
 
 pub copies-preserved : goal.copies-preserved
@@ -119,47 +123,50 @@ copies-preserved c =
     let d : CopiedObject = record { from = 0; to = 0; header = 0; words = 0 } in
     let so_far = c.copies.invariant in
     let within : i < length xs = omega arith in
+    let at = get_or xs i d in
     let froms = map_more (λ (k : CopiedObject). k.from) xs i d within in
     let gray_of = λ (k : CopiedObject). gray_from k.to k.header in
-    let tos = ap (flat_map gray_of) (take_more xs i d within) ∙ flat_map-append gray_of (take i xs) (get_or xs i d ∷ []) in
+    let tos = ap (flat_map gray_of) (take_more xs i d within) ∙ flat_map-append gray_of (take i xs) (at ∷ []) in
+    let moved = c.args.self.now.moved in
+    let gray = c.args.self.now.gray in
     record {
       used = so_far.used;
-      copied = omega (arith, so_far.copied, sum_by_more (λ (k : CopiedObject). k.words) xs i d within);
-      moved =
-          ap (λ (s : AddressState). s.set) c.add.ensures
-          ∙ ap (λ s. insert s (get_or xs i d).from) so_far.moved
-          ∙ sym (ap (with_all c.args.self.now.moved) froms ∙ with_all-push c.args.self.now.moved (map (λ (k : CopiedObject). k.from) (take i xs)) (get_or xs i d).from);
-      gray =
-          ap (λ (s : AddressState). s.set) c.add-in-copies.ensures
-          ∙ ap (λ s. insert s (get_or xs i d).to) so_far.gray
-          ∙ sym (ap (with_all c.args.self.now.gray) tos ∙ with_all-push c.args.self.now.gray (flat_map gray_of (take i xs)) (get_or xs i d).to);
-      from = λ k lt. subst (λ (r : List ℕ). HasRoom r (page_of (get_or xs k d).from)) (sym (ap (λ (s : AddressState). s.room) c.add.ensures)) (so_far.from k lt);
-      to = λ k lt. subst (λ (r : List ℕ). HasRoom r (page_of (get_or xs k d).to)) (sym (ap (λ (s : AddressState). s.room) c.add-in-copies.ensures)) (so_far.to k lt);
+      copied = so_far.copied;
+      words = omega (arith, so_far.words, sum_by_more (λ (k : CopiedObject). k.words) xs i d within);
+      moved = λ q.
+          c.add.ensures.all q
+          ∙ ap (λ b. q == at.from || b) (so_far.moved q)
+          ∙ with_all-more moved (map (λ (k : CopiedObject). k.from) (take i xs)) at.from q
+          ∙ ap (λ (ats : List ℕ). contains (with_all moved ats) q) (sym froms);
+      gray = λ q.
+          c.add-in-copies.ensures.all q
+          ∙ ap (λ b. q == at.to || b) (so_far.gray q)
+          ∙ with_all-more gray (flat_map gray_of (take i xs)) at.to q
+          ∙ ap (λ (ats : List ℕ). contains (with_all gray ats) q) (sym tos);
+      from = λ k lt. subst (λ (r : List ℕ). HasRoom r (page_of (get_or xs k d).from)) (sym c.add.ensures.room) (so_far.from k lt);
+      to = λ k lt. subst (λ (r : List ℕ). HasRoom r (page_of (get_or xs k d).to)) (sym c.add-in-copies.ensures.room) (so_far.to k lt);
+      wait_from = c.add.ensures.wait;
+      wait_to = c.add-in-copies.ensures.wait;
     }
 
-pub overflow_add-self : goal.overflow_add-self
-overflow_add-self c =
+pub overflow_add-words : goal.overflow_add-words
+overflow_add-words c =
     let xs = c.args.copies.now in
     let i = c.copies.copy-index in
     let d : CopiedObject = record { from = 0; to = 0; header = 0; words = 0 } in
     let so_far = c.copies.invariant in
     let least = sum_by_more_le (λ (k : CopiedObject). k.words) xs i d c.copies-test.true in
-    grind (arith, common_steps, least, so_far.copied, so_far.used)
-
-pub invariant_of-self-in-copies : goal.invariant_of-self-in-copies
-invariant_of-self-in-copies c =
-    let so_far = c.copies.invariant in
-    let all = ap (sum_by (λ (k : CopiedObject). k.words)) (take_all c.copies.copy-index c.args.copies.now (omega arith)) in
-    omega (arith, so_far.used, so_far.copied, all, c.requires)
+    grind (arith, common_steps, least, so_far.words)
 
 pub returns-clause-ok : goal.returns-clause-ok
 returns-clause-ok c =
     let xs = c.args.copies.now in
     let so_far = c.copies.invariant in
     let all = take_all c.copies.copy-index xs (omega arith) in
+    let old = c.args.self.now in
     λ i. record {
       used = so_far.used i;
-      copied = (so_far.copied ∙ ap (λ (l : List CopiedObject). c.args.self.now.copied + sum_by (λ (k : CopiedObject). k.words) l) all) i;
-      moved = (so_far.moved ∙ ap (λ (l : List CopiedObject). with_all c.args.self.now.moved (map (λ (k : CopiedObject). k.from) l)) all) i;
-      gray = (so_far.gray ∙ ap (λ (l : List CopiedObject). with_all c.args.self.now.gray (flat_map (λ (k : CopiedObject). gray_from k.to k.header) l)) all) i;
+      copied = ((λ j. so_far.copied j + so_far.words j) ∙ ap (λ (l : List CopiedObject). old.copied + sum_by (λ (k : CopiedObject). k.words) l) all) i;
+      moved = (same_addresses _ _ (λ q. c.add_run.ensures.all q ∙ so_far.moved q) ∙ ap (λ (l : List CopiedObject). with_all old.moved (map (λ (k : CopiedObject). k.from) l)) all) i;
+      gray = (same_addresses _ _ (λ q. c.add_run-2.ensures.all q ∙ so_far.gray q) ∙ ap (λ (l : List CopiedObject). with_all old.gray (flat_map (λ (k : CopiedObject). gray_from k.to k.header) l)) all) i;
     }
