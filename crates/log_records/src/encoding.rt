@@ -2,7 +2,7 @@
 ghost use Rattle.std.specs.Prelude.{◌≡◌, ◌+◌, ◌*◌, ◌≤◌, ◌∷◌, ◌++◌, length, vec_len, vec_capacity, IsOk, OnOk, OnErr};
 ghost use Rattle.std.specs.Int.{w16, w32, w64, to_le_bytes};
 ghost use Rattle.log_records.specs.declared.Record.TheVariants.{Update, Commit, End, Scan, Flip};
-ghost use Rattle.log_records.specs.Copies.{word_bytes, write_bytes, copy_bytes};
+ghost use Rattle.log_records.specs.Copies.{word_bytes, copy_bytes};
 ghost use Rattle.log_records.specs.Record.{spelling, copy_record};
 
 use crate::{
@@ -109,8 +109,10 @@ fn encode_scan(page: u32, writes: &Writes, into: &mut Vec<u8>) -> Result<(), All
     let each = writes.as_slice();
     into.reserve(SCAN_HEAD_BYTES + WRITE_BYTES * each.len())?;
     into.extend_from_slice(&scan_head(page, each.len() as u16))?;
-    for write in each {
-        into.extend_from_slice(&bytes_of_write(*write))?;
+    // Its two parts one after the other: bytes that are put together first would be read again before the processor has stored them.
+    for (address, word) in each {
+        into.extend_from_slice(&address.to_le_bytes())?;
+        into.extend_from_slice(&word.to_le_bytes())?;
     }
     Ok(())
 }
@@ -185,16 +187,6 @@ fn scan_head(page: u32, count: u16) -> [u8; SCAN_HEAD_BYTES]
     bytes[0] = SCAN;
     LittleEndian::write_u32(&mut bytes[1..], page);
     LittleEndian::write_u16(&mut bytes[5..], count);
-    bytes
-}
-
-fn bytes_of_write(write: (u32, u64)) -> [u8; WRITE_BYTES]
-    ensures { result ≡ write_bytes write }
-{
-    let (address, word) = write;
-    let mut bytes = [0u8; WRITE_BYTES];
-    LittleEndian::write_u32(&mut bytes, address);
-    LittleEndian::write_u64(&mut bytes[4..], word);
     bytes
 }
 
