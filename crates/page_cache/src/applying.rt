@@ -71,9 +71,9 @@ pub(crate) fn apply_copy(words: &mut [u64], lsns: &mut [u64], lsn: u64, copy: &C
     put_words(words, to, copy.words());
     raise_from(lsns, lsn, to, copy.words());
     let from = copy.from() as usize;
-    let forwarding = [forwarding_word(copy.to())];
-    put_words(words, from, &forwarding);
-    raise_from(lsns, lsn, from, &forwarding);
+    // A run of one word, which needs no loop.
+    words[from] = forwarding_word(copy.to());
+    raise_page(lsns, lsn, from / PAGE_WORDS);
 }
 
 // Puts words from an address on.

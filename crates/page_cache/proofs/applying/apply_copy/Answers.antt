@@ -1,4 +1,4 @@
-use Rattle.std.proofs.Common.{◌≡◌, ℕ, ◌+◌, ◌*◌, ◌<◌, List, [], ◌∷◌, length, set, sym, ap, ◌∙◌, subst}
+use Rattle.std.proofs.Common.{◌≡◌, ℕ, ◌+◌, ◌*◌, ◌<◌, List, [], ◌∷◌, length, set, sym, ap, ◌∙◌, subst, arith}
 use Rattle.std.specs.List.{enumerate_from}
 use Rattle.std.proofs.lemmas.List.Sums.{fold-append}
 use Rattle.log_records.specs.declared.copies.ObjectCopy.{ObjectCopy}
@@ -34,24 +34,18 @@ raise_from-requires-clause-inside c =
     let here = subst (λ (a : ℕ). AreBelow end (enumerate_from a c.words-2.result.now)) (sym c.to-to.ensures) words in
     subst (λ (n : ℕ). AreBelow n (enumerate_from c.to-to.result c.words-2.result.now)) c.requires.whole here
 
-pub put_words-requires-2 : goal.put_words-requires-2
-put_words-requires-2 c =
-    let below = (parts_below (length c.args.words.now) c.args.copy.now c.requires.inside).1 in
-    let here = subst (λ (a : ℕ). a < length c.args.words.now) (sym c.from-from.ensures) below in
-    (subst (λ (n : ℕ). c.from-from.result < n) (sym c.put_words.auto.words) here, tt)
+-- the word that leads to the copy lies below the end of the words
+pub bounds-words-from : goal.bounds-words-from
+bounds-words-from c = omega (arith, (parts_below _ c.args.copy.now c.requires.inside).1, c.from-from.ensures, c.put_words.auto.words)
 
-pub raise_from-requires-2-clause-inside : goal.raise_from-requires-2-clause-inside
-raise_from-requires-2-clause-inside c =
-    let below = (parts_below (length c.args.words.now) c.args.copy.now c.requires.inside).1 in
-    let here = subst (λ (a : ℕ). a < length c.args.words.now) (sym c.from-from.ensures) below in
-    (subst (λ (n : ℕ). c.from-from.result < n) (c.requires.whole ∙ ap (λ (n : ℕ). 64 * n) (sym c.raise_from.auto.lsns)) here, tt)
+pub raise_page-requires : goal.raise_page-requires
+raise_page-requires c = omega (arith, (parts_below _ c.args.copy.now c.requires.inside).1, c.from-from.ensures, c.requires.whole, c.raise_from.auto.lsns)
 
 pub returns-clause-words : goal.returns-clause-words
 returns-clause-words c =
     let copy = c.args.copy.now in
     let forwarding : c.forwarding_word.result ≡ 4 * copy.to + 2 = c.forwarding_word.ensures ∙ ap (λ a. 4 * a + 2) c.to.ensures in
-    c.put_words-2.ensures
-    ∙ ap (λ (l : List ℕ). put_all l ((c.from-from.result, c.forwarding_word.result) ∷ [])) (c.put_words.ensures ∙ (λ i. put_all c.args.words.now (enumerate_from (c.to-to.ensures i) (c.words.ensures i))))
+    ap (λ (l : List ℕ). put_all l ((c.from-from.result, c.forwarding_word.result) ∷ [])) (c.put_words.ensures ∙ (λ i. put_all c.args.words.now (enumerate_from (c.to-to.ensures i) (c.words.ensures i))))
     ∙ (λ i. put_all (put_all c.args.words.now (enumerate_from copy.to copy.words)) ((c.from-from.ensures i, forwarding i) ∷ []))
     ∙ sym (fold-append (λ (l : List ℕ) (w : ℕ × ℕ). set l w.0 w.1) c.args.words.now (enumerate_from copy.to copy.words) ((copy.from, 4 * copy.to + 2) ∷ []))
     ∙ sym (redo_record-words c.args.lsn (record { words = c.args.words.now; lsns = c.args.lsns.now }) (copy_record copy) c.requires.new)
