@@ -68,6 +68,13 @@ impl Destinations {
         None
     }
 
+    /// Allocates memory for that many more.
+    pub(crate) fn reserve(&mut self, more: usize) -> Result<(), AllocError>
+        ensures { self.new ≡ self.old }
+    {
+        self.moves.reserve(more)
+    }
+
     /// One more object goes from one address to another.
     pub(crate) fn add(&mut self, from: u32, to: u32) -> Result<(), AllocError>
         requires { length self.old + 1 < 2 ^ 32 }

@@ -15,7 +15,7 @@ use crate::reading::{field_count, header_at};
 use crate::scan_error::ScanError;
 use crate::spaces::{is_in_from_space, is_left, space_words};
 use heap_spaces::{Collection, CopiedObject, Spaces, first_bit_from, with_bit};
-use heap_words::{FIELDS_AT, Header, PAGE_WORDS, STABLE_WORDS, Word, decode, encode};
+use heap_words::{FIELDS_AT, Header, MOST_FIELDS, PAGE_WORDS, STABLE_WORDS, Word, decode, encode};
 use object_layout::{Words, object_at};
 use std::alloc::{AllocError, Global};
 
@@ -253,18 +253,19 @@ impl Plan {
         Ok(to)
     }
 
-    // Allocates memory for as many copies as a page has words, since a page that leads to one object is likely to lead to many.
+    // Allocates memory for as many small copies as an object has fields at most, since a page that leads to one object is likely to lead to many:
+    // memory that grows is copied each time.
     fn make_room(&mut self) -> Result<(), AllocError>
         requires plan { IsPlan self.old }
         ensures planned { planned self.new ≡ planned self.old }
         ensures plan { IsPlan self.new }
         ensures first { self.new.first ≡ self.old.first }
     {
-        let few = PAGE_WORDS as usize;
-        self.copies.reserve(few)?;
-        self.words.reserve(FEW_WORDS * few)?;
-        self.writes.reserve(few)?;
-        Ok(())
+        let many = MOST_FIELDS as usize;
+        self.copies.reserve(many)?;
+        self.words.reserve(FEW_WORDS * many)?;
+        self.writes.reserve(many)?;
+        self.destinations.reserve(many)
     }
 
     // Whether an object of `size` words is left to be copied, and there is room for it.
