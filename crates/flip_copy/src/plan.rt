@@ -1,5 +1,5 @@
 //! Which objects a flip copies, and where to.
-ghost use Rattle.std.specs.Prelude.{◌≡◌, ℕ, ◌+◌, ◌-◌, ◌≤◌, ◌<◌, IsTrue, IfOk, IfSome, Some, Err, take, drop, vec_len};
+ghost use Rattle.std.specs.Prelude.{◌≡◌, ℕ, ◌+◌, ◌≤◌, ◌<◌, IsTrue, IfOk, IfSome, Some, Err, take, vec_len};
 ghost use Rattle.heap_spaces.specs.Spaces.{flipped};
 ghost use Rattle.object_layout.specs.Layout.{object_at};
 ghost use Rattle.object_layout.specs.Read.{IsRead, disk_failure};

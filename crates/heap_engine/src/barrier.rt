@@ -187,7 +187,7 @@ pub(crate) fn note_scan(spaces: &mut Spaces, collection: &mut Option<Collection>
     ensures spaces { spaces.new ≡ with_copied spaces.old (words_of (copied_in (planned_records scan.now.scan))) }
     ensures collection { collection.new ≡ option_map (λ k. scanned_by k (page_in scan.now.scan)) collection.old }
 {
-    // All of its copies at once: they have no more words than are owed, so the cast is exact.
+    // All of its copies at once. They have no more words than are owed, and `owed` has 32 bits, so the cast is exact.
     let _owed = spaces.owed();
     spaces.copied(scan.copied_words() as u32);
     if let (Some(running), Some(scan)) = (collection, scan.scan()) {

@@ -1,11 +1,9 @@
 -- Sets of word addresses.
-use Rattle.std.specs.Prelude.{◌≡◌, ◌≢◌, ℕ, zero, suc, ◌*◌, ◌%◌, ◌<◌, ◌==◌, ◌&&◌, Bool, not, cond, List, [], ◌∷◌, length, slice_index}
+use Rattle.std.specs.Prelude.{◌≡◌, ℕ, zero, suc, ◌*◌, ◌%◌, ◌<◌, ◌==◌, Bool, not, cond, List, [], ◌∷◌, length, slice_index}
 use Rattle.std.specs.Int.{bit_at}
 use Rattle.std.specs.Ordering.{nat_cmp}
 use Rattle.std.specs.FinSet.{FinSet, empty, insert, retain}
 use Rattle.heap_spaces.specs.Collection.{page_of}
-use Rattle.heap_spaces.specs.PageTable.{HasRoom}
-use Rattle.heap_spaces.specs.declared.address_set.PageRun.{PageRun}
 
 -- the set with the addresses of a list besides
 abbrev pub with_all : FinSet nat_cmp → List ℕ → FinSet nat_cmp
@@ -43,11 +41,3 @@ pub record AddressState : Type 0 where
 -- The pages before the first one have no address.
 pub record HasPages (pages : List ℕ) (first : ℕ) : Type 0 where
   pub none : (page : ℕ) → page < first → slice_index pages page ≡ 0
-
--- the address is one of those that wait in a run
-abbrev pub in_run : PageRun → ℕ → Bool
-in_run run at = page_of at == run.page && is_set run.bits (at % 64)
-
--- there is memory for the page of a run, if any address waits in it
-abbrev pub HasRunRoom : List ℕ → PageRun → Type 0
-HasRunRoom room run = run.bits ≢ 0 → HasRoom room run.page

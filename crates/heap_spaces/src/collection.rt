@@ -7,7 +7,7 @@ ghost use Rattle.heap_spaces.specs.Collection.{owed_by, page_of};
 ghost use Rattle.heap_spaces.specs.declared.collection.CopiedObject.{CopiedObject};
 ghost use Rattle.heap_spaces.specs.Copying.{begun, with_copies, with_scanned, IsLeastGrayPage};
 
-use crate::address_set::{AddressSet, PageRun, page_of};
+use crate::address_set::{AddressSet, PageBatch, page_of};
 use heap_words::PAGE_WORDS;
 use std::alloc::{AllocError, Global};
 use std::marker::Model;
@@ -142,7 +142,7 @@ impl Collection {
         ensures ok { OnOk result (self.new ≡ with_copies self.old copies.now) }
         ensures err { OnErr result (self.new ≡ self.old) }
     {
-        // One more than the numbers of the last copy's pages, which have room, and 0 before the first: most copies lie in the pages of the one before.
+        // One more than the numbers of the last copy's pages, which have room, and 0 before the first: small copies mostly lie in the pages of the one before.
         let mut last = (0, 0);
         'room: for copy in copies {
             let pages = (page_of(copy.from) + 1, page_of(copy.to) + 1);
@@ -153,15 +153,15 @@ impl Collection {
             }
         }
         let mut words = 0;
-        let mut from = PageRun::new();
-        let mut to = PageRun::new();
+        let mut from = PageBatch::new();
+        let mut to = PageBatch::new();
         'copies: for copy in copies {
             from.add(&mut self.moved, copy.from);
             to.add(&mut self.gray, copy.to);
             words += copy.words;
         }
-        self.moved.add_run(from);
-        self.gray.add_run(to);
+        self.moved.add_batch(from);
+        self.gray.add_batch(to);
         self.copied += words;
         Ok(())
     }

@@ -131,7 +131,7 @@ impl Spaces {
         self.used = 0;
     }
 
-    /// An object of that many words, which were owed, is copied to the next words of the current space.
+    /// Objects of that many words in all, which were owed, are copied to the next words of the current space.
     pub fn copied(&mut self, words: u32)
         requires { words ≤ self.old.owed }
         ensures { self.new ≡ with_copied self.old words }

@@ -1,6 +1,5 @@
 //! The words of a page, as the bits of a number.
-ghost use Rattle.std.specs.Prelude.{◌≡◌, ◌≢◌, ◌+◌, ◌<◌, ◌≤◌, ℕ, true, false, IfSome, IfNone, slice_index};
-ghost use Rattle.std.specs.Int.{bit_at};
+ghost use Rattle.std.specs.Prelude.{◌≡◌, ◌≢◌, ◌<◌, ◌≤◌, ℕ, true, false, IfSome, IfNone};
 ghost use Rattle.heap_spaces.specs.Addresses.{is_set};
 
 /// Whether the word at a place is one of them.

@@ -59,7 +59,7 @@ impl PageTable {
         GROUP_PAGES * self.groups.len()
     }
 
-    /// Allocates the memory for the numbers of a page's group, and of no other. An error puts none.
+    /// Allocates the memory for the numbers of a page's group, which are 0, and adds numbers to no other group. An error changes no number.
     pub(crate) fn make_room(&mut self, page: usize) -> Result<(), AllocError>
         requires { page < 2 ^ 26 }
         ensures room { OnOk result (HasRoom self.new.room page) }

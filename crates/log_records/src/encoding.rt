@@ -109,7 +109,8 @@ fn encode_scan(page: u32, writes: &Writes, into: &mut Vec<u8>) -> Result<(), All
     let each = writes.as_slice();
     into.reserve(SCAN_HEAD_BYTES + WRITE_BYTES * each.len())?;
     into.extend_from_slice(&scan_head(page, each.len() as u16))?;
-    // The two parts of a write one after the other: bytes that are put together first would be read again before the processor has stored them.
+    // Address and word are appended one by one: out of an array of twelve bytes they would be copied by loads wider than the stores that made it, for which
+    // the processor has to wait.
     for (address, word) in each {
         into.extend_from_slice(&address.to_le_bytes())?;
         into.extend_from_slice(&word.to_le_bytes())?;

@@ -1,5 +1,6 @@
--- One more word is read, and follows those that were.
-use Rattle.std.proofs.Common.{◌≡◌, ℕ, List, ◌∙◌, ◌++◌, ◌∷◌, [], ◌+◌, ◌-◌, ◌≤◌, ◌<◌, ap, arith, get_or, length, take, drop, length-append, append_assoc}
+-- One more word is read, and follows those that were; after an error those that were stay.
+use Rattle.std.proofs.Common.{Result, Ok, Err, ◌≡◌, ℕ, List, ◌∙◌, ◌++◌, ◌∷◌, [], ◌+◌, ◌-◌, ◌≤◌, ◌<◌, ap, arith, get_or, length, take, drop, length-append, append_assoc}
+use Rattle.std.specs.Prelude.{OnErr}
 use Rattle.object_layout.specs.Read.{HasRunAfter}
 use Rattle.object_layout.proofs.Runs.{run_more}
 
@@ -15,3 +16,8 @@ these_grown before now next words from at w begins within word is was =
     ∙ ap (λ (xs : List ℕ). xs ++ w ∷ []) was
     ∙ append_assoc before (take (at - from) (drop from words)) (w ∷ [])
     ∙ ap (λ (xs : List ℕ). before ++ xs) (run_more words from at w begins within word)
+
+-- what holds of words that were appended holds of them beside an error
+pub stay : {T E : Type 0} (r : Result T E) (before now : List ℕ) (n most : ℕ) → n ≤ most → HasRunAfter before now n → OnErr r ((k : ℕ) × (k ≤ most) × HasRunAfter before now k)
+stay (Ok done) before now n most few was = tt
+stay (Err error) before now n most few was = (n, few, was)

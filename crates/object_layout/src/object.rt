@@ -1,5 +1,5 @@
 //! The objects that stand in words.
-ghost use Rattle.std.specs.Prelude.{◌≡◌, ℕ, ◌≤◌, ◌+◌, ◌-◌, ◌<◌, List, length, IsTrue, IfOk, IfSome, take, drop};
+ghost use Rattle.std.specs.Prelude.{◌≡◌, ℕ, ◌≤◌, ◌+◌, ◌<◌, List, length, IsTrue, IfOk, IfSome, take};
 ghost use Rattle.std.specs.Option.{option_map};
 ghost use Rattle.object_layout.specs.Layout.{whole_length as whole, object_at as object_of, stand as standing_at, fields_at};
 ghost use Rattle.object_layout.specs.Read.{IsRead, disk_failure};

@@ -4,7 +4,7 @@ ghost use Rattle.object_layout.specs.declared.read_error.ReadError.TheVariants.{
 use disk_model::DiskError;
 use std::alloc::{AllocError, AllocFailed};
 
-/// Why the fields of an object could not be read.
+/// Why several words could not be read.
 #[derive(Clone, Copy, Debug, PartialEq, Eq)]
 pub enum ReadError {
     /// The disk failed, or had stopped.

@@ -47,8 +47,8 @@ impl<'a> Words for WordSlice<'a> {
     }
 
     // All at once: a word at a time would take longer to append than to read.
-    fn append_to(&mut self, from: u32, end: u32, run: &mut Vec<u64>) -> Result<(), ReadError> {
-        run.extend_from_slice(&self.words[from as usize..end as usize])?;
+    fn append_to(&mut self, from: u32, end: u32, into: &mut Vec<u64>) -> Result<(), ReadError> {
+        into.extend_from_slice(&self.words[from as usize..end as usize])?;
         Ok(())
     }
 

@@ -1,12 +1,12 @@
 //! The heap's words as code that only reads them sees them.
-ghost use Rattle.std.specs.Prelude.{◌≡◌, ℕ, ◌<◌, ◌≤◌, ◌-◌, ◌++◌, Bool, List, length, slice_index, take, drop, IsTrue, IfOk, OnOk};
+ghost use Rattle.std.specs.Prelude.{◌≡◌, ℕ, ◌<◌, ◌≤◌, ◌-◌, ◌++◌, Bool, List, length, slice_index, take, drop, IsTrue, IfOk, OnErr, OnOk};
 ghost use Rattle.object_layout.specs.Read.{HasRunAfter, IsRead, disk_failure};
 ghost use Rattle.object_layout.specs.ReadFailure.{read_failure};
 
 use crate::read_error::ReadError;
 use disk_model::DiskError;
 
-/// Words by address, which are read one at a time from a source that may fail as a disk does.
+/// Words by address, which are read, one or several in a row, from a source that may fail as a disk does.
 pub trait Words {
     /// Whether the words are modelled, and reads give exactly these.
     ghost tells: { Bool };
@@ -36,18 +36,20 @@ pub trait Words {
         ensures word { IsTrue tells → IfOk result (λ w. w ≡ slice_index (content self.old) at) }
         ensures read { IsRead tells extent content keeps faults stops self.old self.new (disk_failure result) };
 
-    /// Appends the words from an address up to an end to `run`. After an error some of them may stand there.
-    fn append_to(&mut self, from: u32, end: u32, run: &mut Vec<u64>) -> Result<(), ReadError>
+    /// Appends the words from an address up to an end to `into`. After an error some of them may have been appended, and what stood there before
+    /// is kept.
+    fn append_to(&mut self, from: u32, end: u32, into: &mut Vec<u64>) -> Result<(), ReadError>
         requires order { from ≤ end }
         requires within { end ≤ extent self.old }
-        ensures run { OnOk result (HasRunAfter run.old.items run.new.items (end - from)) }
-        ensures these { IsTrue tells → OnOk result (run.new.items ≡ run.old.items ++ take (end - from) (drop from (content self.old))) }
+        ensures run { OnOk result (HasRunAfter into.old.items into.new.items (end - from)) }
+        ensures these { IsTrue tells → OnOk result (into.new.items ≡ into.old.items ++ take (end - from) (drop from (content self.old))) }
+        ensures err { OnErr result ((n : ℕ) × (n ≤ end - from) × HasRunAfter into.old.items into.new.items n) }
         ensures read { IsRead tells extent content keeps faults stops self.old self.new (read_failure result) }
     {
-        run.reserve((end - from) as usize)?;
+        into.reserve((end - from) as usize)?;
         for at in from..end {
             let word = self.word(at)?;
-            run.push(word)?;
+            into.push(word)?;
         }
         Ok(())
     }

@@ -1,5 +1,5 @@
 -- A plan as it lies in memory.
-use Rattle.std.specs.Prelude.{◌≡◌, ℕ, ◌+◌, ◌-◌, ◌≤◌, ◌<◌, ◌&&◌, nat_le, nat_lt, Bool, List, ◌++◌, length, map, slice_index_or, slice_set, Option, None, Some, is_some, if◌then◌else◌}
+use Rattle.std.specs.Prelude.{◌≡◌, ℕ, ◌+◌, ◌-◌, ◌≤◌, ◌<◌, ◌&&◌, nat_le, nat_lt, Bool, List, length, map, slice_index_or, slice_set, Option, None, Some, is_some, if◌then◌else◌}
 use Rattle.std.specs.FinSet.{contains}
 use Rattle.heap_spaces.specs.Addresses.{is_set}
 use Rattle.heap_spaces.specs.Collection.{Collection}
