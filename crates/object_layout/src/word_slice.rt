@@ -46,7 +46,8 @@ impl<'a> Words for WordSlice<'a> {
         Ok(self.words[at as usize])
     }
 
-    // All at once: a word at a time would take longer to append than to read.
+    // All at once: a word at a time would take longer to append than to read. Inlined: a call would take as long as the words of a small object.
+    #[inline(always)]
     fn append_to(&mut self, from: u32, end: u32, into: &mut Vec<u64>) -> Result<(), ReadError> {
         into.extend_from_slice(&self.words[from as usize..end as usize])?;
         Ok(())
