@@ -1,5 +1,5 @@
 pub mod AddressLaws
-pub mod BatchLaws
 pub mod GroupLaws
 pub mod PageLaws
 pub mod TableLaws
+pub mod WaitingLaws

@@ -2,6 +2,6 @@ pub mod Addresses
 pub mod Collection
 pub mod CollectionCode
 pub mod Copying
-pub mod PageBatch
+pub mod PageAddresses
 pub mod PageTable
 pub mod Spaces

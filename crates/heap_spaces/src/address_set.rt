@@ -3,7 +3,7 @@ ghost use Rattle.std.specs.Prelude.{◌≡◌, ◌+◌, ◌*◌, ◌/◌, ◌%�
 ghost use Rattle.std.specs.FinSet.{empty, contains, remove};
 ghost use Rattle.heap_spaces.specs.Addresses.{AddressState, is_set, without_page};
 ghost use Rattle.heap_spaces.specs.Collection.{page_of};
-ghost use Rattle.heap_spaces.specs.PageBatch.{HasBatchRoom, in_batch};
+ghost use Rattle.heap_spaces.specs.PageAddresses.{HasRoomFor, waits_in};
 ghost use Rattle.heap_spaces.specs.PageTable.{HasRoom};
 
 use crate::page_bits::{first_bit, first_bit_from, has_bit, with_bit, without_bit};
@@ -72,18 +72,18 @@ impl AddressSet {
         self.pages.make_room(page_of(at))
     }
 
-    /// Adds the addresses of a batch, for which there is room.
-    pub(crate) fn add_batch(&mut self, batch: PageBatch)
-        requires { HasBatchRoom self.old.room batch }
-        ensures all { (q : ℕ) → contains self.new.set q ≡ (contains self.old.set q || in_batch batch q) }
+    /// Adds addresses of one page, for which there is room.
+    pub(crate) fn add_all(&mut self, waiting: PageAddresses)
+        requires { HasRoomFor self.old.room waiting }
+        ensures all { (q : ℕ) → contains self.new.set q ≡ (contains self.old.set q || waits_in waiting q) }
         ensures room { self.new.room ≡ self.old.room }
     {
-        if batch.bits == 0 {
+        if waiting.bits == 0 {
             return;
         }
         self.pages
-            .put(batch.page, self.pages.get(batch.page) | batch.bits);
-        self.first = self.first.min(batch.page);
+            .put(waiting.page, self.pages.get(waiting.page) | waiting.bits);
+        self.first = self.first.min(waiting.page);
     }
 
     /// Removes the address. Does not allocate.
@@ -173,34 +173,34 @@ impl AddressSet {
 /// Addresses of one page that wait to be added to a set together. Small copies that stand end to end mostly lie in the page of the one before: then the
 /// set is read and written once for all of them, and else once for each, as without it.
 #[derive(Clone, Copy, Debug)]
-pub(crate) struct PageBatch {
+pub(crate) struct PageAddresses {
     /// The page. It says nothing while no bit is set.
     page: usize,
     /// The words of the page that are among them.
     bits: u64,
 }
 
-impl PageBatch {
-    /// A batch that has no address.
-    pub(crate) fn new() -> PageBatch
-        ensures none { (q : ℕ) → in_batch result q ≡ false }
-        ensures room { (room : List ℕ) → HasBatchRoom room result }
+impl PageAddresses {
+    /// No address.
+    pub(crate) fn new() -> PageAddresses
+        ensures none { (q : ℕ) → waits_in result q ≡ false }
+        ensures room { (room : List ℕ) → HasRoomFor room result }
     {
-        PageBatch { page: 0, bits: 0 }
+        PageAddresses { page: 0, bits: 0 }
     }
 
     /// Adds the address. Where it lies in another page, those that wait are added to the set first.
     pub(crate) fn add(&mut self, set: &mut AddressSet, at: u32)
-        requires wait { HasBatchRoom set.old.room self.old }
+        requires wait { HasRoomFor set.old.room self.old }
         requires room { HasRoom set.old.room (page_of at) }
-        ensures all { (q : ℕ) → (contains set.new.set q || in_batch self.new q) ≡ (q == at || (contains set.old.set q || in_batch self.old q)) }
-        ensures wait { HasBatchRoom set.new.room self.new }
+        ensures all { (q : ℕ) → (contains set.new.set q || waits_in self.new q) ≡ (q == at || (contains set.old.set q || waits_in self.old q)) }
+        ensures wait { HasRoomFor set.new.room self.new }
         ensures room { set.new.room ≡ set.old.room }
     {
         let page = page_of(at);
         if page != self.page {
-            set.add_batch(*self);
-            *self = PageBatch { page, bits: 0 };
+            set.add_all(*self);
+            *self = PageAddresses { page, bits: 0 };
         }
         self.bits = with_bit(self.bits, place_of(at));
     }

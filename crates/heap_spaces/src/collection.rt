@@ -7,7 +7,7 @@ ghost use Rattle.heap_spaces.specs.Collection.{owed_by, page_of};
 ghost use Rattle.heap_spaces.specs.declared.collection.CopiedObject.{CopiedObject};
 ghost use Rattle.heap_spaces.specs.Copying.{begun, with_copies, with_scanned, IsLeastGrayPage};
 
-use crate::address_set::{AddressSet, PageBatch, page_of};
+use crate::address_set::{AddressSet, PageAddresses, page_of};
 use heap_words::PAGE_WORDS;
 use std::alloc::{AllocError, Global};
 use std::marker::Model;
@@ -153,15 +153,15 @@ impl Collection {
             }
         }
         let mut words = 0;
-        let mut from = PageBatch::new();
-        let mut to = PageBatch::new();
+        let mut from = PageAddresses::new();
+        let mut to = PageAddresses::new();
         'copies: for copy in copies {
             from.add(&mut self.moved, copy.from);
             to.add(&mut self.gray, copy.to);
             words += copy.words;
         }
-        self.moved.add_batch(from);
-        self.gray.add_batch(to);
+        self.moved.add_all(from);
+        self.gray.add_all(to);
         self.copied += words;
         Ok(())
     }

@@ -9,7 +9,7 @@ use Rattle.std.proofs.lemmas.Bool.{cases_lt}
 use Rattle.std.proofs.lemmas.Grind.{common_steps}
 use Rattle.heap_spaces.specs.declared.collection.CopiedObject.{CopiedObject}
 use Rattle.heap_spaces.specs.Addresses.{with_all}
-use Rattle.heap_spaces.specs.PageBatch.{in_batch}
+use Rattle.heap_spaces.specs.PageAddresses.{waits_in}
 use Rattle.heap_spaces.specs.Collection.{gray_from, page_of}
 use Rattle.heap_spaces.specs.PageTable.{HasRoom}
 use Rattle.heap_spaces.proofs.AddressLaws.{none_waiting, on_err, same_addresses, with_all-more}
@@ -109,8 +109,8 @@ copies-init c =
       used = so_far.used;
       copied = so_far.copied;
       words = refl;
-      moved = λ q. none_waiting (contains c.room.self-inside.moved.set q) (in_batch c.new-from.result q) (c.new-from.ensures.none q) ∙ ap (λ (s : FinSet nat_cmp). contains s q) so_far.moved;
-      gray = λ q. none_waiting (contains c.room.self-inside.gray.set q) (in_batch c.new-to.result q) (c.new-to.ensures.none q) ∙ ap (λ (s : FinSet nat_cmp). contains s q) so_far.gray;
+      moved = λ q. none_waiting (contains c.room.self-inside.moved.set q) (waits_in c.new-from.result q) (c.new-from.ensures.none q) ∙ ap (λ (s : FinSet nat_cmp). contains s q) so_far.moved;
+      gray = λ q. none_waiting (contains c.room.self-inside.gray.set q) (waits_in c.new-to.result q) (c.new-to.ensures.none q) ∙ ap (λ (s : FinSet nat_cmp). contains s q) so_far.gray;
       from = λ k lt. so_far.from k (omega arith);
       to = λ k lt. so_far.to k (omega arith);
       wait_from = c.new-from.ensures.room c.room.self-inside.moved.room;
@@ -168,6 +168,6 @@ returns-clause-ok c =
     λ i. record {
       used = so_far.used i;
       copied = ((λ j. so_far.copied j + so_far.words j) ∙ ap (λ (l : List CopiedObject). old.copied + sum_by (λ (k : CopiedObject). k.words) l) all) i;
-      moved = (same_addresses _ _ (λ q. c.add_batch.ensures.all q ∙ so_far.moved q) ∙ ap (λ (l : List CopiedObject). with_all old.moved (map (λ (k : CopiedObject). k.from) l)) all) i;
-      gray = (same_addresses _ _ (λ q. c.add_batch-2.ensures.all q ∙ so_far.gray q) ∙ ap (λ (l : List CopiedObject). with_all old.gray (flat_map (λ (k : CopiedObject). gray_from k.to k.header) l)) all) i;
+      moved = (same_addresses _ _ (λ q. c.add_all.ensures.all q ∙ so_far.moved q) ∙ ap (λ (l : List CopiedObject). with_all old.moved (map (λ (k : CopiedObject). k.from) l)) all) i;
+      gray = (same_addresses _ _ (λ q. c.add_all-2.ensures.all q ∙ so_far.gray q) ∙ ap (λ (l : List CopiedObject). with_all old.gray (flat_map (λ (k : CopiedObject). gray_from k.to k.header) l)) all) i;
     }

@@ -4,7 +4,7 @@ use Rattle.std.specs.FinSet.{contains}
 use Rattle.heap_spaces.specs.declared.collection.CopiedObject.{CopiedObject}
 use Rattle.heap_spaces.specs.Addresses.{with_all}
 use Rattle.heap_spaces.specs.Collection.{gray_from, page_of}
-use Rattle.heap_spaces.specs.PageBatch.{HasBatchRoom, in_batch}
+use Rattle.heap_spaces.specs.PageAddresses.{HasRoomFor, waits_in}
 use Rattle.heap_spaces.specs.PageTable.{HasRoom}
 use Rattle.heap_spaces.proofs.collection.Collection.add_copies.Given as goal
 
@@ -21,16 +21,16 @@ invariant-room l = record {
   last_to : (page : ℕ) → page + 1 ≡ l.last.1 → HasRoom l.self-inside.gray.room page;
 }
 
--- each set and the batch that waits for it have the copies so far, and there is room for all
+-- each set and the addresses that wait for it have the copies so far, and there is room for all
 abbrev pub invariant-copies : goal.invariant-copies
 invariant-copies l = record {
   used : l.self-inside.used ≡ l.fn.self.used;
   copied : l.self-inside.copied ≡ l.fn.self.copied;
   words : l.words ≡ sum_by (λ (c : CopiedObject). c.words) (take l.copy-index l.copies);
-  moved : (q : ℕ) → (contains l.self-inside.moved.set q || in_batch l.from q) ≡ contains (with_all l.fn.self.moved (map (λ (c : CopiedObject). c.from) (take l.copy-index l.copies))) q;
-  gray : (q : ℕ) → (contains l.self-inside.gray.set q || in_batch l.to q) ≡ contains (with_all l.fn.self.gray (flat_map (λ (c : CopiedObject). gray_from c.to c.header) (take l.copy-index l.copies))) q;
+  moved : (q : ℕ) → (contains l.self-inside.moved.set q || waits_in l.from q) ≡ contains (with_all l.fn.self.moved (map (λ (c : CopiedObject). c.from) (take l.copy-index l.copies))) q;
+  gray : (q : ℕ) → (contains l.self-inside.gray.set q || waits_in l.to q) ≡ contains (with_all l.fn.self.gray (flat_map (λ (c : CopiedObject). gray_from c.to c.header) (take l.copy-index l.copies))) q;
   from : (k : ℕ) → k < length l.copies → HasRoom l.self-inside.moved.room (page_of (get_or l.copies k (record { from = 0; to = 0; header = 0; words = 0 })).from);
   to : (k : ℕ) → k < length l.copies → HasRoom l.self-inside.gray.room (page_of (get_or l.copies k (record { from = 0; to = 0; header = 0; words = 0 })).to);
-  wait_from : HasBatchRoom l.self-inside.moved.room l.from;
-  wait_to : HasBatchRoom l.self-inside.gray.room l.to;
+  wait_from : HasRoomFor l.self-inside.moved.room l.from;
+  wait_to : HasRoomFor l.self-inside.gray.room l.to;
 }

@@ -1,4 +1,4 @@
--- Runs of addresses, and the sets that they are added to.
+-- Addresses that wait, and the sets that they are added to.
 use Rattle.std.proofs.Common.{◌≡◌, ◌≢◌, ℕ, zero, suc, ◌%◌, ◌<◌, ◌==◌, ◌||◌, ◌&&◌, max, bit_or, Bool, true, false, List, length, get_or, set, refl, sym, ap, ◌∙◌, arith}
 use Rattle.std.proofs.lemmas.Bool.{false≢true}
 use Rattle.std.proofs.lemmas.Nat.Bits.{bit_at_or, bit_at-lt}
@@ -31,14 +31,14 @@ none_more : (b here : Bool) (i : ℕ) → (b || (here && is_set 0 i)) ≡ b
 none_more b true i = ap (λ v. b || v) (none_set i) ∙ or-false b
 none_more b false i = or-false b
 
--- a batch without bits has no address
+-- without bits no address waits
 pub none_waits : (b : Bool) (bits i : ℕ) (here : Bool) → bits ≡ 0 → b ≡ (b || (here && is_set bits i))
 none_waits b bits i here none = sym (ap (λ v. b || (here && is_set v i)) none ∙ none_more b here i)
 
--- a page that gets the bits of a batch besides its own
-pub batch_added : (pages : List ℕ) (page more : ℕ) → page < length pages
+-- a page that gets the bits of those that wait besides its own
+pub all_added : (pages : List ℕ) (page more : ℕ) → page < length pages
     → (q : ℕ) → contains (named (set pages page (bit_or (get_or pages page 0) more))) q ≡ (contains (named pages) q || (page_of q == page && is_set more (q % 64)))
-batch_added pages page more lt q =
+all_added pages page more lt q =
     seen (set pages page both) q
     ∙ elim (page_of q == page) as (λ b. (page_of q == page) ≡ b → is_named (set pages page both) q ≡ (contains (named pages) q || (b && is_set more (q % 64)))) [
       | true ↦ λ e.
