@@ -5,16 +5,16 @@
 
 The heap is a list of directories of 509 leaves each, reached from the root; N is how many directories the short one has, 16 if left out, and
 at most 28. Each run begins on a copy of the same file. Whole runs are timed by the processor time of the program, which other work on the
-machine changes least, and the least of 9 runs counts; the time of a run on an empty script, which opens the heap and prints its graph, is
-taken off. Beside the C program 60 rounds count, in each of which all take their turn. There the collections are made by calls of the library
-(`library_bench collect`, which `rt run` in crates/library_bench builds; without it the C program is left out), as C makes no text either, and once more by a
-script, with its lines and answers. The C program's memory was written before its clock began; so what is timed are collections after others and a
-force, whose memory the log has kept, with a force after each six. A run with the first six alone is taken off, and in a script a run with as many
-scans that have nothing to do in place of the others. Pauses are the processor time of `heap session` between a line and its answer, as
-Linux tells it, in one of the first three collections of a run, each with a force after it; memory that grows by doubling has grown in the third.
-They are compared with a heap of 16 times the objects and with one of the same objects in the most pages, also with the caches emptied before each, for
-which both programs run on one processor. It needs gcc, measures, and judges nothing. With --quick the program is that which is compiled with nothing
-proved; it has checks at each step, and its times say little.
+machine changes least. Of reads the least of 9 runs counts, of collections of twice the objects the least of 15, and beside the C program 60
+rounds, in each of which all take their turn. Such collections are made by calls of the library (`library_bench collect`, which `rt run` in
+crates/library_bench builds; without it these parts are left out), as C makes no text either, and once more by a script, with its lines and
+answers. The C program's memory was written before its clock began; so what is timed are collections after others and a force, whose memory the
+log has kept, with a force after each six. A run with the first six alone is taken off, and in a script a run with as many scans that have
+nothing to do in place of the others. Pauses are the processor time of `heap session` between a line and its answer, as Linux tells it, in one of
+the first three collections of a run, each with a force after it; memory that grows by doubling has grown in the third. They are compared with a
+heap of 16 times the objects and with one of the same objects in the most pages, also with the caches emptied before each, for which both programs
+run on one processor. It needs gcc, measures, and judges nothing. With --quick the program is that which is compiled with nothing proved; it has
+checks at each step, and its times say little.
 """
 import os
 import resource
@@ -108,28 +108,15 @@ def collections(directories, leaf_words=4):
     return ("flip\n" + "scan\n" * scans(directories, leaf_words)) * COLLECTIONS
 
 
-def collecting(name, directories):
-    """The seconds of the collections alone."""
-    whole = timed(name, collections(directories), ("collected", COLLECTIONS))
-    return whole - timed(name, "", ("collected", 0))
-
-
-def by_size(n):
-    build("short", n)
-    build("long", 2 * n)
-    short, long = collecting("short", n), collecting("long", 2 * n)
-    print(f"a collection of {2 * n * (LEAVES + 1)} live objects takes {long / short:.2f} times as long as one of {n * (LEAVES + 1)}")
-
-
 def copies_of_c(directories, leaf_words, rounds):
     """The seconds of processor time of the C program."""
     args = ["./collection", "log", str(directories), str(leaf_words), str(COLLECTIONS), str(rounds)]
     return float(subprocess.run(args, stdout=subprocess.PIPE, check=True).stdout)
 
 
-def by_library(rounds):
+def by_library(name, rounds):
     """The seconds of processor time of so many rounds of collections, with a force after each, by calls of the library on a copy of the heap."""
-    shutil.copyfile("copied", "heap.img")
+    shutil.copyfile(name, "heap.img")
     before = spent()
     told = subprocess.run([LIBRARY, "collect", "heap.img", str(rounds)], stdout=subprocess.PIPE, check=True, text=True).stdout
     if told != f"collected {rounds * COLLECTIONS}\n":
@@ -137,13 +124,23 @@ def by_library(rounds):
     return spent() - before
 
 
+def by_size(n):
+    """Both heaps take turns, and the least times count, without those of the first round of collections."""
+    heaps = (("short", n), ("long", 2 * n))
+    for name, directories in heaps:
+        build(name, directories, log=log_bytes(directories, 4))
+    rounds = [[(by_library(name, 1 + AGAIN), by_library(name, 1)) for name, _ in heaps] for _ in range(PAUSES)]
+    short, long = (min(whole for whole, _ in times) - min(first for _, first in times) for times in zip(*rounds))
+    print(f"a collection of {2 * n * (LEAVES + 1)} live objects takes {long / short:.2f} times as long as one of {n * (LEAVES + 1)}")
+
+
 def one_round(n, leaf_words):
     """The seconds of the copies by the library and by a script, each with all rounds and with what is taken off, and those of C."""
     copies = collections(n, leaf_words) + "force\n"
     idle = "scan\n" * (COLLECTIONS * (scans(n, leaf_words) + 1)) + "force\n"
     return (
-        by_library(1 + AGAIN),
-        by_library(1),
+        by_library("copied", 1 + AGAIN),
+        by_library("copied", 1),
         timed_once("copied", copies + AGAIN * copies, ("collected", (1 + AGAIN) * COLLECTIONS)),
         timed_once("copied", copies + AGAIN * idle, ("collected", COLLECTIONS)),
         copies_of_c(n, leaf_words, AGAIN),
@@ -301,12 +298,13 @@ def main():
     subprocess.run([*heap, "session"], stdin=subprocess.DEVNULL, stdout=subprocess.PIPE, check=True)
     subprocess.run(["gcc", "-O2", "-o", "collection", f"{TOP}/bench/collection.c"], check=True)
     print(f"load {os.getloadavg()[0]:.1f}")
-    by_size(n)
     if os.path.exists(LIBRARY):
+        by_size(n)
         for leaf_words in (4, 7, 16, 64):
             beside_c(n, leaf_words)
     else:
-        print("without the C program: what is compared with it is built by `rt run` in crates/library_bench")
+        print("without collections of twice the objects and without the C program: `rt run` in crates/library_bench builds what they need")
+    build("long", 2 * n)
     without, within = reads(80_000)
     print(f"a read beside a collection, of a page with nothing gray: {within / without:.2f} times as long as without one")
     by_heap(n)
