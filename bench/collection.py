@@ -6,15 +6,15 @@
 The heap is a list of directories of 509 leaves each, reached from the root; N is how many directories the short one has, 16 if left out, and
 at most 28. Each run begins on a copy of the same file. Whole runs are timed by the processor time of the program, which other work on the
 machine changes least. Of reads the least of 9 runs counts, of collections of twice the objects the least of 15, and beside the C program 60
-rounds, in each of which all take their turn. Such collections are made by calls of the library (`library_bench collect`, which `rt run` in
-crates/library_bench builds; without it these parts are left out), as C makes no text either, and once more by a script, with its lines and
-answers. The C program's memory was written before its clock began; so what is timed are collections after others and a force, whose memory the
-log has kept, with a force after each six. A run with the first six alone is taken off, and in a script a run with as many scans that have
-nothing to do in place of the others. Pauses are the processor time of `heap session` between a line and its answer, as Linux tells it, in one of
-the first three collections of a run, each with a force after it; memory that grows by doubling has grown in the third. They are compared with a
-heap of 16 times the objects and with one of the same objects in the most pages, also with the caches emptied before each, for which both programs
-run on one processor. It needs gcc, measures, and judges nothing. With --quick the program is that which is compiled with nothing proved; it has
-checks at each step, and its times say little.
+rounds, in each of which all take their turn. Both are made by calls of the library (`library_bench collect`, which `rt run` in
+crates/library_bench builds; without it these parts are left out); beside the C program also by a script, with its lines and answers, as C makes
+no text. The C program's memory was written before its clock began; so what is timed are collections after others and a force, whose memory the log
+has kept, with a force after each six. A run with the first six alone is taken off, and in a script a run with as many scans that have nothing to
+do in place of the others. Pauses are the processor time of `heap session` between a line and its answer, as Linux tells it, in one of the first
+three collections of a run, each with a force after it; memory that grows by doubling has grown in the third. They are compared with a heap of 16
+times the objects and with one of the same objects in the most pages, also with the caches emptied before each, for which both programs run on one
+processor. It needs gcc, measures, and judges nothing. With --quick the programs are those that are compiled with nothing proved, which have checks
+at each step, so that their times say little; the library's part is as `rt run` built it.
 """
 import os
 import resource
@@ -30,6 +30,7 @@ BUILT = os.path.join(TOP, ".build", *["quick"] * bool(QUICK))
 HEAP, SESSION = os.path.join(BUILT, "heap_shell"), os.path.join(BUILT, "heap_session")
 LIBRARY = os.path.join(TOP, "crates/library_bench/out/library_bench")
 RUNS = 9
+SIZES = 15
 ROUNDS = 60
 PAUSES = 15
 MOST_PAGES = 16_384
@@ -68,7 +69,7 @@ def words_of(directories, leaf_words):
 
 
 def log_bytes(directories, leaf_words):
-    """Room for the transactions that make the heap, and for all collections of it that are timed beside the C program."""
+    """Room for the transactions that make the heap, and for all collections of it that are timed by the library or a script."""
     objects = directories * (LEAVES + 1)
     return 1_048_576 + ((1 + AGAIN) * COLLECTIONS + 2) * (8 * words_of(directories, leaf_words) + 60 * objects)
 
@@ -98,12 +99,12 @@ def timed(name, text, wanted):
     return min(timed_once(name, text, wanted) for _ in range(RUNS))
 
 
-def scans(directories, leaf_words=4):
+def scans(directories, leaf_words):
     """How many scans a collection needs at most."""
     return words_of(directories, leaf_words) // 64 + 3
 
 
-def collections(directories, leaf_words=4):
+def collections(directories, leaf_words):
     """Collections one after another, each with a scan for every page."""
     return ("flip\n" + "scan\n" * scans(directories, leaf_words)) * COLLECTIONS
 
@@ -129,7 +130,7 @@ def by_size(n):
     heaps = (("short", n), ("long", 2 * n))
     for name, directories in heaps:
         build(name, directories, log=log_bytes(directories, 4))
-    rounds = [[(by_library(name, 1 + AGAIN), by_library(name, 1)) for name, _ in heaps] for _ in range(PAUSES)]
+    rounds = [[(by_library(name, 1 + AGAIN), by_library(name, 1)) for name, _ in heaps] for _ in range(SIZES)]
     short, long = (min(whole for whole, _ in times) - min(first for _, first in times) for times in zip(*rounds))
     print(f"a collection of {2 * n * (LEAVES + 1)} live objects takes {long / short:.2f} times as long as one of {n * (LEAVES + 1)}")
 

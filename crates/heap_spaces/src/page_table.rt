@@ -59,7 +59,7 @@ impl PageTable {
         GROUP_PAGES * self.groups.len()
     }
 
-    /// Allocates the memory for the numbers of a page's group, which are 0, and adds numbers to no other group. An error changes no number.
+    /// Makes sure that the numbers of a page's group have memory, and gives none to another group. No number changes, also after an error.
     pub(crate) fn make_room(&mut self, page: usize) -> Result<(), AllocError>
         requires { page < 2 ^ 26 }
         ensures room { OnOk result (HasRoom self.new.room page) }

@@ -36,8 +36,8 @@ pub trait Words {
         ensures word { IsTrue tells → IfOk result (λ w. w ≡ slice_index (content self.old) at) }
         ensures read { IsRead tells extent content keeps faults stops self.old self.new (disk_failure result) };
 
-    /// Appends the words from an address up to an end to `into`. After an error some of them may have been appended, and what stood there before
-    /// is kept.
+    /// Appends the words from an address up to an end to `into`. After an error what stood there before is kept, with at most as many words after
+    /// it.
     fn append_to(&mut self, from: u32, end: u32, into: &mut Vec<u64>) -> Result<(), ReadError>
         requires order { from ≤ end }
         requires within { end ≤ extent self.old }
