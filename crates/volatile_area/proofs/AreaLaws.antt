@@ -14,7 +14,8 @@ use Rattle.object_layout.proofs.LayoutLaws.{object_header, length-field_words}
 use Rattle.object_layout.specs.Walk.{AreEndToEnd}
 use Rattle.object_layout.proofs.WalkedLaws.{end_to_end_object}
 use Rattle.volatile_area.specs.Area.{AreaState, length_at, starts_from, starts_of, new_words, with_object, with_field, HasField, IsArea}
-use Rattle.volatile_area.proofs.ObjectLaws.{field_words_append, birth_at_append, field_words_beside, field_words_set, birth_at_set, object_behind, field_words_behind, birth_at_behind, end_to_end_append, end_to_end_push, end_to_end_long, end_to_end_apart, end_to_end_set, length-starts_from, starts_from-end_to_end}
+use Rattle.object_layout.proofs.ObjectLaws.{field_words_append, birth_at_append, field_words_beside, field_words_set, birth_at_set, birth_at_behind, end_to_end_append, end_to_end_push, end_to_end_apart, end_to_end_set}
+use Rattle.volatile_area.proofs.ObjectLaws.{object_behind, field_words_behind, end_to_end_long, length-starts_from, starts_from-end_to_end}
 
 -- Starts.
 

@@ -3,8 +3,8 @@ use Rattle.std.proofs.Common.{◌≡◌, ◌+◌, ◌-◌, take, drop, ◌∙◌
 use Rattle.std.proofs.lemmas.List.Elements.{All-same}
 use Rattle.heap_words.specs.Word.{IsFieldWord}
 use Rattle.object_layout.specs.Layout.{field_words}
+use Rattle.object_layout.proofs.ObjectLaws.{field_words_at}
 use Rattle.volatile_area.specs.Area.{AreaState, area_of}
-use Rattle.volatile_area.proofs.ObjectLaws.{field_words_at}
 use Rattle.volatile_area.proofs.Kept.{stands_at, fields_meant}
 use Rattle.volatile_area.proofs.area.Area.fields.Goals as goal
 
