@@ -15,8 +15,8 @@ abbrev pub next_copy : State → List ℕ → ℕ → ObjectCopy
 next_copy s words from = record { from = from; to = s.base + s.used; words = words_to_copy words from }
 
 -- the words after it
-abbrev pub copied_words : State → List ℕ → ℕ → List ℕ
-copied_words s words from = put_all words (writes_of (next_copy s words from))
+abbrev pub words_after_copy : State → List ℕ → ℕ → List ℕ
+words_after_copy s words from = put_all words (writes_of (next_copy s words from))
 
 -- the current places with that of an object's copy after them
 abbrev pub with_place : State → Places → Id → Places

@@ -12,7 +12,7 @@ ghost use Rattle.log_machine.specs.Machine.{State, put_all};
 ghost use Rattle.log_machine.specs.declared.UndoEntry.{UndoEntry};
 ghost use Rattle.graph_words.specs.Places.{Places, address_of, addresses};
 ghost use Rattle.collection_words.specs.Completed.{StandsCompleted, completed, places_from, without};
-ghost use Rattle.collection_words.specs.Copying.{copied_words, next_copy, words_to_copy, with_place};
+ghost use Rattle.collection_words.specs.Copying.{words_after_copy, next_copy, with_place};
 ghost use Rattle.log_machine.specs.Translation.{translated_list};
 ghost use Rattle.collection_words.specs.Flipped.{HasBegun, HasFlipped, HaveParted, IsFlipping, WereTranslated, flipped_words};
 ghost use Rattle.collection_words.specs.Placed.{HaveOwnNames};
@@ -22,7 +22,7 @@ ghost use Rattle.collection_words.specs.Writes.{AreBacked, IsCurrentField, IsSca
 /// The copy of an object that remains can follow. After it the words are laid out, with the object among the current ones, and each graph
 /// that stood in the completed words stands there, where the same writes are taken back.
 pub fn copies_keep_graphs()
-    ensures { (s : State) (k : Collection) (places remaining : Places) (words : List ℕ) (id : Id) (from t made : ℕ) (g : Graph) (us : List UndoEntry) → IsUnderway s k places remaining words → address_of remaining id ≡ Some from → AreBacked places words us → StandsCompleted t made places remaining g us words s → (copy_after s (next_copy s words from) ≡ Some (with_copy s k (next_copy s words from))) × IsUnderway (with_copy s k (next_copy s words from)) (with_moved k from (next_copy s words from).to (words_to_copy words from)) (with_place s places id) (without remaining from) (copied_words s words from) × StandsCompleted t made (with_place s places id) (without remaining from) g us (copied_words s words from) (with_copy s k (next_copy s words from)) }
+    ensures { (s : State) (k : Collection) (places remaining : Places) (words : List ℕ) (id : Id) (from t made : ℕ) (g : Graph) (us : List UndoEntry) → IsUnderway s k places remaining words → address_of remaining id ≡ Some from → AreBacked places words us → StandsCompleted t made places remaining g us words s → (copy_after s (next_copy s words from) ≡ Some (with_copy s k (next_copy s words from))) × IsUnderway (with_copy s k (next_copy s words from)) (with_moved k (next_copy s words from)) (with_place s places id) (without remaining from) (words_after_copy s words from) × StandsCompleted t made (with_place s places id) (without remaining from) g us (words_after_copy s words from) (with_copy s k (next_copy s words from)) }
 {}
 
 /// The scan of a page can follow, and leaves the completed words as they are.

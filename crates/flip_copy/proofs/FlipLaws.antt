@@ -99,7 +99,7 @@ all_copied (copy ∷ copies) s k behind runs sized ordered together covered even
     let test = can_copy s k behind copy least ordered.0 (omega arith) together.0 covered even few below in
     let first : copy_after s copy ≡ Some (with_copy s k copy) =
     ap (copied_while s copy) runs ∙ copied_one s k copy (can_move s k copy.from size && can_hold s copy.to size) test in
-    let k' = with_moved k copy.from copy.to copy.words in
+    let k' = with_moved k copy in
     let place : s.base + (s.used + size) ≡ s.base + s.used + size = omega arith in
     let rest : copies_after (with_copy s k copy) copies ≡ Some (with_all_copied (with_copy s k copy) k' copies) =
     all_copied copies (with_copy s k copy) k' (copy.from + size) refl sized.1 ordered.1

@@ -1,9 +1,10 @@
 -- The words of an object, and the objects that roots name.
 use Rattle.std.proofs.Common.{◌≡◌, ◌≢◌, ℕ, zero, suc, ◌+◌, ◌==◌, ◌<◌, ◌≤◌, inl, inr, Bool, true, false, List, [], ◌∷◌, length, take, drop, get_or, Option, None, Some, refl, sym, ap, ◌∙◌, subst, arith}
-use Rattle.std.specs.Prelude.{Contains, if◌then◌else◌}
+use Rattle.std.specs.Prelude.{Contains, slice_index, if◌then◌else◌}
 use Rattle.std.specs.List.Sorted.{IsStrictlyIncreasing}
 use Rattle.std.proofs.lemmas.Bool.{eq-eqb, eqb-true}
-use Rattle.std.proofs.lemmas.List.{length-take, length-drop, get_or-drop}
+use Rattle.std.proofs.lemmas.List.{length-take, length-drop, get_or-drop, drop_more}
+use Rattle.heap_words.specs.Size.{payload_of}
 use Rattle.std.proofs.lemmas.List.Kept.{AllPairs-from_increasing}
 use Rattle.heap_spaces.specs.Spaces.{SpacesState}
 use Rattle.object_layout.specs.Layout.{object_at}
@@ -17,7 +18,12 @@ use Rattle.flip_copy.specs.Plan.{AreRootsIn}
 
 -- the words of an object are those from its address on
 pub object_words : (words : List ℕ) (at n : ℕ) → object_at words at ≡ Some n → object_words_at words at ≡ take (2 + n) (drop at words)
-object_words words at n is = ap (object_words_of words at) is
+object_words words at n is =
+    let head = object_header words at n is in
+    let within = head.1 in
+    ap (object_words_of words at) is
+    ∙ ap (λ (m : ℕ). take (2 + m) (slice_index words at ∷ drop (at + 1) words)) (ap payload_of head.0)
+    ∙ ap (take (2 + n)) (sym (drop_more words at 0 (omega arith)))
 
 -- as many as its header says
 pub object_words-length : (words : List ℕ) (at n : ℕ) → object_at words at ≡ Some n → length (object_words_at words at) ≡ 2 + n

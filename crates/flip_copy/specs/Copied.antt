@@ -1,16 +1,18 @@
 -- The record of a flip: the copies of objects, each with its words as they stand.
-use Rattle.std.specs.Prelude.{ℕ, ◌+◌, ◌==◌, List, [], ◌∷◌, map, length, sum_by, take, drop, slice_index, Option, None, Some, if◌then◌else◌}
+use Rattle.std.specs.Prelude.{ℕ, ◌+◌, ◌==◌, List, [], ◌∷◌, length, slice_index, Option, None, Some, if◌then◌else◌}
 use Rattle.heap_spaces.specs.Spaces.{SpacesState, flipped}
-use Rattle.heap_spaces.specs.declared.collection.CopiedObject.{CopiedObject}
+pub use Rattle.log_machine.specs.Copied.{moved_object, moved_objects}
+pub use Rattle.log_records.specs.Copied.{copies_in, copied_size}
+use Rattle.log_records.specs.Copied.{copied_words}
 use Rattle.log_records.specs.declared.copies.ObjectCopy.{ObjectCopy}
 use Rattle.log_records.specs.declared.Record.{Record}
 use Rattle.log_records.specs.declared.Record.TheVariants.{Flip}
 use Rattle.object_layout.specs.Layout.{object_at}
 
--- the words of an object of that length
+-- the words of the object at an address, if one of some length stands there
 abbrev pub object_words_of : List ℕ → ℕ → Option ℕ → List ℕ
 object_words_of words at None = []
-object_words_of words at (Some n) = take (2 + n) (drop at words)
+object_words_of words at (Some n) = copied_words words at (slice_index words at)
 
 -- the words of the object that stands at an address, its header and its birth first; none if there is no object
 abbrev pub object_words_at : List ℕ → ℕ → List ℕ
@@ -34,19 +36,3 @@ root_copies spaces words roots = copies_from words (flipped spaces).base (with_b
 -- the record of a flip
 abbrev pub flip_record : SpacesState → List ℕ → List ℕ → Record
 flip_record spaces words roots = Flip (root_copies spaces words roots)
-
--- what a collection keeps of a copy
-abbrev pub moved_object : ObjectCopy → CopiedObject
-moved_object copy = record { from = copy.from; to = copy.to; header = slice_index copy.words 0; words = length copy.words }
-
-abbrev pub moved_objects : List ObjectCopy → List CopiedObject
-moved_objects copies = map moved_object copies
-
--- how many words the copies have
-abbrev pub copied_size : List ObjectCopy → ℕ
-copied_size copies = sum_by (λ (copy : ObjectCopy). length copy.words) copies
-
--- the copies that a record of a flip lists
-abbrev pub copies_in : Record → List ObjectCopy
-copies_in (Flip copies) = copies
-copies_in rec = []

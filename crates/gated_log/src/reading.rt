@@ -1,5 +1,5 @@
 //! Reads a log record by record, through a window of fixed size.
-ghost use Rattle.std.specs.Prelude.{◌≡◌, ◌≢◌, ℕ, ◌+◌, ◌-◌, ◌^◌, ◌<◌, ◌≤◌, ◌++◌, Bool, List, [], ◌∷◌, length, take, drop, slice_index, vec_len, vec_capacity, IsTrue, IsFalse, ◌↔◌, OnOk, IfOk, IfSome, Some, None, Ok, Err};
+ghost use Rattle.std.specs.Prelude.{◌≡◌, ◌≢◌, ℕ, ◌+◌, ◌-◌, ◌^◌, ◌<◌, ◌≤◌, ◌++◌, Bool, List, [], ◌∷◌, length, take, drop, slice_index, vec_len, vec_capacity, IsTrue, IsFalse, OnOk, IfOk, IfSome, Some, None, Ok, Err};
 ghost use Rattle.std.specs.Int.{w32, to_le_bytes};
 ghost use Rattle.disk_model.specs.Disk.{part};
 ghost use Rattle.disk_model.specs.Keeps.{OnlyReads};
@@ -130,13 +130,6 @@ impl LogReader {
         ensures { result ≡ reader_batch self.now }
     {
         self.first
-    }
-
-    /// Whether no record of the batch that was begun last is left to be given.
-    pub fn at_border(&self) -> bool
-        ensures { IsTrue result ↔ (reader_left self.now ≡ 0) }
-    {
-        self.left == 0
     }
 
     /// The next record, or none after the last batch. After an error the reader can't be used.

@@ -58,14 +58,14 @@ scan_spaces (Some page) records spaces is = page_spaces page records spaces is
 -- The collection.
 
 copies_nothing : (k : Collection) → k ≡ with_copies k []
-copies_nothing k = let count : k.copied ≡ k.copied + 0 = omega arith in λ i. record { used = k.used; copied = count i; moved = k.moved; gray = k.gray }
+copies_nothing k = let count : k.copied ≡ k.copied + 0 = omega arith in λ i. record k { copied = count i }
 
 copies_more : (k : Collection) (c : CopiedObject) (cs : List CopiedObject) → with_copies (with_copies k (c ∷ [])) cs ≡ with_copies k (c ∷ cs)
 copies_more k c cs =
     let words : CopiedObject → ℕ = λ o. o.words in
     let count : k.copied + sum_by words (c ∷ []) + sum_by words cs ≡ k.copied + sum_by words (c ∷ cs) = omega (arith, sum_by-cons words c cs) in
     let all = with_copies k (c ∷ cs) in
-    λ i. record { used = k.used; copied = count i; moved = all.moved; gray = all.gray }
+    λ i. record all { copied = count i }
 
 page_collection : (page : ℕ) (records : List Record) (k : Collection) → is_page_scan page records ≡ true → collection_behind (Some k) records ≡ Some (with_scanned (with_copies k (copied_in records)) page)
 page_collection page [] k is = absurd (cc is)

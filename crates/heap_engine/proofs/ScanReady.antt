@@ -3,7 +3,6 @@ use Rattle.std.proofs.Common.{◌≡◌, ℕ, ◌+◌, ◌-◌, ◌<◌, ◌≤�
 use Rattle.std.specs.Prelude.{Contains}
 use Rattle.std.specs.List.{AllByRecursion, flat_map}
 use Rattle.std.specs.declared.cmp.Ordering.TheVariants.{Equal}
-use Rattle.std.specs.FinMap as finmap
 use Rattle.std.specs.FinSet.{FinSet, contains, insert, contains-retain, nat_cmp-IsAntisymmetric}
 use Rattle.std.specs.Ordering.{nat_cmp}
 use Rattle.std.proofs.lemmas.Bool.{eqb-true}
@@ -14,7 +13,7 @@ use Rattle.heap_spaces.specs.Collection.{Collection, owed_by, gray_from, page_of
 use Rattle.heap_spaces.specs.Copying.{with_copies, with_scanned}
 use Rattle.heap_spaces.specs.Spaces.{SpacesState, IsSpaces, with_copied}
 use Rattle.log_records.specs.declared.Record.{Record}
-use Rattle.log_machine.specs.Machine.{State, spaces_of, words_in}
+use Rattle.log_machine.specs.Machine.{State, spaces_of, start, words_in}
 use Rattle.log_machine.specs.Effect.{EachWritesBelow}
 use Rattle.log_machine.specs.Sound.{IsLoser, IsConsistent}
 use Rattle.log_machine.proofs.ListLaws.{AllByRecursion-at}
@@ -62,7 +61,7 @@ Passes spaces k page records = (s : State) → spaces_of s ≡ spaces → s.coll
 
 -- the state of a heap with these spaces in which that collection runs
 abbrev state_of : SpacesState → Collection → State
-state_of spaces k = record { pages = spaces.pages; base = spaces.base; used = spaces.used; collection = Some k; undo = finmap.empty; commits = 0; next = 1 }
+state_of spaces k = record (start spaces.pages 1) { base = spaces.base; used = spaces.used; collection = Some k }
 
 module _ (m : Memory) (k : Collection) (known : IsKnown m) (runs : m.collection ≡ Some k) where
   sound : IsSoundCollection m.spaces k

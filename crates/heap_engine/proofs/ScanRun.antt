@@ -84,7 +84,7 @@ run_scan s n k page scanned writes consistent own few passes =
 -- One copy, and the records after it.
 run_copy : (s : State) (k : Collection) (from to : ℕ) (words : List ℕ) (records : List Record) → IsConsistent s → s.collection ≡ Some k
     → (can_move s k from (length words) && can_hold s to (length words)) ≡ true
-    → IsRun (with_copy s k (record { from = from; to = to; words = words })) (with_moved k from to words) records → IsRun s k (Copy from to words ∷ records)
+    → IsRun (with_copy s k (record { from = from; to = to; words = words })) (with_moved k (record { from = from; to = to; words = words })) records → IsRun s k (Copy from to words ∷ records)
 run_copy s k from to words records consistent own can rest =
     let copy : ObjectCopy = record { from = from; to = to; words = words } in
     let told = can_copy_told s k copy can in
@@ -116,5 +116,5 @@ scan_run s n k page (Copy from to words ∷ records) consistent own is passes =
     let told = can_copy_told s k copy can.0 in
     let rest = subst (λ (m : State). collecting_after_all m records ≡ Some n) (sym can.1) step.2 in
     run_copy s k from to words records consistent own can.0
-    (scan_run (with_copy s k copy) n (with_moved k from to words) page records (consistent_copy s k copy consistent own told) refl (both_parts (nat_le (length words) 512) (is_page_scan page records) is).1 rest)
+    (scan_run (with_copy s k copy) n (with_moved k copy) page records (consistent_copy s k copy consistent own told) refl (both_parts (nat_le (length words) 512) (is_page_scan page records) is).1 rest)
 scan_run s n k page (rec ∷ records) consistent own is passes = absurd (cc is)

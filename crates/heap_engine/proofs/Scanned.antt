@@ -14,6 +14,7 @@ use Rattle.log_records.specs.declared.Record.{Record}
 use Rattle.log_records.specs.declared.Record.TheVariants.{Update}
 use Rattle.log_records.specs.Record.{spelling, spellings}
 use Rattle.log_machine.specs.Machine.{field_at, put_record}
+use Rattle.log_machine.specs.UndoEntry.{undo_entry}
 use Rattle.object_layout.specs.Layout.{field_words}
 use Rattle.object_locks.specs.declared.holding.Mode.TheVariants.{Shared, Exclusive}
 use Rattle.txn_table.specs.declared.place.Place.TheVariants.{Stable}
@@ -104,10 +105,10 @@ pub wrote_at : (old mid new : Memory) (session object field number was word : �
     → CanScan old records → field_at object field < length old.words → was ≡ word_after (field_at object field) (slice_index old.words (field_at object field)) records
     → Leaves mid new (records ++ Update number object field was word ∷ []) new.table (set.insert mid.locks (asked number Exclusive object)) (spaces_behind mid.spaces records) (collection_behind mid.collection records) mid.sealed
     → IsSome (own old session) → IfSome (own old session) (λ t. number ≡ t.number)
-    → Changes old.table new.table session (λ t. record t { undo = record { object = object; field = field; was = was } ∷ t.undo })
+    → Changes old.table new.table session (λ t. record t { undo = undo_entry object field was ∷ t.undo })
     → Writes old new session (Stable object) field word
 wrote_at old mid new session object field number was word page records same are scans ready inside behind left some numbered changed =
-    let d = turned old.table new.table session (λ t. record t { undo = record { object = object; field = field; was = was } ∷ t.undo }) some changed in
+    let d = turned old.table new.table session (λ t. record t { undo = undo_entry object field was ∷ t.undo }) some changed in
     let t = d.transaction in
     let as_number = told (own old session) t (λ u. number ≡ u.number) d.was numbered in
     let at = field_at object field in
@@ -125,7 +126,7 @@ wrote_at old mid new session object field number was word page records same are 
         words = all.words ∙ ap (fold put_record old.words) wanted;
         lsns = all.lsns ∙ ap (λ rs. (redo_all (log_next_lsn old.log) (pages_of old) rs).lsns) wanted;
         store = all.store;
-        table = d.is ∙ (λ i. with_transaction old.table session (record t { undo = record { object = object; field = field; was = as_was i } ∷ t.undo }));
+        table = d.is ∙ (λ i. with_transaction old.table session (record t { undo = undo_entry object field (as_was i) ∷ t.undo }));
         locks = all.locks ∙ (λ i. set.insert (same.locks i) (asked (as_number i) Exclusive object));
         spaces = all.spaces ∙ (λ i. spaces_behind (same.spaces i) (are i)) ∙ sym (fold-append spaces_with old.spaces (barrier_records old object field) (update ∷ []));
         collection = all.collection ∙ (λ i. collection_behind (same.collection i) (are i)) ∙ sym (fold-append collection_with old.collection (barrier_records old object field) (update ∷ []));

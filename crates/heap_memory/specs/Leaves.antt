@@ -19,6 +19,7 @@ use Rattle.heap_spaces.specs.Copying.{begun, with_copies}
 use Rattle.heap_spaces.specs.Spaces.{SpacesState, with_taken, with_copied, flipped}
 use Rattle.flip_copy.specs.Copied.{moved_objects, copied_size}
 use Rattle.log_machine.specs.Collecting.{pairs_of}
+use Rattle.log_machine.specs.UndoEntry.{undo_entry}
 use Rattle.txn_table.specs.Roots.{AreRoots}
 use Rattle.txn_table.specs.Translation.{HaveGoneAlong}
 use Rattle.object_locks.specs.declared.holding.Mode.{Mode}
@@ -99,7 +100,7 @@ pub record Makes (old new : Memory) (s h len : ℕ) : Type 0 where
 
 -- the transaction when a word was put into a field of the object at a place
 abbrev pub with_written : List ℕ → TransactionState → Place → ℕ → ℕ → TransactionState
-with_written words t (Stable at) i w = record t { undo = record { object = at; field = i; was = slice_index words (field_at at i) } ∷ t.undo }
+with_written words t (Stable at) i w = record t { undo = undo_entry at i (slice_index words (field_at at i)) ∷ t.undo }
 with_written words t (Volatile at) i w = record t { area = area.with_field t.area at i w }
 
 -- the records of that write

@@ -1,3 +1,4 @@
 pub mod HeaderLaws
 pub mod Headers
+pub mod SizeLaws
 pub mod WordLaws

@@ -1,4 +1,6 @@
 //! Images whose pages were stored at different times: an opening redoes on each page what it lacks, and nothing else.
+ghost use Rattle.log_machine.specs.Effect.{WritesBelow};
+
 use crate::opening_tests::{
     LOG_BYTES, ask, ask_all, compare, crash, expect, format, found, make_disk, make_heap, open,
     read_log, refused,
@@ -9,7 +11,7 @@ use graph_model::{Event, Refusal, Reply};
 use heap_core::{Heap, OpenError};
 use heap_recovery::At;
 use image_plan::Plan;
-use log_machine::replay;
+use log_machine::LogState;
 use log_records::Record;
 use page_cache::PageCache;
 use page_store::PageStore;
@@ -147,11 +149,22 @@ fn open_pages(
 
 /// Redoes these records on the pages.
 fn redo(rt: &impl Abort, alloc: Global, cache: &mut PageCache, records: &[Record]) {
-    assert!(rt; cache.as_slice().len() == 256 && records.len() < 99);
-    let Ok(_) = replay(alloc, PLAN.pages, 1, records) else {
-        panic!(rt; "not replayed");
+    let mut state = LogState::start(alloc, PLAN.pages, 1);
+    for (i, record) in records.iter().enumerate() {
+        take(rt, alloc, &mut state, record);
+        assert!(rt; cache.as_slice().len() == 256);
+        cache.redo(i as u64 + 1, record);
+    }
+}
+
+/// The record can follow, and so it writes words of the two spaces alone.
+fn take(rt: &impl Abort, alloc: Global, state: &mut LogState, record: &Record)
+    ensures { WritesBelow 256 record.now }
+{
+    assert!(rt; state.pages() == 2 && state.commits() < 99 && state.reserve() < 999);
+    let Ok(()) = state.after(alloc, record) else {
+        panic!(rt; "it can't follow");
     };
-    cache.redo_all(1, records);
 }
 
 /// Stores page `p` as it is in memory, if the disk has it otherwise. The log has `forced` records.

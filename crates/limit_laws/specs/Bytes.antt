@@ -1,56 +1,30 @@
 -- How many bytes of the log a collection takes.
-use Rattle.std.specs.Prelude.{ℕ, ◌+◌, ◌*◌, ◌≤◌, List, drop, length, sum_by, Option, None, Some}
+use Rattle.std.specs.Prelude.{ℕ, ◌+◌, ◌*◌, ◌≤◌, List, drop, length, sum_by, Option, None, Some, is_some, if◌then◌else◌}
 use Rattle.std.specs.List.{AllByRecursion}
 use Rattle.std.specs.FinSet.{len}
 use Rattle.graph_model.specs.declared.event.Event.{Event}
 use Rattle.graph_model.specs.History.{IsOfSession}
 use Rattle.heap_spaces.specs.Collection.{Collection}
 use Rattle.log_records.specs.declared.Record.{Record}
-use Rattle.log_records.specs.declared.Record.TheVariants.{Update, Base, Fix, Undo, Commit, End, Copy, Scan, Flip, Collected}
+use Rattle.log_records.specs.declared.Record.TheVariants.{Scan, Flip}
 use Rattle.log_records.specs.Record.{spelling}
-use Rattle.log_machine.specs.Machine.{State}
-use Rattle.flip_copy.specs.Copied.{copied_size}
+use Rattle.log_records.specs.Copied.{copies_in, copied_size}
+use Rattle.log_machine.specs.Machine.{State, number_of}
 use Rattle.heap_model.specs.Core.{Core, IsRun, all_records, state_behind}
 use Rattle.core_laws.specs.Valid.{IsReached}
 
 -- the bytes of a record of a collection, and none of a transaction's
 abbrev pub bytes_of : Record → ℕ
-bytes_of (Copy from to words) = length (spelling (Copy from to words))
-bytes_of (Scan page writes) = length (spelling (Scan page writes))
-bytes_of (Flip copies) = length (spelling (Flip copies))
-bytes_of Collected = length (spelling Collected)
-bytes_of (Update t object field was word) = 0
-bytes_of (Base t address words) = 0
-bytes_of (Fix t object field word) = 0
-bytes_of (Undo t object field word) = 0
-bytes_of (Commit t) = 0
-bytes_of (End t) = 0
+bytes_of rec = if is_some (number_of rec) then 0 else length (spelling rec)
 
 -- how many words a record copies
 abbrev pub moved_by_record : Record → ℕ
-moved_by_record (Copy from to words) = length words
-moved_by_record (Flip copies) = copied_size copies
-moved_by_record (Scan page writes) = 0
-moved_by_record Collected = 0
-moved_by_record (Update t object field was word) = 0
-moved_by_record (Base t address words) = 0
-moved_by_record (Fix t object field word) = 0
-moved_by_record (Undo t object field word) = 0
-moved_by_record (Commit t) = 0
-moved_by_record (End t) = 0
+moved_by_record rec = copied_size (copies_in rec)
 
 -- how many references it redirects to the current space
 abbrev pub led_by : Record → ℕ
 led_by (Scan page writes) = length writes
-led_by (Copy from to words) = 0
-led_by (Flip copies) = 0
-led_by Collected = 0
-led_by (Update t object field was word) = 0
-led_by (Base t address words) = 0
-led_by (Fix t object field word) = 0
-led_by (Undo t object field word) = 0
-led_by (Commit t) = 0
-led_by (End t) = 0
+led_by rec = 0
 
 -- how many collections it begins
 abbrev pub begun_by : Record → ℕ

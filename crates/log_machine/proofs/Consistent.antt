@@ -5,12 +5,11 @@ use Rattle.std.specs.List.{AllByRecursion}
 use Rattle.std.specs.Ordering.{nat_cmp}
 use Rattle.std.specs.FinMap.{FinMap, empty, remove, entries}
 use Rattle.std.specs.Global.{Vec}
-use Rattle.std.proofs.lemmas.List.{reverse-reverse}
 use Rattle.log_records.specs.declared.Record.{Record}
 use Rattle.log_machine.specs.declared.UndoEntry.{UndoEntry}
 use Rattle.log_machine.specs.UndoEntry.{LiesInside}
 use Rattle.log_machine.specs.Machine.{State, Loser, start, undo_of, with_entries, space_words, words_in, owed, field_at, is_number, lies_inside, is_same_write, without_newest, losing, abort_records, abort_each, rollback}
-use Rattle.log_machine.proofs.ListLaws.{AllByRecursion-append, AllByRecursion-reverse}
+use Rattle.log_machine.proofs.ListLaws.{AllByRecursion-append}
 use Rattle.log_machine.specs.Entries.{EachKeyed}
 use Rattle.log_machine.proofs.MapLaws.{each_empty, each_remove, get_first, remove_first}
 use Rattle.log_machine.proofs.MachineLaws.{inside_told, newest_told}
@@ -24,9 +23,9 @@ fits_in : (s : State) → IsConsistent s → s.base + s.used ≤ words_in s.page
 fits_in s is = spaced_ends s is.spaced
 
 -- before the first record
-pub consistent_start : (pages first : ℕ) (undo : FinMap nat_cmp (List UndoEntry)) → 1 ≤ pages → words_in pages ≤ 2097152 → undo ≡ empty → IsConsistent (record { pages = pages; base = 0; used = 6; collection = None; undo = undo; commits = 0; next = first })
+pub consistent_start : (pages first : ℕ) (undo : FinMap nat_cmp (List UndoEntry)) → 1 ≤ pages → words_in pages ≤ 2097152 → undo ≡ empty → IsConsistent (record (start pages first) { undo = undo })
 consistent_start pages first undo some addresses none =
-    subst (λ u. IsConsistent (record { pages = pages; base = 0; used = 6; collection = None; undo = u; commits = 0; next = first })) (sym none)
+    subst (λ u. IsConsistent (record (start pages first) { undo = u })) (sym none)
     (record { sound = each_empty (IsLoser (start pages first)); addresses = addresses; spaced = spaced_start pages first some })
 
 -- the spaces are the same whatever may be taken back
@@ -77,12 +76,6 @@ inside_less_of s (u ∷ us) all = all.1
 pub inside_less : (s : State) (t : ℕ) → IsConsistent s → AllByRecursion (LiesInside s.base s.used) (drop 1 (undo_of s t))
 inside_less s t is = inside_less_of s (undo_of s t) (all_inside s t is.sound)
 
--- the writes in the other order
-pub inside_reversed : (s now : State) (t : ℕ) (us : List UndoEntry) → IsConsistent s → s ≡ now → reverse us ≡ undo_of s t → AllByRecursion (LiesInside now.base now.used) us
-inside_reversed s now t us is same e =
-    subst (λ (x : State). AllByRecursion (LiesInside x.base x.used) us) same
-    (subst (λ l. AllByRecursion (LiesInside s.base s.used) l) (ap reverse (sym e) ∙ reverse-reverse us) (AllByRecursion-reverse (LiesInside s.base s.used) (undo_of s t) (all_inside s t is.sound)))
-
 -- The words that are written.
 
 -- a field inside is one of the pages' words
@@ -123,16 +116,6 @@ pub told_below : {E : Type 0} (now : State) (r : Result (Vec Record) E) → Each
     → IfOk r (λ records. EachWritesBelow (words_in now.pages) records.items)
 told_below now (Ok records) below is = subst (λ l. EachWritesBelow (words_in now.pages) l) (sym is) below
 told_below now (Err e) below is = tt
-
-all_below : (s : State) (us : List UndoEntry) → IsConsistent s → AllByRecursion (LiesInside s.base s.used) us → AllByRecursion (λ u. field_at u.object u.field < words_in s.pages) us
-all_below s [] is all = tt
-all_below s (u ∷ us) is all = (below_pages s u is all.0, all_below s us is all.1)
-
--- the writes in the other order write within the pages
-pub below_reversed : (s now : State) (t : ℕ) (us : List UndoEntry) → IsConsistent s → s ≡ now → reverse us ≡ undo_of s t → AllByRecursion (λ (u : UndoEntry). field_at u.object u.field < words_in now.pages) us
-below_reversed s now t us is same e =
-    subst (λ (x : State). AllByRecursion (λ (u : UndoEntry). field_at u.object u.field < words_in x.pages) us) same
-    (all_below s us is (inside_reversed s s t us is refl e))
 
 -- the used words are words of the pages
 pub fits_now : (s now : State) → IsConsistent s → s ≡ now → now.base + now.used ≤ words_in now.pages

@@ -107,9 +107,9 @@ spaced_copies s n (copy ∷ copies) is e =
 one_words : (copied : ℕ) (object : CopiedObject) (words : List ℕ) → object.words ≡ length words → copied + sum_by (λ (x : CopiedObject). x.words) (object ∷ []) ≡ copied + length words
 one_words copied object words same = let one = sum_by-cons (λ (x : CopiedObject). x.words) object [] in omega arith
 
-pub one_copied : (k : Collection) (object : CopiedObject) (words : List ℕ) → object.words ≡ length words → with_copies k (object ∷ []) ≡ with_moved k object.from object.to words
+pub one_copied : (k : Collection) (object : CopiedObject) (words : List ℕ) → object.words ≡ length words → with_copies k (object ∷ []) ≡ with_moved k (record { from = object.from; to = object.to; words = words })
 one_copied k object words same =
-    ap (λ (n : ℕ). record { used = k.used; copied = n; moved = insert k.moved object.from; gray = insert k.gray object.to }) (one_words k.copied object words same)
+    ap (λ (n : ℕ). record k { copied = n; moved = insert k.moved object.from; gray = insert k.gray object.to }) (one_words k.copied object words same)
 
 passed : (s : State) (b : Bool) (n : State) → is_some (cond b (Some n) None) ≡ true → b ≡ true
 passed s true n e = refl
@@ -121,7 +121,7 @@ can_copy s k copy own e =
     let here : is_some (copied_while s copy (Some k)) ≡ true = ap (λ c. is_some (copied_while s copy c)) (sym own) ∙ e in
     can_copy_told s k copy (passed s _ _ here)
 
-pub consistent_added : (s : State) (k now : Collection) (copy : ObjectCopy) (used : ℕ) → IsConsistent s → s.collection ≡ Some k → is_some (copy_after s copy) ≡ true → now ≡ with_moved k copy.from copy.to copy.words → used ≡ s.used + length copy.words
+pub consistent_added : (s : State) (k now : Collection) (copy : ObjectCopy) (used : ℕ) → IsConsistent s → s.collection ≡ Some k → is_some (copy_after s copy) ≡ true → now ≡ with_moved k copy → used ≡ s.used + length copy.words
     → IsConsistent (record s { used = used; collection = Some now })
 consistent_added s k now copy used is own e moved more =
     subst (λ (n : ℕ). IsConsistent (record s { used = n; collection = Some now })) (sym more)

@@ -273,11 +273,10 @@ flip_copies s n copies None e =
 
 -- the state after a flip, as it is put together in memory
 abbrev pub flipped_state : State → State → FinMap nat_cmp (List UndoEntry) → State
-flipped_state s n undo = record { pages = s.pages; base = n.base; used = n.used; collection = n.collection; undo = undo; commits = s.commits; next = s.next }
+flipped_state s n undo = record s { base = n.base; used = n.used; collection = n.collection; undo = undo }
 
 put_together : (s n : State) (copies : List ObjectCopy) (undo : FinMap nat_cmp (List UndoEntry)) → HaveCopied (settled (with_roles_changed s)) copies n → with_undo n undo ≡ flipped_state s n undo
-put_together s n copies undo told i =
-    record { pages = told.pages i; base = n.base; used = n.used; collection = n.collection; undo = undo; commits = told.commits i; next = told.next i }
+put_together s n copies undo told i = record (flipped_state s n undo) { pages = told.pages i; commits = told.commits i; next = told.next i }
 
 -- as two states are seen
 copies_seen : (s s' n n' : State) (copies : List ObjectCopy) → s ≡ s' → n ≡ n' → copies_after (settled (with_roles_changed s')) copies ≡ Some n' → copies_after (settled (with_roles_changed s)) copies ≡ Some n

@@ -11,7 +11,7 @@ use Rattle.log_records.specs.declared.Record.{Record}
 use Rattle.log_records.specs.declared.Record.TheVariants.{Update, Base, Fix, Undo, Commit, End}
 use Rattle.heap_words.specs.Word.{is_stable}
 use Rattle.log_machine.specs.declared.UndoEntry.{UndoEntry}
-use Rattle.log_machine.specs.UndoEntry.{LiesInside}
+use Rattle.log_machine.specs.UndoEntry.{LiesInside, undo_entry}
 use Rattle.log_machine.specs.Machine.{State, undo_in, undo_of, with_entries, number_of, is_number, is_number_or_none, owed, lies_inside, is_same_write, without_newest, has_none, space_words, is_next_free, is_promoted_by, turned, promoted, row_after, after, after_all, put_record, is_commit, commits}
 use Rattle.log_machine.specs.Origin.{Origin, words_from}
 use Rattle.log_machine.proofs.MapLaws.{get_inserted, get_removed, get_beside, get_kept, insert_insert, remove_insert, insert_remove, remove_remove}
@@ -92,7 +92,7 @@ told_if false x y e = absurd (cc e)
 pub inside_from : (s : State) (u : UndoEntry) → LiesInside s.base s.used u → lies_inside s u.object u.field ≡ true
 inside_from s u inside = and_from _ _ (le-leb _ _ inside.above) (lt-ltb _ _ inside.below)
 
-pub inside_told : (s : State) (object field was : ℕ) → lies_inside s object field ≡ true → LiesInside s.base s.used (record { object = object; field = field; was = was })
+pub inside_told : (s : State) (object field was : ℕ) → lies_inside s object field ≡ true → LiesInside s.base s.used (undo_entry object field was)
 inside_told s object field was e = let parts = and_parts _ _ e in record { above = leb-true _ _ parts.0; below = ltb-true _ _ parts.1 }
 
 -- What it means that a number of words from an address on are the next ones that are not used.
@@ -115,9 +115,9 @@ same_entry : (u v : UndoEntry) → is_same_write u v ≡ true → u ≡ v
 same_entry u v e =
     let parts = and_parts _ _ e in
     let first = and_parts _ _ parts.0 in
-    ap (λ n. record { object = n; field = u.field; was = u.was }) (eqb-true u.object v.object first.0)
-    ∙ ap (λ n. record { object = v.object; field = n; was = u.was }) (eqb-true u.field v.field first.1)
-    ∙ ap (λ n. record { object = v.object; field = v.field; was = n }) (eqb-true u.was v.was parts.1)
+    ap (λ n. undo_entry n u.field u.was) (eqb-true u.object v.object first.0)
+    ∙ ap (λ n. undo_entry v.object n u.was) (eqb-true u.field v.field first.1)
+    ∙ ap (λ n. undo_entry v.object v.field n) (eqb-true u.was v.was parts.1)
 
 -- an undo that can follow takes the newest write back
 pub newest_told : (entries : List UndoEntry) (write : UndoEntry) (rest : List UndoEntry) → without_newest entries write ≡ Some rest → entries ≡ write ∷ rest
@@ -135,10 +135,10 @@ of_number s r number = ap (λ b. cond b (row_after s r) None) number
 
 -- the state after a write that can follow
 pub after-Update : (s : State) (t object field was word : ℕ) → is_number t ≡ true → lies_inside s object field ≡ true
-    → after s (Update t object field was word) ≡ Some (turned s t (with_entries s.undo t (record { object = object; field = field; was = was } ∷ undo_of s t)) 0)
+    → after s (Update t object field was word) ≡ Some (turned s t (with_entries s.undo t (undo_entry object field was ∷ undo_of s t)) 0)
 after-Update s t object field was word number inside =
     of_number s (Update t object field was word) number
-    ∙ ap (λ b. cond b (Some (turned s t (with_entries s.undo t (record { object = object; field = field; was = was } ∷ undo_of s t)) 0)) None) inside
+    ∙ ap (λ b. cond b (Some (turned s t (with_entries s.undo t (undo_entry object field was ∷ undo_of s t)) 0)) None) inside
 
 -- after an object that becomes stable
 pub after-Base : (s : State) (t address : ℕ) (words : List ℕ) → is_number t ≡ true → IsNextFree s address (length words) → is_promoted_by t words ≡ true

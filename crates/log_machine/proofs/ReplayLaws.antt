@@ -26,25 +26,6 @@ bounds_on pages i r s n b is =
     let kept = reserve-after s n r b.sound is in
     record { sound = sound_after s n r b.sound is; same_pages = leads.pages ∙ b.same_pages; few = omega (arith, b.few); room = omega (arith, b.room) }
 
--- the records up to a place, and with that one
-front : (rs : List Record) (i : ℕ) (r : Record) → i < length rs → r ≡ get_or rs i r → take (i + 1) rs ≡ take i rs ++ r ∷ []
-front rs i r lt at = take_more rs i r lt ∙ ap (λ (x : Record). take i rs ++ x ∷ []) (sym at)
-
--- the state with the record at a place
-pub state_on : (s : State) (rs : List Record) (i : ℕ) (r : Record) (m n : State) → i < length rs → r ≡ get_or rs i r → after_all s (take i rs) ≡ Some m → after m r ≡ Some n → after_all s (take (i + 1) rs) ≡ Some n
-state_on s rs i r m n lt at so_far is = ap (λ (l : List Record). after_all s l) (front rs i r lt at) ∙ after_all-append s m (take i rs) r so_far ∙ is
-
--- the records with the one at a place write below an address, where that one does
-pub below_on : (end : ℕ) (rs : List Record) (i : ℕ) (r : Record) → i < length rs → r ≡ get_or rs i r → EachWritesBelow end (take i rs) → WritesBelow end r → EachWritesBelow end (take (i + 1) rs)
-below_on end rs i r lt at so_far below = subst (EachWritesBelow end) (sym (front rs i r lt at)) (AllByRecursion-append (WritesBelow end) (take i rs) (r ∷ []) so_far (below, tt))
-
--- the record at a place is the first that can't follow, where those before it do
-pub unshaped_at : (o : Origin) (rs : List Record) (i : ℕ) (r : Record) (m : State) → i < length rs → r ≡ get_or rs i r → after_all o.state (take i rs) ≡ Some m → after m r ≡ None → IsFirstUnshaped o rs (i + o.lsn)
-unshaped_at o rs i r m lt at so_far stuck = record {
-  before = ap (λ n. is_some (after_all o.state (take n rs))) (omega arith) ∙ ap is_some so_far;
-  stuck = ap (λ n. after_all o.state (take n rs)) (omega arith) ∙ ap (λ (l : List Record). after_all o.state l) (front rs i r lt at) ∙ after_all-append o.state m (take i rs) r so_far ∙ stuck;
-}
-
 -- records after one that can't follow
 stuck_in : (o : Option State) (rs rest : List Record) → ((n : State) → after_all n rs ≡ None → after_all n (rs ++ rest) ≡ None)
     → option_and_then (λ n. after_all n rs) o ≡ None → option_and_then (λ n. after_all n (rs ++ rest)) o ≡ None

@@ -13,6 +13,7 @@ use Rattle.log_machine.proofs.MachineLaws.{standing, told_if, newest_told}
 use Rattle.log_machine.specs.Sound.{NoneEmpty, AreLosers}
 use Rattle.log_machine.proofs.CollectingLaws.{collects}
 use Rattle.log_machine.proofs.AbortLaws.{none_standing, none_empty}
+use Rattle.log_machine.specs.UndoEntry.{undo_entry}
 
 -- the bytes that are kept for a transaction with these writes: none where there is none
 abbrev pub bytes_for : List UndoEntry → ℕ
@@ -53,7 +54,7 @@ bytes_less u (w ∷ ws) = omega arith
 
 reserve_row : (s n : State) (r : Record) → AreLosers s → row_after s r ≡ Some n → reserve n ≤ reserve s + 29
 reserve_row s n (Update t object field was word) sound e =
-    let write : UndoEntry = record { object = object; field = field; was = was } in
+    let write : UndoEntry = undo_entry object field was in
     let told = cond_some _ _ _ e in
     let before = reserve-split s t sound in
     let after = reserve-with s t (write ∷ undo_of s t) 0 in
@@ -63,7 +64,7 @@ reserve_row s n (Update t object field was word) sound e =
 reserve_row s n (Base t address words) sound e = let told = cond_some _ _ _ e in let same = ap reserve told.1 in omega arith
 reserve_row s n (Fix t object field word) sound e = let told = cond_some _ _ _ e in let same = ap reserve told.1 in omega arith
 reserve_row s n (Undo t object field word) sound e =
-    let write : UndoEntry = record { object = object; field = field; was = word } in
+    let write : UndoEntry = undo_entry object field word in
     option_and_then_some (λ rest. Some (turned s t (with_entries s.undo t rest) 0)) _ n e (λ rest newest is.
     let before = reserve-split s t sound in
     let after = reserve-with s t rest 0 in

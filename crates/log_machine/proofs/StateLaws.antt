@@ -12,7 +12,7 @@ use Rattle.log_records.specs.declared.Record.TheVariants.{Update, Base, Fix, Und
 use Rattle.log_records.specs.Record.{IsRecord}
 use Rattle.log_machine.specs.declared.UndoEntry.{UndoEntry}
 use Rattle.log_machine.proofs.Entries.{IsEntry}
-use Rattle.log_machine.specs.UndoEntry.{LiesInside}
+use Rattle.log_machine.specs.UndoEntry.{LiesInside, undo_entry}
 use Rattle.log_machine.specs.Machine.{State, start, undo_in, undo_of, with_entries, number_of, is_number, is_number_or_none, next_with, owed, turned, promoted, row_after, after, after_all, is_commit, commits, space_words, words_in}
 use Rattle.log_machine.specs.Origin.{Origin, state_from, commits_in}
 use Rattle.log_machine.specs.Entries.{EachKeyed}
@@ -50,7 +50,7 @@ collects_turns s n r none plain is =
 row_turns : (s n : State) (r : Record) → is_number_or_none (number_of r) ≡ true → row_after s r ≡ Some n → Turns s r n
 row_turns s n (Update t object field was word) number e =
     let told = cond_some _ _ _ e in
-    turned_turns s n (Update t object field was word) t (with_entries s.undo t (record { object = object; field = field; was = was } ∷ undo_of s t)) refl number told.1
+    turned_turns s n (Update t object field was word) t (with_entries s.undo t (undo_entry object field was ∷ undo_of s t)) refl number told.1
 row_turns s n (Base t address words) number e =
     let told = cond_some _ _ _ e in
     let free = free_told s address (length words) (and_parts _ _ told.0).0 in
@@ -116,7 +116,7 @@ sound_start pages first = each_empty (IsLoser (start pages first))
 sound_row : (s n : State) (r : Record) → is_number_or_none (number_of r) ≡ true → AreLosers s → row_after s r ≡ Some n → AreLosers n
 sound_row s n (Update t object field was word) number sound e =
     let told = cond_some _ _ _ e in
-    let write : UndoEntry = record { object = object; field = field; was = was } in
+    let write : UndoEntry = undo_entry object field was in
     let is : turned s t (with_entries s.undo t (write ∷ undo_of s t)) 0 ≡ n = told.1 in
     subst AreLosers is (sound_with s t (write ∷ undo_of s t) 0 number (inside_told s object field was told.0, all_inside s t sound) sound)
 sound_row s n (Base t address words) number sound e =
@@ -128,7 +128,7 @@ sound_row s n (Fix t object field word) number sound e =
     let is : turned s t s.undo 0 ≡ n = told.1 in
     subst AreLosers is (λ q w some. grown s t s.undo 0 q w (sound q w some))
 sound_row s n (Undo t object field word) number sound e =
-    let write : UndoEntry = record { object = object; field = field; was = word } in
+    let write : UndoEntry = undo_entry object field word in
     option_and_then_some (λ rest. Some (turned s t (with_entries s.undo t rest) 0)) _ n e (λ rest newest is.
     let same : turned s t (with_entries s.undo t rest) 0 ≡ n = cc is in
     let inside = subst (λ (l : List UndoEntry). AllByRecursion (LiesInside s.base s.used) l) (newest_told (undo_of s t) write rest newest) (all_inside s t sound) in
@@ -148,7 +148,7 @@ sound_row s n Collected number sound e = (collects s n Collected e).sound sound
 spelled_row : (s n : State) (r : Record) → IsRecord r → IsSpaced s → words_in s.pages ≤ 2097152 → HaveSpellings s.undo → row_after s r ≡ Some n → HaveSpellings n.undo
 spelled_row s n (Update t object field was word) good spaced few each e =
     let told = cond_some _ _ _ e in
-    let write : UndoEntry = record { object = object; field = field; was = was } in
+    let write : UndoEntry = undo_entry object field was in
     let is : turned s t (with_entries s.undo t (write ∷ undo_of s t)) 0 ≡ n = told.1 in
     let entry : IsEntry write = record { object_fits = good.object_fits; field_fits = good.field_fits; was_word = good.was_word } in
     subst (λ (x : State). HaveSpellings x.undo) is (spelled_with s.undo t (write ∷ undo_of s t) (entry, all_spelled s.undo t each) each)
@@ -161,7 +161,7 @@ spelled_row s n (Fix t object field word) good spaced few each e =
     let is : turned s t s.undo 0 ≡ n = told.1 in
     subst (λ (x : State). HaveSpellings x.undo) is each
 spelled_row s n (Undo t object field word) good spaced few each e =
-    let write : UndoEntry = record { object = object; field = field; was = word } in
+    let write : UndoEntry = undo_entry object field word in
     option_and_then_some (λ rest. Some (turned s t (with_entries s.undo t rest) 0)) _ n e (λ rest newest is.
     let same : turned s t (with_entries s.undo t rest) 0 ≡ n = cc is in
     let entries = subst (λ (l : List UndoEntry). AllByRecursion IsEntry l) (newest_told (undo_of s t) write rest newest) (all_spelled s.undo t each) in

@@ -18,6 +18,7 @@ use Rattle.log_machine.specs.Sound.{AreLosers}
 use Rattle.log_machine.proofs.AbortLaws.{none_standing, none_empty, abort_words, rollback_words}
 use Rattle.log_machine.proofs.Fields.{written, AreApart, IsApart}
 use Rattle.log_machine.specs.Apart.{others_taken_back}
+use Rattle.log_machine.specs.UndoEntry.{undo_entry}
 
 -- Writes to different fields, in any order.
 
@@ -71,10 +72,10 @@ all_taken_back-first s t now sound other = taken_first s t (undo_of s t) now sou
 -- After records.
 
 -- a write is taken back with the others
-pub taken_back-Update : (s : State) (now : List ℕ) (t object field was word : ℕ) → AreLosers s → get_or now (field_at object field) 0 ≡ was → IsApart s t (record { object = object; field = field; was = was } ∷ undo_of s t)
-    → all_taken_back (turned s t (with_entries s.undo t (record { object = object; field = field; was = was } ∷ undo_of s t)) 0) (put_record now (Update t object field was word)) ≡ all_taken_back s now
+pub taken_back-Update : (s : State) (now : List ℕ) (t object field was word : ℕ) → AreLosers s → get_or now (field_at object field) 0 ≡ was → IsApart s t (undo_entry object field was ∷ undo_of s t)
+    → all_taken_back (turned s t (with_entries s.undo t (undo_entry object field was ∷ undo_of s t)) 0) (put_record now (Update t object field was word)) ≡ all_taken_back s now
 taken_back-Update s now t object field was word sound stood other =
-    let write : UndoEntry = record { object = object; field = field; was = was } in
+    let write : UndoEntry = undo_entry object field was in
     insert_first s.undo t (write ∷ undo_of s t) (with_word now object field word) other
     ∙ ap (λ x. others_taken_back s t (taken_back (undo_of s t) x))
     (set-set now (field_at object field) word was ∙ ap (λ w. set now (field_at object field) w) (sym stood) ∙ set-get_or now (field_at object field) 0)

@@ -1,5 +1,5 @@
 -- Which records of a collection can follow, and the state after them.
-use Rattle.std.specs.Prelude.{ℕ, ◌+◌, ◌-◌, ◌*◌, ◌==◌, nat_lt, nat_le, List, [], ◌∷◌, length, map, slice_index, Bool, true, false, not, ◌&&◌, Option, None, Some, is_some, option_and_then, if◌then◌else◌}
+use Rattle.std.specs.Prelude.{ℕ, ◌+◌, ◌-◌, ◌*◌, ◌==◌, nat_lt, nat_le, List, [], ◌∷◌, map, Bool, true, false, not, ◌&&◌, Option, None, Some, is_some, option_and_then, if◌then◌else◌}
 use Rattle.std.specs.List.{list_all}
 use Rattle.std.specs.Option.{option_map}
 use Rattle.std.specs.Ordering.{nat_cmp}
@@ -9,6 +9,7 @@ use Rattle.std.specs.FinSet.{contains, insert, len}
 use Rattle.heap_words.specs.declared.Word.{Word}
 use Rattle.heap_words.specs.declared.Word.TheVariants as word
 use Rattle.heap_words.specs.Word.{meaning}
+use Rattle.log_records.specs.Copied.{copy_header, copy_size}
 use Rattle.log_records.specs.declared.copies.ObjectCopy.{ObjectCopy}
 use Rattle.log_records.specs.declared.Record.{Record}
 use Rattle.log_records.specs.declared.Record.TheVariants.{Update, Base, Fix, Undo, Commit, End, Copy, Scan, Flip, Collected}
@@ -38,23 +39,23 @@ can_move s k from size = nat_le 2 size && lies_in_from s k from size && nat_le (
 abbrev pub can_hold : State → ℕ → ℕ → Bool
 can_hold s to size = to == s.base + s.used && nat_le (s.used + size) (space_words s.pages)
 
--- what is said of a collection when an object has been copied, by its words
-abbrev pub with_moved : Collection → ℕ → ℕ → List ℕ → Collection
-with_moved k from to words = record k {
-  copied = k.copied + length words;
-  moved = insert k.moved from;
-  gray = with_all k.gray (gray_from to (slice_index words 0));
+-- what is said of a collection when an object has been copied
+abbrev pub with_moved : Collection → ObjectCopy → Collection
+with_moved k copy = record k {
+  copied = k.copied + copy_size copy;
+  moved = insert k.moved copy.from;
+  gray = with_all k.gray (gray_from copy.to (copy_header copy));
 }
 
 -- the state when an object has been copied
 abbrev pub with_copy : State → Collection → ObjectCopy → State
-with_copy s k copy = record s { used = s.used + length copy.words; collection = Some (with_moved k copy.from copy.to copy.words) }
+with_copy s k copy = record s { used = s.used + copy_size copy; collection = Some (with_moved k copy) }
 
 -- the state after a copy of one object, if it can follow in a collection
 abbrev pub copied_while : State → ObjectCopy → Option Collection → Option State
 copied_while s copy None = None
 copied_while s copy (Some k) =
-    if can_move s k copy.from (length copy.words) && can_hold s copy.to (length copy.words) then Some (with_copy s k copy) else None
+    if can_move s k copy.from (copy_size copy) && can_hold s copy.to (copy_size copy) then Some (with_copy s k copy) else None
 
 abbrev pub copy_after : State → ObjectCopy → Option State
 copy_after s copy = copied_while s copy s.collection
@@ -78,7 +79,7 @@ copy_of (copy ∷ copies) from = if copy.from == from then Some copy else copy_o
 -- a copy has such a field
 abbrev pub has_field : ℕ → Option ObjectCopy → Bool
 has_field field None = false
-has_field field (Some copy) = nat_lt (field + 2) (length copy.words)
+has_field field (Some copy) = nat_lt (field + 2) (copy_size copy)
 
 -- a word of this meaning is no reference to a stable object, or one to an object that is copied
 abbrev pub follows_copies : List ObjectCopy → Option Word → Bool

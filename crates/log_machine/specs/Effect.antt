@@ -1,5 +1,5 @@
 -- Where a record writes, and what memory it needs.
-use Rattle.std.specs.Prelude.{ℕ, ◌≡◌, ◌<◌, ◌++◌, List}
+use Rattle.std.specs.Prelude.{ℕ, ◌<◌, List}
 use Rattle.std.specs.List.{AllByRecursion}
 use Rattle.log_records.specs.declared.Record.{Record}
 use Rattle.log_records.specs.declared.Record.TheVariants.{Update, Base, Fix, Undo, Commit, End, Copy, Scan, Flip, Collected}
@@ -58,7 +58,3 @@ TakesMemory (Update t object field was word) = Unit {0}
 TakesMemory (Copy from to words) = Unit {0}
 TakesMemory (Flip copies) = Unit {0}
 TakesMemory rec = ⊥
-
--- words with their addresses that continue these
-abbrev pub GoesOn : List (ℕ × ℕ) → List (ℕ × ℕ) → Type 0
-GoesOn before writes = (more : List (ℕ × ℕ)) × (writes ≡ before ++ more)

@@ -1,5 +1,6 @@
 pub mod Apart
 pub mod Collecting
+pub mod Copied
 pub mod CopyIndex
 pub mod Effect
 pub mod Entries

@@ -14,6 +14,7 @@ use Rattle.heap_words.specs.Header.{header_bits, born_in, born_as}
 use Rattle.heap_words.specs.Word.{is_stable, is_volatile}
 use Rattle.log_machine.specs.declared.UndoEntry.{UndoEntry}
 use Rattle.log_machine.specs.Collecting.{collecting_after}
+use Rattle.log_machine.specs.UndoEntry.{undo_entry}
 pub use Rattle.log_machine.specs.State.{State, space_words}
 use Rattle.log_records.specs.declared.TheConstants.{BATCH_BYTES, END_BYTES, PUT_BYTES}
 
@@ -199,14 +200,14 @@ promoted s t size = record s { used = s.used + size; next = max s.next (t + 1) }
 abbrev pub row_after : State → Record → Option State
 row_after s (Update t object field was word) =
     if lies_inside s object field
-    then Some (turned s t (finmap.insert s.undo t (record { object = object; field = field; was = was } ∷ undo_of s t)) 0) else None
+    then Some (turned s t (finmap.insert s.undo t (undo_entry object field was ∷ undo_of s t)) 0) else None
 row_after s (Base t address words) =
     if is_next_free s address (length words) && is_promoted_by t words then Some (promoted s t (length words)) else None
 row_after s (Fix t object field word) =
     if lies_inside s object field && is_stable word then Some (turned s t s.undo 0) else None
 row_after s (Undo t object field word) =
     option_and_then (λ rest. Some (turned s t (with_entries s.undo t rest) 0))
-    (without_newest (undo_of s t) (record { object = object; field = field; was = word }))
+    (without_newest (undo_of s t) (undo_entry object field word))
 row_after s (Commit t) = Some (turned s t (finmap.remove s.undo t) 1)
 row_after s (End t) = if has_none (undo_of s t) then Some (turned s t s.undo 0) else None
 row_after s (Copy from to words) = collecting_after s (Copy from to words)

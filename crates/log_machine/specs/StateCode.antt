@@ -9,10 +9,11 @@ use Rattle.heap_spaces.specs.Collection.{Collection}
 use Rattle.heap_spaces.specs.CollectionCode.{collection_code}
 use Rattle.log_machine.specs.declared.UndoEntry.{UndoEntry}
 use Rattle.log_machine.specs.Machine.{State}
+use Rattle.log_machine.specs.UndoEntry.{undo_entry}
 
 abbrev pub entry_code : Coded UndoEntry
 entry_code =
-    code_by (ℕ × (ℕ × ℕ)) (coded× coded_ℕ (coded× coded_ℕ coded_ℕ)) (λ u. (u.object, (u.field, u.was))) (λ p. record { object = p.0; field = p.1.0; was = p.1.1 }) (λ _. refl)
+    code_by (ℕ × (ℕ × ℕ)) (coded× coded_ℕ (coded× coded_ℕ coded_ℕ)) (λ u. (u.object, (u.field, u.was))) (λ p. undo_entry p.0 p.1.0 p.1.1) (λ _. refl)
 
 abbrev pub undo_code : Coded (FinMap nat_cmp (List UndoEntry))
 undo_code = map.code coded_ℕ (coded_list entry_code)

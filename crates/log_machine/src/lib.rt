@@ -3,16 +3,12 @@
 
 mod abort;
 mod copy_index;
-mod effects;
 mod log_state;
-mod replaying;
 mod runs;
 mod undo_lists;
 
-pub use effects::{effect, forwarding_word};
 pub use log_state::{AfterError, LAST_NUMBER, LogState, ROOT_WORDS};
-pub use replaying::{ReplayError, replay};
-pub use runs::{Run, Runs};
+pub use runs::{Run, Runs, forwarding_word};
 pub use undo_lists::end_bytes;
 
 /// A write that may be taken back: the field of the object at a word address, and the word that stood there before.

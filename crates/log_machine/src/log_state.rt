@@ -1,13 +1,11 @@
 //! The state of the heap after a list of records.
 ghost use Rattle.std.specs.Prelude.{◌≡◌, ◌+◌, ◌<◌, ◌≤◌, ◌^◌, ◌↔◌, ◌⊎◌, ◌∷◌, [], None, Some, IfOk, OnOk, OnErr, IsTrue, is_some, option_map, true, drop, reverse, length, nat_lt};
-ghost use Rattle.std.specs.List.{AllByRecursion};
 ghost use Rattle.std.specs.FinMap as map;
 ghost use Rattle.log_records.specs.declared.Record.TheVariants.{Update, Base, Fix, Undo, Commit, End, Copy, Scan, Flip, Collected};
 ghost use Rattle.log_machine.specs.Machine.{start, undo_of, losers, spaces_of, settled, with_entries, space_words, words_in, field_at, number_of, is_number, is_number_or_none, owed, lies_inside, is_next_free, is_promoted_by, is_born_in, none_volatile, without_newest, has_none, turned, promoted, row_after, after, reserve, rollback};
 ghost use Rattle.log_machine.specs.Collecting.{other_base};
 ghost use Rattle.log_machine.specs.Effect.{WritesBelow, EachWritesBelow, AddsEntry, IsOfTransaction, ChangesRoles, TakesMemory};
-ghost use Rattle.log_machine.specs.declared.UndoEntry.{UndoEntry};
-ghost use Rattle.log_machine.specs.UndoEntry.{LiesInside};
+ghost use Rattle.log_machine.specs.UndoEntry.{undo_entry};
 
 mod collecting;
 
@@ -89,15 +87,6 @@ impl LogState {
             commits: 0,
             next: first,
         }
-    }
-
-    /// What the writes of transaction `t` replaced that may be taken back. The newest stands last.
-    pub fn undo_list(&self, t: u32) -> &[UndoEntry]
-        ensures entries { reverse result.now ≡ undo_of self.now t }
-        ensures inside { AllByRecursion (LiesInside self.now.base self.now.used) result.now }
-        ensures below { AllByRecursion (λ (u : UndoEntry). field_at u.object u.field < words_in self.now.pages) result.now }
-    {
-        self.undo.of(t)
     }
 
     /// The transactions whose writes may be taken back, ascending.
@@ -412,7 +401,7 @@ fn none_volatile(words: &[u64]) -> bool
 
 // What a write replaced.
 fn entry(object: u32, field: u16, was: u64) -> UndoEntry
-    ensures { result ≡ record { object = object; field = field; was = was } }
+    ensures { result ≡ undo_entry object field was }
 {
     UndoEntry { object, field, was }
 }

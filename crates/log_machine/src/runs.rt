@@ -1,9 +1,10 @@
 //! What a record writes, as runs of words.
 ghost use Rattle.std.specs.Prelude.{[], ◌≡◌, ◌∷◌, ◌<◌, ◌*◌, ◌^◌, IfSome, length, slice_get};
+ghost use Rattle.heap_words.specs.Header.{header_bits};
+ghost use Rattle.heap_words.specs.declared.Header.TheVariants.{Forward};
 ghost use Rattle.log_machine.specs.Machine.{field_at};
 ghost use Rattle.log_machine.specs.Runs.{runs, copy_runs, copies_runs, write_runs};
 
-use crate::effects::forwarding_word;
 use heap_words::FIELDS_AT;
 use log_records::{ObjectCopy, Record};
 use std::marker::Model;
@@ -182,4 +183,11 @@ fn field_address(object: u32, field: u16) -> usize
     ensures { result ≡ field_at object field }
 {
     object as usize + FIELDS_AT as usize + field as usize
+}
+
+/// The word that stands at the address of an object that was copied: it leads to the copy.
+pub fn forwarding_word(to: u32) -> u64
+    ensures { result ≡ header_bits (Forward to) }
+{
+    4 * u64::from(to) + 2
 }

@@ -1,3 +1,4 @@
+pub mod Copied
 pub mod Copies
 pub mod CopiesCode
 pub mod Record

@@ -197,7 +197,7 @@ following_copy s k words q b n f within none object can =
     ∙ ap (λ t. if t then Some next else None) (and_from (can_move f.next f.now b (length ws)) (can_hold f.next to (length ws)) moves holds) in
     record {
       next = next;
-      now = with_moved f.now b to ws;
+      now = with_moved f.now copy;
       passes = after_more s q.copies (Copy b to ws) ∙ ap (option_and_then (λ m. collecting_after m (Copy b to ws))) f.passes ∙ follows;
       pages = f.pages;
       base = f.base;

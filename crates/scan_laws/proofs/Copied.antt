@@ -26,7 +26,7 @@ use Rattle.log_machine.proofs.ListLaws.{AllByRecursion-map}
 use Rattle.graph_words.specs.Places.{Places, address_of, addresses}
 use Rattle.graph_words.proofs.Seal.Places.{address_of-append_left}
 use Rattle.collection_words.specs.Completed.{IsMade, StandsCompleted, in_other_space, without}
-use Rattle.collection_words.specs.Copying.{copied_words, next_copy, words_to_copy, with_place}
+use Rattle.collection_words.specs.Copying.{words_after_copy, next_copy, words_to_copy, with_place}
 use Rattle.collection_words.specs.LaidOut.{IsUnderway, LeadsHere}
 use Rattle.collection_words.specs.Placing.{Placing, moved_by, moved_by_all, placing_of}
 use Rattle.collection_words.specs.Writes.{AreBacked, IsCurrentField, IsHereWrite}
@@ -125,15 +125,15 @@ leads_more xs ys (Some (word.Volatile index)) more leads = tt
 leads_more xs ys (Some (word.Stable at)) more leads = more at leads
 
 copy_field : {s : State} {k : Collection} {places remaining : Places} {words : List ℕ} {id : Id} {from : ℕ} → IsCopying s k places remaining words id from → (object field : ℕ)
-    → IsCurrentField places words object field → IsCurrentField (with_place s places id) (copied_words s words from) object field
+    → IsCurrentField places words object field → IsCurrentField (with_place s places id) (words_after_copy s words from) object field
 copy_field {s} {places = places} {id = id} copying object field is =
     let made = copied_here copying (copy_room copying) object is.fields is.start is.stands in
     record { start = place_before s places id object is.start; fields = is.fields; stands = made.is; within = is.within }
 
 copy_backed : {s : State} {k : Collection} {places remaining : Places} {words : List ℕ} {id : Id} {from : ℕ} → IsCopying s k places remaining words id from → (us : List UndoEntry)
-    → AreBacked places words us → AreBacked (with_place s places id) (copied_words s words from) us
+    → AreBacked places words us → AreBacked (with_place s places id) (words_after_copy s words from) us
 copy_backed {s} {places = places} {words = words} {id = id} {from = from} copying us backed =
-    AllByRecursion-map (λ (u : UndoEntry). IsHereWrite places words u.object u.field u.was) (λ u. IsHereWrite (with_place s places id) (copied_words s words from) u.object u.field u.was) us
+    AllByRecursion-map (λ (u : UndoEntry). IsHereWrite places words u.object u.field u.was) (λ u. IsHereWrite (with_place s places id) (words_after_copy s words from) u.object u.field u.was) us
     (λ u one. record { is = copy_field copying u.object u.field one.is; leads = leads_more (addresses places) (addresses (with_place s places id)) (meaning u.was) (place_before s places id) one.leads }) backed
 
 -- no forwarding word stands where an object remains
@@ -142,11 +142,11 @@ no_forward words at n to is forward = absurd (cc (sym (object_header words at n 
 
 -- a word of the from-space other than the header of the object stays
 copy_old : {s : State} {k : Collection} {places remaining : Places} {words : List ℕ} {id : Id} {from : ℕ} → IsCopying s k places remaining words id from → (b : ℕ) → in_other_space s b ≡ true → b ≢ from
-    → slice_index (copied_words s words from) b ≡ slice_index words b
+    → slice_index (words_after_copy s words from) b ≡ slice_index words b
 copy_old {s} copying b old other = let bounds = other_bounds s b old in copied_old copying (copy_room copying) b bounds.0 bounds.1 other
 
 copy_led : {s : State} {k : Collection} {places remaining : Places} {words : List ℕ} {id : Id} {from : ℕ} → IsCopying s k places remaining words id from → (write : ℕ × ℕ) → IsLedWrite s places words write
-    → IsLedWrite (copied_state s k words from) (with_place s places id) (copied_words s words from) write
+    → IsLedWrite (copied_state s k words from) (with_place s places id) (words_after_copy s words from) write
 copy_led {s} {k} {places} {words = words} {id = id} {from = from} copying write w =
     let room = copy_room copying in
     let made = copied_here copying room w.object w.is.fields w.is.start w.is.stands in
@@ -231,7 +231,7 @@ done_copy {s} {k} {places} {starts} {words} {v} {q} d b n start unmoved none obj
     let moves : words_to_copy d.moved b ≡ ws = made_words words d.moved b b n left.1 ∙ ap (λ (y : ℕ). slice_index words b ∷ slice_index words y ∷ field_words words b) second ∙ sym (object_parts words b n object) in
     let copy : ObjectCopy = record { from = b; to = free; words = ws } in
     let same : next_copy d.next d.moved b ≡ copy = ap (λ (x : ℕ). record { from = b; to = x; words = words_to_copy d.moved b }) place ∙ ap (λ (l : List ℕ). record { from = b; to = free; words = l }) moves in
-    let others = copied_words d.next d.moved b in
+    let others = words_after_copy d.next d.moved b in
     let last = copied_state d.next d.now d.moved b in
     let currents = with_place d.next d.currents id in
     let follows : collecting_after d.next (Copy b free ws) ≡ Some last = ap (copy_after d.next) (sym same) ∙ copy_row copying in

@@ -12,6 +12,7 @@ use Rattle.graph_model.specs.declared.id.Id.{Id}
 use Rattle.log_machine.specs.declared.UndoEntry.{UndoEntry}
 use Rattle.log_machine.specs.Machine.{State, field_at, put_record, taken_back, with_word}
 use Rattle.log_machine.proofs.ListLaws.{AllByRecursion-append, AllByRecursion-map}
+use Rattle.log_machine.specs.UndoEntry.{undo_entry}
 use Rattle.object_layout.proofs.WalkLaws.{Contains-head, Contains-rest}
 use Rattle.graph_words.proofs.Area.Field.{AreFields, field_with_word}
 use Rattle.graph_words.proofs.Places.Addresses.{address_of-Contains}
@@ -39,7 +40,7 @@ use Rattle.seal_laws.proofs.Relocated.{kept_whole, new_led}
 -- The writes.
 
 abbrev entries_meant : List Move → Field → ℕ → Option Word → List UndoEntry
-entries_meant moves f w (Some (word.Volatile at)) = record { object = f.0; field = f.1; was = moved_word moves w } ∷ []
+entries_meant moves f w (Some (word.Volatile at)) = undo_entry f.0 f.1 (moved_word moves w) ∷ []
 entries_meant moves f w meant = []
 
 -- the write of a field that is put right, if it is
@@ -69,7 +70,7 @@ put_entries t words now moves (f ∷ fs) =
     ∙ sym (taken_back-append (entries_of words moves f) (fix_entries words moves fs) now)
 
 each_meant : (P : UndoEntry → Type 0) (moves : List Move) (f : Field) (w : ℕ) (meant : Option Word)
-    → ((at : ℕ) → meant ≡ Some (word.Volatile at) → P (record { object = f.0; field = f.1; was = moved_word moves w })) → AllByRecursion P (entries_meant moves f w meant)
+    → ((at : ℕ) → meant ≡ Some (word.Volatile at) → P (undo_entry f.0 f.1 (moved_word moves w))) → AllByRecursion P (entries_meant moves f w meant)
 each_meant P moves f w None each = tt
 each_meant P moves f w (Some word.Null) each = tt
 each_meant P moves f w (Some (word.Int n)) each = tt
@@ -79,7 +80,7 @@ each_meant P moves f w (Some (word.Volatile at)) each = (each at refl, tt)
 -- what holds of the write of each field that refers to an object of the area holds of all
 pub each_fix : (P : UndoEntry → Type 0) (words : List ℕ) (moves : List Move) (fs : List Field)
     → ((f : Field) → Contains fs f → (at : ℕ) → meaning (slice_index words (field_at f.0 f.1)) ≡ Some (word.Volatile at)
-    → P (record { object = f.0; field = f.1; was = moved_word moves (slice_index words (field_at f.0 f.1)) }))
+    → P (undo_entry f.0 f.1 (moved_word moves (slice_index words (field_at f.0 f.1)))))
     → AllByRecursion P (fix_entries words moves fs)
 each_fix P words moves [] each = tt
 each_fix P words moves (f ∷ fs) each =

@@ -11,7 +11,7 @@ use Rattle.heap_spaces.specs.Collection.{Collection}
 use Rattle.log_records.specs.declared.Record.{Record}
 use Rattle.log_records.specs.declared.Record.TheVariants.{Update, Base, Fix, Undo, Commit, End, Copy, Scan, Flip, Collected}
 use Rattle.log_records.specs.declared.copies.ObjectCopy.{ObjectCopy}
-use Rattle.log_machine.specs.UndoEntry.{LiesInside}
+use Rattle.log_machine.specs.UndoEntry.{LiesInside, undo_entry}
 use Rattle.log_machine.specs.Collecting.{can_put, collecting_after, copies_after, copy_after, is_used, leads_to_used, other_base, scanned_in, with_roles_changed}
 use Rattle.log_machine.specs.Machine.{State, after, field_at, is_number_or_none, lies_inside, number_of, row_after, settled, space_words, turned, undo_of, with_entries, without_newest, writes_of}
 use Rattle.log_machine.specs.Sound.{IsConsistent}
@@ -37,18 +37,18 @@ used_field : (s : State) (u : UndoEntry) → LiesInside s.base s.used u → IsUs
 used_field s u lies = let above = lies.above in let below = lies.below in record { above = omega arith; below = omega arith }
 
 told_field : (s : State) (object field was : ℕ) → lies_inside s object field ≡ true → IsUsedWord s (field_at object field)
-told_field s object field was inside = used_field s (record { object = object; field = field; was = was }) (inside_told s object field was inside)
+told_field s object field was inside = used_field s (undo_entry object field was) (inside_told s object field was inside)
 
 -- words from the next free one on are free, where the space has room for them
 free_words : (s : State) (address : ℕ) (words : List ℕ) → s.base + s.used ≤ address → address + length words ≤ s.base + space_words s.pages → AllByRecursion (λ w. IsFreeWord s w.0) (enumerate_from address words)
 free_words s address [] above room = tt
 free_words s address (w ∷ ws) above room = (record { above = above; below = omega arith }, free_words s (address + 1) ws (omega arith) (omega arith))
 
-undone_field : (s n : State) (t object field word : ℕ) (o : Option (List UndoEntry)) → IsConsistent s → without_newest (undo_of s t) (record { object = object; field = field; was = word }) ≡ o
+undone_field : (s n : State) (t object field word : ℕ) (o : Option (List UndoEntry)) → IsConsistent s → without_newest (undo_of s t) (undo_entry object field word) ≡ o
     → option_and_then (λ rest. Some (turned s t (with_entries s.undo t rest) 0)) o ≡ Some n → IsUsedWord s (field_at object field)
 undone_field s n t object field word None is newest e = cc e
 undone_field s n t object field word (Some rest) is newest e =
-    let u : UndoEntry = record { object = object; field = field; was = word } in
+    let u : UndoEntry = undo_entry object field word in
     let inside = subst (λ (us : List UndoEntry). AllByRecursion (LiesInside s.base s.used) us) (newest_told (undo_of s t) u rest newest) (all_inside s t is.sound) in
     used_field s u inside.0
 

@@ -1,10 +1,7 @@
 //! Records of several transactions one after another: what each of them leaves, which can't follow, and which take writes back.
-ghost use Rattle.std.specs.Prelude.{IfOk};
-ghost use Rattle.log_machine.specs.Effect.{WritesBelow};
-
 use crate::compare::same;
 use heap_words::birth;
-use log_machine::{LogState, ReplayError, effect, end_bytes, replay};
+use log_machine::{LogState, Runs, end_bytes};
 use log_records::{ObjectWords, Record};
 use std::alloc::{AllocError, Global};
 use std::process::Abort;
@@ -82,15 +79,28 @@ fn take(rt: &impl Abort, alloc: Global, state: &mut LogState, record: &Record) -
     state.after(alloc, record).is_ok()
 }
 
-fn behind(state: &LogState) -> Behind {
-    let of_2 = state.undo_list(2).len();
-    let of_3 = state.undo_list(3).len();
-    (of_2, of_3, state.commits(), state.next(), state.reserve())
+/// How many writes of a transaction are among those that these records take back.
+fn writes_of(number: u32, rollback: &[Record]) -> usize {
+    let is_one = |rec: &&Record| matches!(rec, Record::Undo { t, .. } if *t == number);
+    rollback.iter().filter(is_one).count()
 }
 
-fn replayed(rt: &impl Abort, alloc: Global, records: &[Record]) -> Result<LogState, ReplayError> {
-    assert!(rt; records.len() < 99);
-    replay(alloc, 1, 1, records)
+fn behind(state: &LogState) -> Result<Behind, AllocError> {
+    let rollback = state.rollback()?;
+    let of_2 = writes_of(2, &rollback);
+    let of_3 = writes_of(3, &rollback);
+    Ok((of_2, of_3, state.commits(), state.next(), state.reserve()))
+}
+
+/// How many of these records can follow one another, and the state after them.
+fn replayed(rt: &impl Abort, alloc: Global, records: &[Record]) -> (usize, LogState) {
+    let mut state = LogState::start(alloc, 1, 1);
+    for (i, record) in records.iter().enumerate() {
+        if !take(rt, alloc, &mut state, record) {
+            return (i, state);
+        }
+    }
+    (records.len(), state)
 }
 
 fn check_losers(rt: &impl Abort, state: &LogState) -> Result<(), Fail> {
@@ -104,15 +114,17 @@ fn record_by_record(rt: HostRuntime) -> Result<(), Fail> {
     let mut state = LogState::start(rt.alloc(), 1, 1);
     for (record, follows, want) in &steps() {
         let takes = take(&rt, rt.alloc(), &mut state, record);
-        same(&rt, (takes, behind(&state)), (*follows, *want));
+        same(&rt, (takes, behind(&state)?), (*follows, *want));
     }
     check_losers(&rt, &state)
 }
 
 #[test]
 fn all_at_once(rt: HostRuntime) -> Result<(), Fail> {
-    let state = replayed(&rt, rt.alloc(), &followed(rt.alloc())?)?;
-    same(&rt, behind(&state), (1, 0, 1, LAST + 1, 106));
+    let records = followed(rt.alloc())?;
+    let (taken, state) = replayed(&rt, rt.alloc(), &records);
+    same(&rt, taken, records.len());
+    same(&rt, behind(&state)?, (1, 0, 1, LAST + 1, 106));
     check_losers(&rt, &state)
 }
 
@@ -237,7 +249,8 @@ fn check_fixes(rt: &impl Abort, alloc: Global, mut state: LogState) {
 
 #[test]
 fn fields_refer_to_stable_objects(rt: HostRuntime) -> Result<(), Fail> {
-    let state = replayed(&rt, rt.alloc(), &promoted(rt.alloc())?)?;
+    let (taken, state) = replayed(&rt, rt.alloc(), &promoted(rt.alloc())?);
+    same(&rt, taken, 2);
     check_fixes(&rt, rt.alloc(), state);
     Ok(())
 }
@@ -254,9 +267,7 @@ fn followed(alloc: Global) -> Result<Vec<Record>, AllocError> {
 }
 
 /// An object of one field at address 60.
-fn small_object(alloc: Global) -> Result<Record, AllocError>
-    ensures { IfOk result (λ rec. WritesBelow 2097152 rec) }
-{
+fn small_object(alloc: Global) -> Result<Record, AllocError> {
     let words = vec![in alloc; 5, 12_884_901_889, 29]?;
     Ok(Record::Base {
         t: 3,
@@ -265,44 +276,56 @@ fn small_object(alloc: Global) -> Result<Record, AllocError>
     })
 }
 
+/// The address and the words of each run that a record writes.
+type Puts = (Vec<usize>, Vec<u64>);
+
+fn add_runs((addresses, words): &mut Puts, record: &Record) -> Result<(), AllocError> {
+    for run in Runs::of(record) {
+        addresses.push(run.address())?;
+        words.extend_from_slice(run.words())?;
+    }
+    Ok(())
+}
+
 #[test]
 fn what_a_record_puts(rt: HostRuntime) -> Result<(), Fail> {
-    let mut all = Vec::new(rt.alloc());
+    let mut all = (Vec::new(rt.alloc()), Vec::new(rt.alloc()));
     let undo = Record::Undo {
         t: 9,
         object: 60,
         field: 3,
         word: 45,
     };
-    effect(&undo, &mut all)?;
-    effect(&Record::End { t: 9 }, &mut all)?;
-    same(&rt, all.as_slice(), &[(65, 45)]);
+    add_runs(&mut all, &undo)?;
+    add_runs(&mut all, &Record::End { t: 9 })?;
+    same(&rt, all.0.as_slice(), &[65]);
+    same(&rt, all.1.as_slice(), &[45]);
     Ok(())
 }
 
 #[test]
 fn what_an_object_puts(rt: HostRuntime) -> Result<(), Fail> {
-    let mut all = Vec::new(rt.alloc());
+    let mut all = (Vec::new(rt.alloc()), Vec::new(rt.alloc()));
     let refers = Record::Fix {
         t: 3,
         object: 0,
         field: 1,
         word: 242,
     };
-    effect(&small_object(rt.alloc())?, &mut all)?;
-    effect(&refers, &mut all)?;
-    let want = [(60, 5), (61, 12_884_901_889), (62, 29), (3, 242)];
-    same(&rt, all.as_slice(), want.as_slice());
+    add_runs(&mut all, &small_object(rt.alloc())?)?;
+    add_runs(&mut all, &refers)?;
+    same(&rt, all.0.as_slice(), &[60, 3]);
+    same(&rt, all.1.as_slice(), &[5, 12_884_901_889, 29, 242]);
     Ok(())
 }
 
 #[test]
 fn the_first_that_cant_follow_is_told(rt: HostRuntime) -> Result<(), Fail> {
     let mut records = followed(rt.alloc())?;
-    let lsn = records.len() as u64 + 1;
+    let follow = records.len();
     records.push(Record::End { t: 9 })?;
     records.push(Record::End { t: 0 })?;
-    let again = replayed(&rt, rt.alloc(), &records).map(|_| ());
-    same(&rt, again, Err(ReplayError::Unshaped { lsn }));
+    let (taken, _) = replayed(&rt, rt.alloc(), &records);
+    same(&rt, taken, follow);
     Ok(())
 }

@@ -10,7 +10,7 @@ ghost use Rattle.log_machine.specs.Machine.{State, put_all};
 ghost use Rattle.graph_words.specs.Places.{Places, address_of, addresses};
 ghost use Rattle.graph_words.specs.Stands.{AreNamedByBirth};
 ghost use Rattle.collection_words.specs.Completed.{places_from, without};
-ghost use Rattle.collection_words.specs.Copying.{copied_words, next_copy, with_place};
+ghost use Rattle.collection_words.specs.Copying.{words_after_copy, next_copy, with_place};
 ghost use Rattle.collection_words.specs.Flipped.{HasBegun, IsFlipping, flipped_words};
 ghost use Rattle.collection_words.specs.LaidOut.{IsUnderway};
 ghost use Rattle.collection_words.specs.Placed.{HaveOwnNames};
@@ -24,7 +24,7 @@ pub fn flips_tell_births()
 
 /// The copy of an object keeps births.
 pub fn copies_keep_births()
-    ensures { (s : State) (k : Collection) (places remaining : Places) (words : List ℕ) (id : Id) (from : ℕ) → IsUnderway s k places remaining words → HaveOwnNames (places ++ remaining) → address_of remaining id ≡ Some from → TellsBirths s places remaining words → TellsBirths (with_copy s k (next_copy s words from)) (with_place s places id) (without remaining from) (copied_words s words from) }
+    ensures { (s : State) (k : Collection) (places remaining : Places) (words : List ℕ) (id : Id) (from : ℕ) → IsUnderway s k places remaining words → HaveOwnNames (places ++ remaining) → address_of remaining id ≡ Some from → TellsBirths s places remaining words → TellsBirths (with_copy s k (next_copy s words from)) (with_place s places id) (without remaining from) (words_after_copy s words from) }
 {}
 
 /// So does the scan of a page.

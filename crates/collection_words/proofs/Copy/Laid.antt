@@ -23,7 +23,7 @@ use Rattle.log_machine.specs.Sound.{IsSpaced}
 use Rattle.graph_words.specs.Places.{Places, addresses}
 use Rattle.graph_words.proofs.Places.Addresses.{address_of-Contains}
 use Rattle.collection_words.specs.Completed.{IsMade, without}
-use Rattle.collection_words.specs.Copying.{copied_words, next_copy, words_to_copy, with_place}
+use Rattle.collection_words.specs.Copying.{words_after_copy, next_copy, words_to_copy, with_place}
 use Rattle.collection_words.specs.LaidOut.{StandsOrForwards, IsFromSpace, LeadsHere, MayLeadBack, is_gray_field, old_length}
 use Rattle.collection_words.proofs.Copy.Ascending.{addresses_without, filter_twice, other_than}
 use Rattle.collection_words.proofs.Copy.Words.{CopyRoom, IsCopying, copied_forward, copied_here, copied_left, copied_made, copied_old, copy_room, length-copied}
@@ -38,7 +38,7 @@ use Rattle.stability_tracker.proofs.ListLaws.{Contains-from_filter}
 
 -- the collection and the state after the copy of an object
 abbrev pub copied_collection : State → Collection → List ℕ → ℕ → Collection
-copied_collection s k words from = with_moved k from (s.base + s.used) (words_to_copy words from)
+copied_collection s k words from = with_moved k (next_copy s words from)
 
 abbrev pub copied_state : State → Collection → List ℕ → ℕ → State
 copied_state s k words from = with_copy s k (next_copy s words from)
@@ -116,10 +116,10 @@ place_new s places id =
     (Contains-append_right (addresses places) ((s.base + s.used) ∷ []) (s.base + s.used) (Contains-head (s.base + s.used) []))
 
 copied_filled : {s : State} {k : Collection} {places remaining : Places} {words : List ℕ} {id : Id} {from : ℕ} → IsCopying s k places remaining words id from
-    → IsFilled (copied_words s words from) s.base (copied_state s k words from).used (addresses (with_place s places id))
+    → IsFilled (words_after_copy s words from) s.base (copied_state s k words from).used (addresses (with_place s places id))
 copied_filled {s} {k} {places} {remaining} {words} {id} {from} copying =
     let room = copy_room copying in
-    let others = copied_words s words from in
+    let others = words_after_copy s words from in
     let size = room.size in
     let all = filling words s.base s.used (addresses places) copying.is.laid.filled in
     let root = copied_here copying room s.base 4 all.first all.root in
@@ -159,9 +159,9 @@ inside_leads starts old_starts (Some (word.Stable at)) inside = inr (at, refl, i
 
 old_other : {s : State} {k : Collection} {places remaining : Places} {words : List ℕ} {id : Id} {from : ℕ} (copying : IsCopying s k places remaining words id from) (room : CopyRoom s k places remaining words from)
     (at : ℕ) → Contains copying.is.from.starts at → at ≢ from → (b : Bool) → contains k.moved at ≡ b → StandsOrForwards words (addresses places) at b
-    → StandsOrForwards (copied_words s words from) (addresses (with_place s places id)) at b × (old_length (copied_words s words from) at ≡ old_length words at)
+    → StandsOrForwards (words_after_copy s words from) (addresses (with_place s places id)) at b × (old_length (words_after_copy s words from) at ≡ old_length words at)
 old_other {s} {k} {places} {remaining} {words} {id} {from} copying room at has other true moved (to, forward, here) =
-    let others = copied_words s words from in
+    let others = words_after_copy s words from in
     let bounds = other_bounds s at (old_in_other copying.is at has) in
     let head = ap header (copied_old copying room at bounds.0 bounds.1 other) ∙ forward in
     let there = start_within copying.is.laid to here in
@@ -170,15 +170,15 @@ old_other {s} {k} {places} {remaining} {words} {id} {from} copying room at has o
     let is : old_length others at ≡ Some there.fields = ap (λ h. object_at others (led at h)) head ∙ kept.is in
     ((to, head, place_before s places id to here), is ∙ sym was)
 old_other {s} {k} {places} {remaining} {words} {id} {from} copying room at has other false unmoved (n, object) =
-    let others = copied_words s words from in
+    let others = words_after_copy s words from in
     let kept = copied_left copying room at n (unmoved_left copying.is.from at has unmoved) other object in
     ((n, kept.is), old_length-object others at n kept.is ∙ sym (old_length-object words at n object))
 
 old_gone : {s : State} {k : Collection} {places remaining : Places} {words : List ℕ} {id : Id} {from : ℕ} (copying : IsCopying s k places remaining words id from) (room : CopyRoom s k places remaining words from)
     → s.base + s.used < 2097152
-    → StandsOrForwards (copied_words s words from) (addresses (with_place s places id)) from true × (old_length (copied_words s words from) from ≡ old_length words from)
+    → StandsOrForwards (words_after_copy s words from) (addresses (with_place s places id)) from true × (old_length (words_after_copy s words from) from ≡ old_length words from)
 old_gone {s} {k} {places} {remaining} {words} {id} {from} copying room small =
-    let others = copied_words s words from in
+    let others = words_after_copy s words from in
     let to = s.base + s.used in
     let head = ap header (copied_forward copying room) ∙ header-header_bits (Forward to) small in
     let is : old_length others from ≡ Some room.fields = ap (λ h. object_at others (led from h)) head ∙ (copied_made copying room).is in
@@ -186,9 +186,9 @@ old_gone {s} {k} {places} {remaining} {words} {id} {from} copying room small =
 
 pub old_each : {s : State} {k : Collection} {places remaining : Places} {words : List ℕ} {id : Id} {from : ℕ} (copying : IsCopying s k places remaining words id from) (room : CopyRoom s k places remaining words from)
     → s.base + s.used < 2097152 → (at : ℕ) → Contains copying.is.from.starts at
-    → StandsOrForwards (copied_words s words from) (addresses (with_place s places id)) at (contains (insert k.moved from) at) × (old_length (copied_words s words from) at ≡ old_length words at)
+    → StandsOrForwards (words_after_copy s words from) (addresses (with_place s places id)) at (contains (insert k.moved from) at) × (old_length (words_after_copy s words from) at ≡ old_length words at)
 old_each {s} {k} {places} {remaining} {words} {id} {from} copying room small at has =
-    let others = copied_words s words from in
+    let others = words_after_copy s words from in
     let Both : ℕ → Bool → Type 0 = λ x b. StandsOrForwards others (addresses (with_place s places id)) x b × (old_length others x ≡ old_length words x) in
     elim (cases_order at from) [
       | inl same ↦ subst (λ (x : ℕ). Both x (contains (insert k.moved from) x)) (sym same) (subst (Both from) (sym (contains-new k.moved from)) (old_gone copying room small))
@@ -226,11 +226,11 @@ made_words P words others at to m made n i object below holds =
     subst P (sym (made.fields i (omega arith))) (holds (made.was ∙ ap Some same))
 
 copied_from : {s : State} {k : Collection} {places remaining : Places} {words : List ℕ} {id : Id} {from : ℕ} → IsCopying s k places remaining words id from → s.base + s.used < 2097152
-    → IsFromSpace (copied_state s k words from) (copied_collection s k words from) (with_place s places id) (without remaining from) (copied_words s words from)
+    → IsFromSpace (copied_state s k words from) (copied_collection s k words from) (with_place s places id) (without remaining from) (words_after_copy s words from)
 copied_from {s} {k} {places} {remaining} {words} {id} {from} copying small =
     let room = copy_room copying in
     let is = copying.is in
-    let others = copied_words s words from in
+    let others = words_after_copy s words from in
     let to = s.base + s.used in
     let here = addresses (with_place s places id) in
     let each = old_each copying room small in
@@ -276,11 +276,11 @@ copied_from {s} {k} {places} {remaining} {words} {id} {from} copying small =
 
 -- The words after a copy are laid out, with the object among the current ones.
 pub copied_laid : {s : State} {k : Collection} {places remaining : Places} {words : List ℕ} {id : Id} {from : ℕ} → IsCopying s k places remaining words id from → words_in s.pages ≤ 2097152
-    → IsCollecting (copied_state s k words from) (copied_collection s k words from) (with_place s places id) (without remaining from) (copied_words s words from)
+    → IsCollecting (copied_state s k words from) (copied_collection s k words from) (with_place s places id) (without remaining from) (words_after_copy s words from)
 copied_laid {s} {k} {places} {remaining} {words} {id} {from} copying limit =
     let room = copy_room copying in
     let is = copying.is in
-    let others = copied_words s words from in
+    let others = words_after_copy s words from in
     let to = s.base + s.used in
     let fits = room.fits in
     let whole = is.long in

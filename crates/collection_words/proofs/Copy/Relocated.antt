@@ -18,7 +18,7 @@ use Rattle.graph_words.specs.Places.{Places, address_of, addresses}
 use Rattle.graph_words.proofs.Places.Addresses.{address_of-Contains, address_of-head, none_or_some, placed_as}
 use Rattle.graph_words.proofs.Seal.Places.{address_of-append_left, address_of-append_right}
 use Rattle.collection_words.specs.Completed.{IsMade, completed, followed, future, without}
-use Rattle.collection_words.specs.Copying.{copied_words, with_place}
+use Rattle.collection_words.specs.Copying.{words_after_copy, with_place}
 use Rattle.collection_words.specs.LaidOut.{MayLeadBack}
 use Rattle.collection_words.specs.Relocated.{HasMoved, HaveSameIds, IsRelocatedObject, IsRelocatedWord}
 use Rattle.collection_words.specs.Placed.{HaveOwnNames}
@@ -51,7 +51,7 @@ current_new {s} {places = places} {remaining = remaining} {id = id} {from = from
     address_of-append_right places ((id, s.base + s.used) ∷ []) id (apart_of places remaining id from copying.own copying.left) ∙ address_of-head (id, s.base + s.used) []
 
 forward_new : {s : State} {k : Collection} {places remaining : Places} {words : List ℕ} {id : Id} {from : ℕ} → IsCopying s k places remaining words id from → words_in s.pages ≤ 2097152
-    → header (slice_index (copied_words s words from) from) ≡ Some (Forward (s.base + s.used))
+    → header (slice_index (words_after_copy s words from) from) ≡ Some (Forward (s.base + s.used))
 forward_new {s} {words = words} copying limit =
     let room = copy_room copying in
     let fits = room.fits in
@@ -61,7 +61,7 @@ forward_new {s} {words = words} copying limit =
 
 -- a word refers to the same object after the copy
 copied_refers : {s : State} {k : Collection} {places remaining : Places} {words : List ℕ} {id : Id} {from : ℕ} → IsCopying s k places remaining words id from → words_in s.pages ≤ 2097152 → (w : ℕ) (q : Id)
-    → RefersTo s places remaining words w q → RefersTo (copied_state s k words from) (with_place s places id) (without remaining from) (copied_words s words from) w q
+    → RefersTo s places remaining words w q → RefersTo (copied_state s k words from) (with_place s places id) (without remaining from) (words_after_copy s words from) w q
 copied_refers {s} {places = places} {id = id} copying limit w q (current at means there) = current at means (address_of-append_left places ((id, s.base + s.used) ∷ []) q at there)
 copied_refers {s} {places = places} {words = words} {id = id} {from = from} copying limit w q (forwarded old to means other forward there) =
     let room = copy_room copying in
@@ -79,11 +79,11 @@ copied_refers {s} {k} {places} {remaining} {words} {id} {from} copying limit w q
 -- and is followed to where that stands
 copied_word : {s : State} {k : Collection} {places remaining : Places} {words : List ℕ} {id : Id} {from : ℕ} (copying : IsCopying s k places remaining words id from) → words_in s.pages ≤ 2097152 → (w : ℕ)
     → MayLeadBack (addresses places) copying.is.from.starts (meaning w)
-    → IsRelocatedWord (places ++ future s words remaining) (with_place s places id ++ future (copied_state s k words from) (copied_words s words from) (without remaining from))
-    (followed s words remaining w) (followed (copied_state s k words from) (copied_words s words from) (without remaining from) w)
+    → IsRelocatedWord (places ++ future s words remaining) (with_place s places id ++ future (copied_state s k words from) (words_after_copy s words from) (without remaining from))
+    (followed s words remaining w) (followed (copied_state s k words from) (words_after_copy s words from) (without remaining from) w)
 copied_word {s} {k} {places} {remaining} {words} {id} {from} copying limit w may =
     let n = copied_state s k words from in
-    let others = copied_words s words from in
+    let others = words_after_copy s words from in
     elim (refers copying.is copying.own copying.is.from w (meaning w) refl (old_in_other copying.is) may) [
       | inl plain ↦
           let before = followed_plain s words remaining w plain in
@@ -103,7 +103,7 @@ record IsSource (s : State) (k : Collection) (places remaining : Places) (words 
   back : (i : ℕ) → i < fields → MayLeadBack (addresses places) starts (meaning (slice_index words (field_at at i)))
 
 source_other : {s : State} {k : Collection} {places remaining : Places} {words : List ℕ} {id : Id} {from : ℕ} (copying : IsCopying s k places remaining words id from) (q : Id) (at : ℕ) → q ≢ id
-    → address_of (places ++ remaining) q ≡ Some at → IsSource s k places remaining words (copied_words s words from) copying.is.from.starts at at
+    → address_of (places ++ remaining) q ≡ Some at → IsSource s k places remaining words (words_after_copy s words from) copying.is.from.starts at at
 source_other {s} {k} {places} {remaining} {words} {id} {from} copying q at other stood =
     let room = copy_room copying in
     let is = copying.is in
@@ -130,7 +130,7 @@ source_other {s} {k} {places} {remaining} {words} {id} {from} copying q at other
     ]
 
 source_new : {s : State} {k : Collection} {places remaining : Places} {words : List ℕ} {id : Id} {from : ℕ} (copying : IsCopying s k places remaining words id from)
-    → IsSource s k places remaining words (copied_words s words from) copying.is.from.starts from (s.base + s.used)
+    → IsSource s k places remaining words (words_after_copy s words from) copying.is.from.starts from (s.base + s.used)
 source_new {s} {k} {places} {remaining} {words} {id} {from} copying =
     let room = copy_room copying in
     record {
@@ -142,9 +142,9 @@ source_new {s} {k} {places} {remaining} {words} {id} {from} copying =
 
 source_moved : {s : State} {k : Collection} {places remaining : Places} {words : List ℕ} {id : Id} {from : ℕ} (copying : IsCopying s k places remaining words id from) (q : Id) (at to : ℕ)
     → address_of (places ++ remaining) q ≡ Some at → address_of (with_place s places id ++ without remaining from) q ≡ Some to
-    → IsSource s k places remaining words (copied_words s words from) copying.is.from.starts at to
+    → IsSource s k places remaining words (words_after_copy s words from) copying.is.from.starts at to
 source_moved {s} {k} {places} {remaining} {words} {id} {from} copying q at to stood stands =
-    let others = copied_words s words from in
+    let others = words_after_copy s words from in
     let starts = copying.is.from.starts in
     elim (same_or_other q id) [
       | inl same ↦
@@ -158,12 +158,12 @@ source_moved {s} {k} {places} {remaining} {words} {id} {from} copying q at to st
     ]
 
 copied_object : {s : State} {k : Collection} {places remaining : Places} {words : List ℕ} {id : Id} {from : ℕ} (copying : IsCopying s k places remaining words id from) → words_in s.pages ≤ 2097152 → (q : Id) (at to : ℕ)
-    → HasMoved (places ++ future s words remaining) (with_place s places id ++ future (copied_state s k words from) (copied_words s words from) (without remaining from)) q at to
-    → IsRelocatedObject (places ++ future s words remaining) (with_place s places id ++ future (copied_state s k words from) (copied_words s words from) (without remaining from))
-    (completed s places remaining words) (completed (copied_state s k words from) (with_place s places id) (without remaining from) (copied_words s words from)) at to
+    → HasMoved (places ++ future s words remaining) (with_place s places id ++ future (copied_state s k words from) (words_after_copy s words from) (without remaining from)) q at to
+    → IsRelocatedObject (places ++ future s words remaining) (with_place s places id ++ future (copied_state s k words from) (words_after_copy s words from) (without remaining from))
+    (completed s places remaining words) (completed (copied_state s k words from) (with_place s places id) (without remaining from) (words_after_copy s words from)) at to
 copied_object {s} {k} {places} {remaining} {words} {id} {from} copying limit q at to moved =
     let n = copied_state s k words from in
-    let others = copied_words s words from in
+    let others = words_after_copy s words from in
     let P = places ++ future s words remaining in
     let P' = with_place s places id ++ future n others (without remaining from) in
     let V = completed s places remaining words in
@@ -186,9 +186,9 @@ copied_object {s} {k} {places} {remaining} {words} {id} {from} copying limit q a
     }
 
 copied_same : {s : State} {k : Collection} {places remaining : Places} {words : List ℕ} {id : Id} {from : ℕ} (copying : IsCopying s k places remaining words id from) → words_in s.pages ≤ 2097152
-    → HaveSameIds (places ++ future s words remaining) (with_place s places id ++ future (copied_state s k words from) (copied_words s words from) (without remaining from))
+    → HaveSameIds (places ++ future s words remaining) (with_place s places id ++ future (copied_state s k words from) (words_after_copy s words from) (without remaining from))
 copied_same {s} {k} {places} {remaining} {words} {id} {from} copying limit q =
-    let others = copied_words s words from in
+    let others = words_after_copy s words from in
     let to = s.base + s.used in
     let all : is_some (address_of (places ++ remaining) q) ≡ is_some (address_of (gone places remaining id from to) q) = elim (same_or_other q id) [
       | inl same ↦
@@ -206,8 +206,8 @@ copied_same {s} {k} {places} {remaining} {words} {id} {from} copying limit q =
 
 -- The objects of the completed words are relocated by a copy, from end to end.
 pub copy_relocates : {s : State} {k : Collection} {places remaining : Places} {words : List ℕ} {id : Id} {from : ℕ} (copying : IsCopying s k places remaining words id from) → words_in s.pages ≤ 2097152
-    → IsRelocation (places ++ future s words remaining) (with_place s places id ++ future (copied_state s k words from) (copied_words s words from) (without remaining from))
-    (completed s places remaining words) (completed (copied_state s k words from) (with_place s places id) (without remaining from) (copied_words s words from))
+    → IsRelocation (places ++ future s words remaining) (with_place s places id ++ future (copied_state s k words from) (words_after_copy s words from) (without remaining from))
+    (completed s places remaining words) (completed (copied_state s k words from) (with_place s places id) (without remaining from) (words_after_copy s words from))
     s.base (s.base + (s.used + owed s)) s.base (s.base + ((copied_state s k words from).used + owed (copied_state s k words from)))
 copy_relocates copying limit = record {
   here = completed_ends copying.is;

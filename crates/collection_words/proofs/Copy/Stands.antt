@@ -10,7 +10,7 @@ use Rattle.graph_words.specs.Places.{Places, address_of, addresses}
 use Rattle.graph_words.proofs.Places.Addresses.{none_or_some}
 use Rattle.graph_words.proofs.Seal.Places.{address_of-append_left, address_of-append_right}
 use Rattle.collection_words.specs.Completed.{StandsCompleted, completed, future, without}
-use Rattle.collection_words.specs.Copying.{copied_words, with_place}
+use Rattle.collection_words.specs.Copying.{words_after_copy, with_place}
 use Rattle.collection_words.specs.LaidOut.{IsLaidOut}
 use Rattle.collection_words.specs.Writes.{AreBacked}
 use Rattle.collection_words.specs.Placed.{HaveOwnNames}
@@ -61,11 +61,11 @@ to_copied s places others id q at there = address_of-append_left (with_place s p
 -- the objects are relocated also when writes are taken back
 copied_back : {s : State} {k : Collection} {places remaining : Places} {words : List ℕ} {id : Id} {from : ℕ} (us : List UndoEntry) → (copying : IsCopying s k places remaining words id from) → words_in s.pages ≤ 2097152
     → AreBacked places words us
-    → IsRelocation (places ++ future s words remaining) (with_place s places id ++ future (copied_state s k words from) (copied_words s words from) (without remaining from))
-    (taken_back us (completed s places remaining words)) (taken_back us (completed (copied_state s k words from) (with_place s places id) (without remaining from) (copied_words s words from)))
+    → IsRelocation (places ++ future s words remaining) (with_place s places id ++ future (copied_state s k words from) (words_after_copy s words from) (without remaining from))
+    (taken_back us (completed s places remaining words)) (taken_back us (completed (copied_state s k words from) (with_place s places id) (without remaining from) (words_after_copy s words from)))
     s.base (s.base + (s.used + owed s)) s.base (s.base + ((copied_state s k words from).used + owed (copied_state s k words from)))
 copied_back {s} {k} {places} {remaining} {words} {id} {from} us copying limit backed =
-    let rest = future (copied_state s k words from) (copied_words s words from) (without remaining from) in
+    let rest = future (copied_state s k words from) (words_after_copy s words from) (without remaining from) in
     let own = own_front places remaining copying.own in
     let entries = backed_entries places (places ++ future s words remaining) (with_place s places id ++ rest) words us own
     (λ q at there. address_of-append_left places (future s words remaining) q at there) (λ q at there. to_copied s places rest id q at there) backed in
@@ -74,10 +74,10 @@ copied_back {s} {k} {places} {remaining} {words} {id} {from} us copying limit ba
 -- A graph that stands in the completed words stands there after the copy of an object that remains: the writes that may be taken back are the same.
 pub copy_stands : {s : State} {k : Collection} {places remaining : Places} {words : List ℕ} {id : Id} {from t made : ℕ} {g : Graph} (us : List UndoEntry) → (copying : IsCopying s k places remaining words id from)
     → words_in s.pages ≤ 2097152 → AreBacked places words us → StandsCompleted t made places remaining g us words s
-    → StandsCompleted t made (with_place s places id) (without remaining from) g us (copied_words s words from) (copied_state s k words from)
+    → StandsCompleted t made (with_place s places id) (without remaining from) g us (words_after_copy s words from) (copied_state s k words from)
 copy_stands {s} {k} {places} {remaining} {words} {id} {from} us copying limit backed stands =
     let n = copied_state s k words from in
-    let others = copied_words s words from in
+    let others = words_after_copy s words from in
     let rest = future n others (without remaining from) in
     let moves = copied_back us copying limit backed in
     let below = stands.below in

@@ -21,7 +21,7 @@ use Rattle.graph_words.specs.Places.{Places, address_of, addresses}
 use Rattle.graph_words.proofs.Places.Addresses.{address_of-Contains}
 use Rattle.graph_words.proofs.Stands.Objects.{word_at_field}
 use Rattle.collection_words.specs.Completed.{IsMade, taken_by, without}
-use Rattle.collection_words.specs.Copying.{copied_words, next_copy, words_to_copy}
+use Rattle.collection_words.specs.Copying.{words_after_copy, next_copy, words_to_copy}
 use Rattle.collection_words.specs.LaidOut.{AreOldEndToEnd, old_length}
 use Rattle.collection_words.specs.Placed.{HaveOwnNames}
 use Rattle.collection_words.proofs.Copy.Ascending.{addresses_without, taken_without}
@@ -74,11 +74,11 @@ copy_room {s} {k} {places} {remaining} {words} {id} {from} copying =
     }
 
 copied_is : (s : State) (words : List ℕ) (from : ℕ)
-    → copied_words s words from ≡ slice_set (put_all words (enumerate_from (s.base + s.used) (words_to_copy words from))) from (header_bits (Forward (s.base + s.used)))
+    → words_after_copy s words from ≡ slice_set (put_all words (enumerate_from (s.base + s.used) (words_to_copy words from))) from (header_bits (Forward (s.base + s.used)))
 copied_is s words from = put_all-append words (enumerate_from (s.base + s.used) (words_to_copy words from)) ((from, header_bits (Forward (s.base + s.used))) ∷ [])
 
 -- the words stay as many
-pub length-copied : (s : State) (words : List ℕ) (from : ℕ) → length (copied_words s words from) ≡ length words
+pub length-copied : (s : State) (words : List ℕ) (from : ℕ) → length (words_after_copy s words from) ≡ length words
 length-copied s words from = length-put_all (writes_of (next_copy s words from)) words
 
 -- no word of the copy is where the object stood
@@ -91,7 +91,7 @@ copy_apart {s} {from = from} copying at above below =
 
 -- each word of the object is one of the copy
 pub copied_new : {s : State} {k : Collection} {places remaining : Places} {words : List ℕ} {id : Id} {from : ℕ} → (copying : IsCopying s k places remaining words id from) → (room : CopyRoom s k places remaining words from)
-    → (j : ℕ) → j < 2 + room.fields → slice_index (copied_words s words from) (s.base + s.used + j) ≡ get_or (words_to_copy words from) j 0
+    → (j : ℕ) → j < 2 + room.fields → slice_index (words_after_copy s words from) (s.base + s.used + j) ≡ get_or (words_to_copy words from) j 0
 copied_new {s} {words = words} {from = from} copying room j within =
     let to = s.base + s.used in
     let ws = words_to_copy words from in
@@ -103,7 +103,7 @@ copied_new {s} {words = words} {from = from} copying room j within =
 
 -- where it stood is a forwarding word
 pub copied_forward : {s : State} {k : Collection} {places remaining : Places} {words : List ℕ} {id : Id} {from : ℕ} → (copying : IsCopying s k places remaining words id from) → CopyRoom s k places remaining words from
-    → slice_index (copied_words s words from) from ≡ header_bits (Forward (s.base + s.used))
+    → slice_index (words_after_copy s words from) from ≡ header_bits (Forward (s.base + s.used))
 copied_forward {s} {words = words} {from = from} copying room =
     let to = s.base + s.used in
     let long = length-put_all (enumerate_from to (words_to_copy words from)) words in
@@ -113,7 +113,7 @@ copied_forward {s} {words = words} {from = from} copying room =
 
 -- every other word is as before
 pub copied_kept : {s : State} {k : Collection} {places remaining : Places} {words : List ℕ} {from : ℕ} (room : CopyRoom s k places remaining words from) (i : ℕ) → i ≢ from
-    → (i < s.base + s.used) ⊎ (s.base + s.used + (2 + room.fields) ≤ i) → slice_index (copied_words s words from) i ≡ slice_index words i
+    → (i < s.base + s.used) ⊎ (s.base + s.used + (2 + room.fields) ≤ i) → slice_index (words_after_copy s words from) i ≡ slice_index words i
 copied_kept {s} {words = words} {from = from} room i other (inl before) =
     let to = s.base + s.used in
     ap (λ (l : List ℕ). get_or l i 0) (copied_is s words from)
@@ -128,14 +128,14 @@ copied_kept {s} {words = words} {from = from} room i other (inr behind) =
 
 -- each used word is
 pub copied_current : {s : State} {k : Collection} {places remaining : Places} {words : List ℕ} {id : Id} {from : ℕ} → (copying : IsCopying s k places remaining words id from) → CopyRoom s k places remaining words from
-    → (i : ℕ) → s.base ≤ i → i < s.base + s.used → slice_index (copied_words s words from) i ≡ slice_index words i
+    → (i : ℕ) → s.base ≤ i → i < s.base + s.used → slice_index (words_after_copy s words from) i ≡ slice_index words i
 copied_current copying room i above below =
     let free = room.room in
     copied_kept room i (copy_apart copying i above (omega arith)) (inl below)
 
 -- and each other word of the from-space
 pub copied_old : {s : State} {k : Collection} {places remaining : Places} {words : List ℕ} {id : Id} {from : ℕ} → (copying : IsCopying s k places remaining words id from) → CopyRoom s k places remaining words from
-    → (i : ℕ) → other_base s ≤ i → i < other_base s + space_words s.pages → i ≢ from → slice_index (copied_words s words from) i ≡ slice_index words i
+    → (i : ℕ) → other_base s ≤ i → i < other_base s + space_words s.pages → i ≢ from → slice_index (words_after_copy s words from) i ≡ slice_index words i
 copied_old {s} copying room i above below other =
     let free = room.room in
     copied_kept room i other (elim copying.is.spaced.first [ inl low ↦ inr (omega arith) | inr high ↦ inl (omega arith) ])
@@ -158,13 +158,13 @@ kept_made words others at n is long same =
 
 -- a current object is as before
 pub copied_here : {s : State} {k : Collection} {places remaining : Places} {words : List ℕ} {id : Id} {from : ℕ} → (copying : IsCopying s k places remaining words id from) → CopyRoom s k places remaining words from
-    → (at n : ℕ) → Contains (addresses places) at → object_at words at ≡ Some n → IsMade (λ w. w) words (copied_words s words from) at at n
+    → (at n : ℕ) → Contains (addresses places) at → object_at words at ≡ Some n → IsMade (λ w. w) words (words_after_copy s words from) at at n
 copied_here {s} {words = words} {from = from} copying room at n has object =
     let within = start_within copying.is.laid at has in
     let same = same_Some within.fields n (sym within.object ∙ object) in
     let above = within.above in
     let below = within.below in
-    kept_made words (copied_words s words from) at n object (length-copied s words from) (λ j few. copied_current copying room (at + j) (omega arith) (omega arith))
+    kept_made words (words_after_copy s words from) at n object (length-copied s words from) (λ j few. copied_current copying room (at + j) (omega arith) (omega arith))
 
 -- two objects of the from-space are one, or lie apart
 old_apart : (words : List ℕ) (from : ℕ) (starts : List ℕ) (end a n b : ℕ) → AreOldEndToEnd words from starts end → Contains starts a → old_length words a ≡ Some n → Contains starts b
@@ -185,7 +185,7 @@ old_apart words from (x ∷ xs) end a n b (m, same, first, more) has long has' =
 
 -- so is another one that remains
 pub copied_left : {s : State} {k : Collection} {places remaining : Places} {words : List ℕ} {id : Id} {from : ℕ} → (copying : IsCopying s k places remaining words id from) → CopyRoom s k places remaining words from
-    → (at n : ℕ) → Contains (addresses remaining) at → at ≢ from → object_at words at ≡ Some n → IsMade (λ w. w) words (copied_words s words from) at at n
+    → (at n : ℕ) → Contains (addresses remaining) at → at ≢ from → object_at words at ≡ Some n → IsMade (λ w. w) words (words_after_copy s words from) at at n
 copied_left {s} {k} {remaining = remaining} {words = words} {id = id} {from = from} copying room at n has other object =
     let is = copying.is in
     let lies = left_within is at has in
@@ -195,7 +195,7 @@ copied_left {s} {k} {remaining = remaining} {words = words} {id = id} {from = fr
     let start = (left_object is.from at has).start in
     let gone = (left_object is.from from (address_of-Contains remaining id from copying.left)).start in
     let apart = old_apart words (other_base s) is.from.starts (other_base s + k.used) at n from is.from.chain start (old_length-object words at n object) gone in
-    kept_made words (copied_words s words from) at n object (length-copied s words from) (λ j few.
+    kept_made words (words_after_copy s words from) at n object (length-copied s words from) (λ j few.
     copied_old copying room (at + j) (omega arith) (omega arith) (λ equal. elim apart [
       | inl one ↦ other one
       | inr (inl before) ↦ omega arith
@@ -204,10 +204,10 @@ copied_left {s} {k} {remaining = remaining} {words = words} {id = id} {from = fr
 
 -- and the copy is the object
 pub copied_made : {s : State} {k : Collection} {places remaining : Places} {words : List ℕ} {id : Id} {from : ℕ} → (copying : IsCopying s k places remaining words id from) → (room : CopyRoom s k places remaining words from)
-    → IsMade (λ w. w) words (copied_words s words from) from (s.base + s.used) room.fields
+    → IsMade (λ w. w) words (words_after_copy s words from) from (s.base + s.used) room.fields
 copied_made {s} {words = words} {from = from} copying room =
     let to = s.base + s.used in
-    let others = copied_words s words from in
+    let others = words_after_copy s words from in
     let n = room.fields in
     let fits = room.fits in
     let long = length-copied s words from in

@@ -23,7 +23,7 @@ use Rattle.log_machine.specs.Machine.{State, start, after_all, put_record, all_t
 use Rattle.log_machine.proofs.MachineLaws.{after_all-append, after_all-append2, number_small, inside_from, after-Update}
 use Rattle.log_machine.proofs.MapLaws.{each_insert, each_remove, remove_absent}
 use Rattle.log_machine.specs.Sound.{AreLosers}
-use Rattle.log_machine.specs.UndoEntry.{LiesInside}
+use Rattle.log_machine.specs.UndoEntry.{LiesInside, undo_entry}
 use Rattle.log_machine.proofs.StateLaws.{can_roll_back, all_spelled, each_at, spaced_ends}
 use Rattle.log_machine.specs.declared.UndoEntry.{UndoEntry}
 use Rattle.object_layout.specs.Layout.{object_at}
@@ -191,7 +191,7 @@ module _ (pages first_number : ℕ) (born : Bool) (places remaining : Places) (b
       (λ q us is. backed_write w.told.heap here us (w.told.backed q us is)))
       left.there (ap (all_taken_back (written state t entry)) left.same ∙ committed)
       (λ tells. tells_turned state t (with_entries state.undo t (entry ∷ undo_of state t)) 0 places remaining written_words
-      (births_back state places remaining now (record { object = at; field = i; was = word_in places v.graph x } ∷ []) (heap_spaces w.told.heap) w.told.heap.laid (here, tt) tells))
+      (births_back state places remaining now (undo_entry at i (word_in places v.graph x) ∷ []) (heap_spaces w.told.heap) w.told.heap.laid (here, tt) tells))
 
 -- An abort.
 

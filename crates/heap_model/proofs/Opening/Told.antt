@@ -8,6 +8,7 @@ use Rattle.graph_model.specs.Graph.{Graph, fields}
 use Rattle.log_records.specs.declared.Record.{Record}
 use Rattle.log_records.specs.declared.Record.TheVariants.{Update}
 use Rattle.log_machine.specs.declared.UndoEntry.{UndoEntry}
+use Rattle.log_machine.specs.UndoEntry.{undo_entry}
 use Rattle.log_machine.specs.Machine.{State, undo_of, with_entries, turned}
 use Rattle.graph_words.specs.Places.{Places, IsOld, AreOld, address_of, place_of, bits_of}
 use Rattle.graph_words.specs.Stands.{IsOfField, AreOfFields}
@@ -35,7 +36,7 @@ word_in places g v = bits_of (place_of places g) v
 
 -- what it replaces
 abbrev pub entry_of : Places → Graph → Id → ℕ → ℕ → UndoEntry
-entry_of places g id at i = record { object = at; field = i; was = word_in places g (slice_index_or (fields g id) i Null) }
+entry_of places g id at i = undo_entry at i (word_in places g (slice_index_or (fields g id) i Null))
 
 -- its record
 abbrev pub update_of : Places → Graph → ℕ → Id → ℕ → ℕ → Val → Record

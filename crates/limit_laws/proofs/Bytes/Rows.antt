@@ -19,7 +19,8 @@ use Rattle.log_machine.specs.Collecting.{collected_in, copies_after, copy_after,
 use Rattle.log_machine.specs.Machine.{State, after, after_all, is_number_or_none, number_of, row_after, turned, undo_of, with_entries, without_newest}
 use Rattle.log_machine.proofs.CopyRows.{copy_told}
 use Rattle.log_machine.proofs.FlipLaws.{flip_told}
-use Rattle.flip_copy.specs.Copied.{copied_size}
+use Rattle.log_machine.specs.UndoEntry.{undo_entry}
+use Rattle.log_records.specs.Copied.{copied_size, copy_size}
 use Rattle.core_laws.proofs.Collecting.Least.{or_second}
 use Rattle.limit_laws.specs.Bytes.{begun_by, bytes_of, led_by, left_by, moved_by_record}
 use Rattle.limit_laws.proofs.Bytes.Sets.{len_more, subset_less}
@@ -77,10 +78,15 @@ row_cost : (s n : State) (rec : Record) → IsNoScan rec → row_after s rec ≡
 row_cost s n (Update t object field was word) plain e = subst (Costs s (Update t object field was word)) (cond_some _ _ _ e).1 (omega arith)
 row_cost s n (Base t address words) plain e = subst (Costs s (Base t address words)) (cond_some _ _ _ e).1 (omega arith)
 row_cost s n (Fix t object field word) plain e = subst (Costs s (Fix t object field word)) (cond_some _ _ _ e).1 (omega arith)
-row_cost s n (Undo t object field word) plain e = undone_cost s n t object field word (without_newest (undo_of s t) (record { object = object; field = field; was = word })) e
+row_cost s n (Undo t object field word) plain e = undone_cost s n t object field word (without_newest (undo_of s t) (undo_entry object field word)) e
 row_cost s n (Commit t) plain e = subst (Costs s (Commit t)) (same_Some _ n e) (omega arith)
 row_cost s n (End t) plain e = subst (Costs s (End t)) (cond_some _ _ _ e).1 (omega arith)
-row_cost s n (Copy from to words) plain e = let cost = copy_cost s n from to words e in let few = cost.0 in let less = cost.1 in omega (arith, length-word_bytes words)
+row_cost s n (Copy from to words) plain e =
+    let cost = copy_cost s n from to words e in
+    let few = cost.0 in
+    let less = cost.1 in
+    let one = sum_by-cons copy_size (record { from = from; to = to; words = words }) [] in
+    omega (arith, length-word_bytes words)
 row_cost s n (Scan page writes) plain e = absurd plain
 row_cost s n (Flip copies) plain e = flip_cost s n copies e
 row_cost s n Collected plain e = ended_cost s n s.collection refl e
@@ -131,8 +137,8 @@ cost_scan s n (Copy from to words ∷ copies) page writes k g run gray here all 
     option_and_then_some (λ next. after_all next (copies ++ Scan page writes ∷ [])) (after s (Copy from to words)) n e (λ next one rest.
     let told = copy_told s next (record { from = from; to = to; words = words }) one in
     let same : told.k ≡ k = same_Some told.k k (sym told.runs ∙ run) in
-    let runs : next.collection ≡ Some (with_moved told.k from to words) = ap (λ (x : State). x.collection) (sym told.is) in
+    let runs : next.collection ≡ Some (with_moved told.k (record { from = from; to = to; words = words })) = ap (λ (x : State). x.collection) (sym told.is) in
     let there : contains (insert told.k.gray to) g ≡ true = contains-insert nat_cmp_total told.k.gray to g ∙ or_second (eq_by_cmp nat_cmp g to) (contains told.k.gray g) (ap (λ (x : Collection). contains x.gray g) same ∙ gray) in
     cost_more s next n (Copy from to words) (copies ++ Scan page writes ∷ []) (row_cost s next (Copy from to words) tt one)
-    (cost_scan next n copies page writes (with_moved told.k from to words) g runs there here all.1 rest))
+    (cost_scan next n copies page writes (with_moved told.k (record { from = from; to = to; words = words })) g runs there here all.1 rest))
 cost_scan s n (r ∷ copies) page writes k g run gray here all e = absurd all.0

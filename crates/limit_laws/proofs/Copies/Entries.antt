@@ -14,6 +14,7 @@ use Rattle.log_machine.specs.Entries.{EachKeyed}
 use Rattle.log_machine.specs.Machine.{State, after, after_all, is_number_or_none, is_same_write, number_of, row_after, turned, undo_of, with_entries, without_newest}
 use Rattle.log_machine.proofs.CopyRows.{copy_told}
 use Rattle.log_machine.proofs.MapLaws.{each_insert, each_remove}
+use Rattle.log_machine.specs.UndoEntry.{undo_entry}
 use Rattle.limit_laws.proofs.Events.Kinds.{IsNoFlip}
 use Rattle.limit_laws.proofs.Progress.Rows.{passed}
 
@@ -23,7 +24,7 @@ EachEntry P s = EachKeyed (λ q us. AllByRecursion (P q) us) s.undo
 
 -- and of the write of an update
 abbrev pub OfUpdate : (ℕ → UndoEntry → Type 0) → Record → Type 0
-OfUpdate P (Update t object field was word) = P t (record { object = object; field = field; was = was })
+OfUpdate P (Update t object field was word) = P t (undo_entry object field was)
 OfUpdate P rec = Unit {0}
 
 module _ (P : ℕ → UndoEntry → Type 0) where
@@ -61,12 +62,12 @@ module _ (P : ℕ → UndoEntry → Type 0) where
 
   each_row : (s n : State) (rec : Record) → IsNoFlip rec → row_after s rec ≡ Some n → OfUpdate P rec → EachEntry P s → EachEntry P n
   each_row s n (Update t object field was word) plain e new each =
-      let u : UndoEntry = record { object = object; field = field; was = was } in
+      let u : UndoEntry = undo_entry object field was in
       subst (EachEntry P) (cond_some _ _ _ e).1 (each_insert All s.undo t (u ∷ undo_of s t) (new, known s t each) each)
   each_row s n (Base t address words) plain e new each = subst (EachEntry P) (cond_some _ _ _ e).1 each
   each_row s n (Fix t object field word) plain e new each = subst (EachEntry P) (cond_some _ _ _ e).1 each
   each_row s n (Undo t object field word) plain e new each =
-      undone s n t (record { object = object; field = field; was = word }) (without_newest (undo_of s t) (record { object = object; field = field; was = word })) refl e each
+      undone s n t (undo_entry object field word) (without_newest (undo_of s t) (undo_entry object field word)) refl e each
   each_row s n (Commit t) plain e new each = subst (EachEntry P) (same_Some _ n e) (each_remove All s.undo t each)
   each_row s n (End t) plain e new each = subst (EachEntry P) (cond_some _ _ _ e).1 each
   each_row s n (Copy from to words) plain e new each = subst (EachEntry P) (copy_told s n (record { from = from; to = to; words = words }) e).is each

@@ -29,6 +29,7 @@ use Rattle.log_records.specs.declared.Record.TheVariants.{Update, Commit}
 use Rattle.log_machine.specs.declared.UndoEntry.{UndoEntry}
 use Rattle.log_machine.specs.Machine.{State, abort_records, after_all, field_at}
 use Rattle.log_machine.proofs.ListLaws.{AllByRecursion-append, AllByRecursion-map}
+use Rattle.log_machine.specs.UndoEntry.{undo_entry}
 use Rattle.volatile_area.specs.Area.{AreaState}
 use Rattle.graph_words.specs.Places.{Places, address_of, addresses, bits_of, place_of}
 use Rattle.graph_words.specs.Promotion.{Field, Move, base_of, fix_meant, fix_of, moves_of, promotion_records, seal_records, written_fields}
@@ -225,7 +226,7 @@ module _ (e : Core) (valid : IsValid e) (runs : RunsLocked e.g0 e.first e.histor
   -- the write that a call makes
   entry_new : (event : Event) (t1 : Transaction) (places : Places) → (account e.history).active (session_of event) ≡ Some t1 → StandApart places → (z : Id) (i at : ℕ) → lock_of (run (serial e.g0 (account e.history).sealed) t1).registers event ≡ Some (z, Exclusive)
       → IsEntryPast (called (account e.history) (session_of event) event) (serial e.g0 (account e.history).sealed) places t1.number
-      (record { object = at; field = i; was = bits_of (place_of places (run (serial e.g0 (account e.history).sealed) t1).graph) (slice_index_or (fields (run (serial e.g0 (account e.history).sealed) t1).graph z) i Null) })
+      (undo_entry at i (bits_of (place_of places (run (serial e.g0 (account e.history).sealed) t1).graph) (slice_index_or (fields (run (serial e.g0 (account e.history).sealed) t1).graph z) i Null)))
   entry_new event t1 places active apart z i at0 lock r t now number at means y there =
       let g = serial e.g0 a.sealed in
       let v = run g t1 in
@@ -238,7 +239,7 @@ module _ (e : Core) (valid : IsValid e) (runs : RunsLocked e.g0 e.first e.histor
       (λ q other is. absurd (same_number q (session_of event) t t1 is active other number)) r now
 
   write_news : (P : ℕ → UndoEntry → Type 0) (places : Places) (t : ℕ) (v : View) (hd i : ℕ) (x : Val)
-      → ((z : Id) (at : ℕ) → held v.registers hd ≡ Some z → P t (record { object = at; field = i; was = bits_of (place_of places v.graph) (slice_index_or (fields v.graph z) i Null) }))
+      → ((z : Id) (at : ℕ) → held v.registers hd ≡ Some z → P t (undo_entry at i (bits_of (place_of places v.graph) (slice_index_or (fields v.graph z) i Null))))
       → AllByRecursion (OfUpdate P) (view_records places t v hd i x)
   write_news P places t v hd i x each = by (held v.registers hd) refl
     where

@@ -12,6 +12,7 @@ use Rattle.log_machine.specs.declared.UndoEntry.{UndoEntry}
 use Rattle.log_machine.specs.Collecting.{collected_in, scanned_in}
 use Rattle.log_machine.specs.Machine.{State, after, after_all, is_number_or_none, number_of, row_after, turned, undo_of, with_entries, without_newest}
 use Rattle.log_machine.proofs.CopyRows.{copy_told}
+use Rattle.log_machine.specs.UndoEntry.{undo_entry}
 use Rattle.graph_words.specs.Places.{Places, address_of}
 use Rattle.graph_words.proofs.Places.Addresses.{some_address}
 use Rattle.graph_words.proofs.Seal.Places.{address_of-append_left, address_of-append_right}
@@ -38,7 +39,7 @@ row_none : (s n : State) (rec : Record) → IsNoFlip rec → row_after s rec ≡
 row_none s n (Update t object field was word) plain e none = ap (λ (x : State). x.collection) (sym (cond_some _ _ _ e).1) ∙ none
 row_none s n (Base t address words) plain e none = ap (λ (x : State). x.collection) (sym (cond_some _ _ _ e).1) ∙ none
 row_none s n (Fix t object field word) plain e none = ap (λ (x : State). x.collection) (sym (cond_some _ _ _ e).1) ∙ none
-row_none s n (Undo t object field word) plain e none = undone_run s n t (without_newest (undo_of s t) (record { object = object; field = field; was = word })) e ∙ none
+row_none s n (Undo t object field word) plain e none = undone_run s n t (without_newest (undo_of s t) (undo_entry object field word)) e ∙ none
 row_none s n (Commit t) plain e none = ap (λ (x : State). x.collection) (sym (same_Some _ n e)) ∙ none
 row_none s n (End t) plain e none = ap (λ (x : State). x.collection) (sym (cond_some _ _ _ e).1) ∙ none
 row_none s n (Copy from to words) plain e none = let never = sym none ∙ (copy_told s n (record { from = from; to = to; words = words }) e).runs in absurd (cc never)

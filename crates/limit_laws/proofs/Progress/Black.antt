@@ -13,6 +13,7 @@ use Rattle.log_machine.specs.declared.UndoEntry.{UndoEntry}
 use Rattle.log_machine.specs.Collecting.{collected_in, copy_after, scanned_in}
 use Rattle.log_machine.specs.Machine.{State, after, after_all, is_number_or_none, number_of, row_after, turned, undo_of, with_entries, without_newest}
 use Rattle.log_machine.proofs.CopyRows.{copy_told}
+use Rattle.log_machine.specs.UndoEntry.{undo_entry}
 use Rattle.limit_laws.proofs.Events.Kinds.{IsNoFlip}
 use Rattle.limit_laws.proofs.Progress.Rows.{passed, retained}
 
@@ -63,7 +64,7 @@ row_black : (at : ℕ) (s n : State) (rec : Record) → IsNoFlip rec → row_aft
 row_black at s n (Update t object field was word) plain e is = subst (IsBlack at) (cond_some _ _ _ e).1 (black_still at s _ refl refl (omega arith) is)
 row_black at s n (Base t address words) plain e is = subst (IsBlack at) (cond_some _ _ _ e).1 (black_still at s _ refl refl (omega arith) is)
 row_black at s n (Fix t object field word) plain e is = subst (IsBlack at) (cond_some _ _ _ e).1 (black_still at s _ refl refl (omega arith) is)
-row_black at s n (Undo t object field word) plain e is = undone_black at s n t (without_newest (undo_of s t) (record { object = object; field = field; was = word })) e is
+row_black at s n (Undo t object field word) plain e is = undone_black at s n t (without_newest (undo_of s t) (undo_entry object field word)) e is
 row_black at s n (Commit t) plain e is = subst (IsBlack at) (same_Some _ n e) (black_still at s _ refl refl (omega arith) is)
 row_black at s n (End t) plain e is = subst (IsBlack at) (cond_some _ _ _ e).1 (black_still at s _ refl refl (omega arith) is)
 row_black at s n (Copy from to words) plain e is = copied_black at s n from to words e is

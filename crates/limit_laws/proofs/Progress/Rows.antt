@@ -15,6 +15,7 @@ use Rattle.log_machine.specs.declared.UndoEntry.{UndoEntry}
 use Rattle.log_machine.specs.Collecting.{collected_in, copy_after, scanned_in}
 use Rattle.log_machine.specs.Machine.{State, after, after_all, is_number_or_none, number_of, row_after, turned, undo_of, with_entries, without_newest}
 use Rattle.log_machine.proofs.CopyRows.{copy_told}
+use Rattle.log_machine.specs.UndoEntry.{undo_entry}
 use Rattle.limit_laws.proofs.Events.Kinds.{IsNoCopy, IsNoFlip}
 
 -- all gray addresses are this one or greater
@@ -92,7 +93,7 @@ row_from : (x : ℕ) (s n : State) (rec : Record) → IsNoFlip rec → row_after
 row_from x s n (Update t object field was word) plain e from = let told = cond_some _ _ _ e in subst (IsFrom x) told.1 (from_still x s _ refl refl (omega arith) from)
 row_from x s n (Base t address words) plain e from = let told = cond_some _ _ _ e in subst (IsFrom x) told.1 (from_still x s _ refl refl (omega arith) from)
 row_from x s n (Fix t object field word) plain e from = let told = cond_some _ _ _ e in subst (IsFrom x) told.1 (from_still x s _ refl refl (omega arith) from)
-row_from x s n (Undo t object field word) plain e from = undone x s n t (without_newest (undo_of s t) (record { object = object; field = field; was = word })) e from
+row_from x s n (Undo t object field word) plain e from = undone x s n t (without_newest (undo_of s t) (undo_entry object field word)) e from
 row_from x s n (Commit t) plain e from = subst (IsFrom x) (same_Some _ n e) (from_still x s _ refl refl (omega arith) from)
 row_from x s n (End t) plain e from = let told = cond_some _ _ _ e in subst (IsFrom x) told.1 (from_still x s _ refl refl (omega arith) from)
 row_from x s n (Copy from to words) plain e is = copied_from x s n from to words e is
@@ -134,7 +135,7 @@ row_gray : (x : ℕ) (s n : State) (rec : Record) → IsNoCopy rec → row_after
 row_gray x s n (Update t object field was word) plain e gray = subst (GrayFrom x) (cond_some _ _ _ e).1 gray
 row_gray x s n (Base t address words) plain e gray = subst (GrayFrom x) (cond_some _ _ _ e).1 gray
 row_gray x s n (Fix t object field word) plain e gray = subst (GrayFrom x) (cond_some _ _ _ e).1 gray
-row_gray x s n (Undo t object field word) plain e gray = undone_gray x s n t (without_newest (undo_of s t) (record { object = object; field = field; was = word })) e gray
+row_gray x s n (Undo t object field word) plain e gray = undone_gray x s n t (without_newest (undo_of s t) (undo_entry object field word)) e gray
 row_gray x s n (Commit t) plain e gray = subst (GrayFrom x) (same_Some _ n e) gray
 row_gray x s n (End t) plain e gray = subst (GrayFrom x) (cond_some _ _ _ e).1 gray
 row_gray x s n (Copy from to words) plain e gray = absurd plain
@@ -167,7 +168,7 @@ row_base : (s n : State) (rec : Record) → IsNoFlip rec → row_after s rec ≡
 row_base s n (Update t object field was word) plain e = ap (λ (x : State). x.base) (sym (cond_some _ _ _ e).1)
 row_base s n (Base t address words) plain e = ap (λ (x : State). x.base) (sym (cond_some _ _ _ e).1)
 row_base s n (Fix t object field word) plain e = ap (λ (x : State). x.base) (sym (cond_some _ _ _ e).1)
-row_base s n (Undo t object field word) plain e = undone_base s n t (without_newest (undo_of s t) (record { object = object; field = field; was = word })) e
+row_base s n (Undo t object field word) plain e = undone_base s n t (without_newest (undo_of s t) (undo_entry object field word)) e
 row_base s n (Commit t) plain e = ap (λ (x : State). x.base) (sym (same_Some _ n e))
 row_base s n (End t) plain e = ap (λ (x : State). x.base) (sym (cond_some _ _ _ e).1)
 row_base s n (Copy from to words) plain e = ap (λ (x : State). x.base) (sym (copy_told s n (record { from = from; to = to; words = words }) e).is)

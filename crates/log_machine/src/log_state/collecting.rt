@@ -1,10 +1,11 @@
 //! The records of a collection: which of them can follow, and the state after them.
-ghost use Rattle.std.specs.Prelude.{◌≡◌, ◌⊎◌, ◌+◌, ◌-◌, ◌<◌, ◌≤◌, ◌^◌, ◌&&◌, None, Some, option_map, IfOk, IfSome, OnOk, OnErr, is_some, true, length, slice_index};
+ghost use Rattle.std.specs.Prelude.{◌≡◌, ◌⊎◌, ◌+◌, ◌-◌, ◌<◌, ◌≤◌, ◌^◌, ◌&&◌, None, Some, option_map, IfOk, IfSome, OnOk, OnErr, is_some, true, length};
 ghost use Rattle.std.specs.List.{list_all};
 ghost use Rattle.heap_words.specs.Word.{meaning};
 ghost use Rattle.heap_spaces.specs.Copying.{with_scanned};
 ghost use Rattle.log_machine.specs.Machine.{State, settled, words_in};
 ghost use Rattle.log_machine.specs.Effect.{WritesBelow, CopiesObjects, ChangesRoles};
+ghost use Rattle.log_machine.specs.Copied.{moved_object};
 ghost use Rattle.log_machine.specs.Collecting.{other_base, can_move, can_hold, copy_after, copies_after, begins_at, with_roles_changed, flipped_in, is_used, leads_to_used, is_current_page, can_put, scanned_in, collected_in, collecting_after};
 
 use crate::copy_index::CopyIndex;
@@ -269,7 +270,7 @@ fn scan_page(collection: &mut Option<Collection>, page: u32)
 fn copied_object(from: u32, to: u32, words: &[u64]) -> CopiedObject
     requires front { 2 ≤ length words.now }
     requires few { length words.now < 2 ^ 32 }
-    ensures { result ≡ record { from = from; to = to; header = slice_index words.now 0; words = length words.now } }
+    ensures { result ≡ moved_object (record { from = from; to = to; words = words.now }) }
 {
     CopiedObject {
         from,

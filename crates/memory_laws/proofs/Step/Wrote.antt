@@ -13,6 +13,7 @@ use Rattle.log_records.specs.declared.Record.TheVariants.{Update}
 use Rattle.log_machine.specs.declared.UndoEntry.{UndoEntry}
 use Rattle.log_machine.specs.Machine.{State, undo_of}
 use Rattle.log_machine.proofs.MachineLaws.{undo_with as machine_undo_with}
+use Rattle.log_machine.specs.UndoEntry.{undo_entry}
 use Rattle.object_locks.specs.declared.holding.Mode.TheVariants as locked
 use Rattle.txn_table.specs.declared.place.Place.{Place}
 use Rattle.txn_table.specs.declared.place.Place.TheVariants.{Stable, Volatile}
@@ -158,7 +159,7 @@ module _ (m n : Memory) (c : Core) (valid : IsValid c) (runs : RunsLocked c.g0 c
         let there = place_in-placed c.places v.graph id at place in
         let told = write_told c.pages c.first_number c.born c.places c.remaining (serial c.g0 a.sealed) v (c.before + length a.sealed) t.number (locks_of (serial c.g0 a.sealed) t) (all_records c) now behind id at i x one in
         let locks = with_lock m.locks (kept c.places v t.number undo) locked.Exclusive (Stable at) in
-        let L : ℕ → Type 0 = λ z. TurnsOwn m n s (Update t.number at i z w ∷ []) (kept c.places v t.number (record { object = at; field = i; was = z } ∷ undo)) locks in
+        let L : ℕ → Type 0 = λ z. TurnsOwn m n s (Update t.number at i z w ∷ []) (kept c.places v t.number (undo_entry at i z ∷ undo)) locks in
         let left = subst L one.was (left_at (Stable at) there) in
         let again : undo_of (later at) t.number ≡ entry at ∷ undo = machine_undo_with behind.undo t.number (entry at ∷ undo) in
         call_goes m n c valid is s t event (update_of c.places v.graph t.number id at i x ∷ []) (later at) locks (kept c.places v t.number (entry at ∷ undo)) write.active write.called_it write.session

@@ -2,6 +2,7 @@
 use Rattle.std.proofs.Common.{◌≡◌, ◌++◌, map, take, drop, get_or, set, sym, ap, ◌∙◌, add-one, refl}
 use Rattle.log_machine.specs.declared.UndoEntry.{UndoEntry}
 use Rattle.log_machine.specs.Translation.{translated_entry}
+use Rattle.log_machine.specs.UndoEntry.{undo_entry}
 use Rattle.undo_translation.proofs.Mapped.{put_mapped}
 use Rattle.undo_translation.proofs.translate.Goals as goal
 
@@ -10,7 +11,7 @@ loop-entry-preserved c =
     let xs = c.args.entries.now in
     let i = c.loop-entry.entry-index in
     let f = translated_entry c.args.pairs.now in
-    let d : UndoEntry = record { object = 0; field = 0; was = 0 } in
+    let d : UndoEntry = undo_entry 0 0 0 in
     let before = map f (take i xs) ++ drop i xs in
     let is : c.loop-entry.entries ≡ before = c.loop-entry.invariant in
     ap (λ es. set es i c.translated.result) is

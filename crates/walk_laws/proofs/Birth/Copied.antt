@@ -19,7 +19,7 @@ use Rattle.graph_words.specs.Stands.{AreNamedByBirth}
 use Rattle.graph_words.proofs.Places.Addresses.{address_of-Contains, placed_as}
 use Rattle.graph_words.proofs.Stands.TakenBack.{renamed}
 use Rattle.collection_words.specs.Completed.{without}
-use Rattle.collection_words.specs.Copying.{copied_words, with_place}
+use Rattle.collection_words.specs.Copying.{words_after_copy, with_place}
 use Rattle.collection_words.specs.LaidOut.{AreOldEndToEnd}
 use Rattle.collection_words.proofs.Copy.Laid.{copied_collection, copied_state, old_each, still_left}
 use Rattle.collection_words.proofs.Copy.Words.{CopyRoom, IsCopying, copied_forward, copied_here, copied_left, copied_made, copied_old, copy_room}
@@ -65,9 +65,9 @@ starts_apart words from (x ∷ xs) end a b (n, equal, long, more) one other same
 -- Names.
 
 copied_names : {s : State} {k : Collection} {places remaining : Places} {words : List ℕ} {id : Id} {from : ℕ} (copying : IsCopying s k places remaining words id from) → CopyRoom s k places remaining words from
-    → AreNamedByBirth (places ++ remaining) words → AreNamedByBirth (with_place s places id ++ without remaining from) (copied_words s words from)
+    → AreNamedByBirth (places ++ remaining) words → AreNamedByBirth (with_place s places id ++ without remaining from) (words_after_copy s words from)
 copied_names {s} {k} {places} {remaining} {words} {id} {from} copying room names =
-    let others = copied_words s words from in
+    let others = words_after_copy s words from in
     let Named : Id × ℕ → Type 0 = λ p. id_at words p.1 ≡ p.0 in
     let Named_then : Id × ℕ → Type 0 = λ p. id_at others p.1 ≡ p.0 in
     let names_left = rest_all Named places remaining names in
@@ -82,11 +82,11 @@ copied_names {s} {k} {places} {remaining} {words} {id} {from} copying room names
 -- The from-space's births.
 
 copied_originals : {s : State} {k : Collection} {places remaining : Places} {words : List ℕ} {id : Id} {from : ℕ} (copying : IsCopying s k places remaining words id from) → words_in s.pages ≤ 2097152
-    → HasOriginals s words (Some k) → HasOriginals (copied_state s k words from) (copied_words s words from) (Some (copied_collection s k words from))
+    → HasOriginals s words (Some k) → HasOriginals (copied_state s k words from) (words_after_copy s words from) (Some (copied_collection s k words from))
 copied_originals {s} {k} {places} {remaining} {words} {id} {from} copying limit (olds, ends, told) =
     let is = copying.is in
     let room = copy_room copying in
-    let others = copied_words s words from in
+    let others = words_after_copy s words from in
     let to = s.base + s.used in
     let fits = room.fits in
     let whole = is.long in
@@ -134,7 +134,7 @@ copied_originals {s} {k} {places} {remaining} {words} {id} {from} copying limit 
 
 -- A copy keeps births.
 pub copy_births : {s : State} {k : Collection} {places remaining : Places} {words : List ℕ} {id : Id} {from : ℕ} → IsCopying s k places remaining words id from → words_in s.pages ≤ 2097152 → TellsBirths s places remaining words
-    → TellsBirths (copied_state s k words from) (with_place s places id) (without remaining from) (copied_words s words from)
+    → TellsBirths (copied_state s k words from) (with_place s places id) (without remaining from) (words_after_copy s words from)
 copy_births {s} {k} {places} {remaining} {words} {id} {from} copying limit tells = record {
   names = copied_names copying (copy_room copying) tells.names;
   originals = copied_originals copying limit (subst (HasOriginals s words) copying.is.run tells.originals);

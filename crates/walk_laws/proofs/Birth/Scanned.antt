@@ -8,6 +8,7 @@ use Rattle.heap_spaces.specs.Copying.{with_scanned}
 use Rattle.object_layout.specs.Layout.{id_at}
 use Rattle.log_machine.specs.declared.UndoEntry.{UndoEntry}
 use Rattle.log_machine.specs.Machine.{State, put_all, taken_back, words_in}
+use Rattle.log_machine.specs.UndoEntry.{undo_entry}
 use Rattle.graph_words.specs.Places.{Places}
 use Rattle.graph_words.specs.Stands.{AreNamedByBirth}
 use Rattle.collection_words.specs.LaidOut.{IsUnderway}
@@ -23,7 +24,7 @@ use Rattle.walk_laws.proofs.Birth.TakenBack.{births_back}
 
 abbrev scan_entries : (s : State) (places remaining : Places) (words : List ℕ) (writes : List (ℕ × ℕ)) → AllByRecursion (IsScanWrite s places remaining words) writes → List UndoEntry
 scan_entries s places remaining words [] all = []
-scan_entries s places remaining words (w ∷ ws) all = record { object = all.0.object; field = all.0.field; was = w.1 } ∷ scan_entries s places remaining words ws all.1
+scan_entries s places remaining words (w ∷ ws) all = undo_entry all.0.object all.0.field w.1 ∷ scan_entries s places remaining words ws all.1
 
 entries_put : (s : State) (places remaining : Places) (words : List ℕ) (writes : List (ℕ × ℕ)) (all : AllByRecursion (IsScanWrite s places remaining words) writes) (now : List ℕ)
     → put_all now writes ≡ taken_back (scan_entries s places remaining words writes all) now

@@ -17,6 +17,7 @@ use Rattle.graph_model.specs.Plain.{busy_with}
 use Rattle.graph_model.specs.declared.reply.Reply.TheVariants.{Done}
 use Rattle.log_machine.specs.Effect.{WritesBelow}
 use Rattle.log_machine.proofs.ListLaws.{AllByRecursion-append}
+use Rattle.log_machine.specs.UndoEntry.{undo_entry}
 use Rattle.object_locks.specs.Holder.{holder_of}
 use Rattle.object_locks.specs.declared.holding.Holding.{Holding}
 use Rattle.object_locks.specs.declared.holding.Mode.TheVariants.{Exclusive}
@@ -57,7 +58,7 @@ invariant_of-self-2-clause-room c =
 pub invariant_of-self-2-clause-sound : goal.invariant_of-self-2-clause-sound
 invariant_of-self-2-clause-sound c =
     let s = c.args.self.now in
-    let entry : UndoEntry = record { object = c.args.object; field = c.args.field; was = c.word_behind-was.result } in
+    let entry : UndoEntry = undo_entry c.args.object c.args.field c.word_behind-was.result in
     let here = field_within (cached s.cache).words c.args.object c.args.field c.requires.there in
     let table = c.keep_write.new.table in
     let written = sound_write s.table table (length (cached s.cache).words) s.reserved s.sealed c.args.session entry s.sound c.requires.active c.in_default-keep_write.ensures.kept here in

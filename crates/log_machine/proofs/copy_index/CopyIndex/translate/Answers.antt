@@ -5,13 +5,14 @@ use Rattle.log_machine.specs.Translation.{translated_entry}
 use Rattle.log_machine.specs.Collecting.{pairs_of}
 use Rattle.log_machine.proofs.Mapped.{put_mapped}
 use Rattle.log_machine.proofs.copy_index.CopyIndex.translate.Goals as goal
+use Rattle.log_machine.specs.UndoEntry.{undo_entry}
 
 pub loop-entry-preserved : goal.loop-entry-preserved
 loop-entry-preserved c =
     let xs = c.args.entries.now in
     let i = c.loop-entry.entry-index in
     let f = translated_entry (pairs_of c.args.self.now.copies.now) in
-    let d : UndoEntry = record { object = 0; field = 0; was = 0 } in
+    let d : UndoEntry = undo_entry 0 0 0 in
     let before = map f (take i xs) ++ drop i xs in
     let is : c.loop-entry.entries ≡ before = c.loop-entry.invariant in
     ap (λ es. set es i c.translated.result) is
