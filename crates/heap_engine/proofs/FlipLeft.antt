@@ -30,7 +30,7 @@ use Rattle.graph_model.specs.declared.reply.Reply.TheVariants.{Collecting}
 use Rattle.graph_model.specs.Plain.{reply_of}
 use Rattle.heap_engine.specs.Barrier.{IsSoundCollection, IsSoundIn}
 use Rattle.heap_memory.specs.Memory.{Memory}
-use Rattle.heap_memory.specs.Leaves.{Leaves, Flips, key_moves}
+use Rattle.heap_memory.specs.Leaves.{Leaves, Flips}
 use Rattle.heap_memory.specs.Collecting.{flip_copies}
 use Rattle.heap_memory.specs.Refusals.{flip_refusal}
 use Rattle.heap_memory.specs.Replies.{flip_reply}
@@ -129,13 +129,13 @@ flip_waits m roots runs = ap (λ (b : Bool). reply_of (if b then None else flip_
 
 -- the flip of these copies
 pub flips_with : (old new : Memory) (roots : List ℕ) (copies : List ObjectCopy) → copies ≡ flip_copies old roots → old.collection ≡ None → AreRoots old.table old.locks roots → HaveGoneAlong (pairs_of copies) old.table new.table
-    → Leaves old new (Flip copies ∷ []) new.table (rekeyed (key_moves (pairs_of copies)) old.locks) (with_copied (flipped old.spaces) (copied_size copies)) (Some (with_copies (begun old.spaces.used) (moved_objects copies))) old.sealed
+    → Leaves old new (Flip copies ∷ []) new.table (rekeyed (pairs_of copies) old.locks) (with_copied (flipped old.spaces) (copied_size copies)) (Some (with_copies (begun old.spaces.used) (moved_objects copies))) old.sealed
     → Flips old new roots
 flips_with old new roots copies are idle named gone left = record {
   idle = idle;
   named = named;
   moved = subst (λ (cs : List ObjectCopy). HaveGoneAlong (pairs_of cs) old.table new.table) are gone;
   left =
-      subst (λ (cs : List ObjectCopy). Leaves old new (Flip cs ∷ []) new.table (rekeyed (key_moves (pairs_of cs)) old.locks) (with_copied (flipped old.spaces) (copied_size cs)) (Some (with_copies (begun old.spaces.used) (moved_objects cs))) old.sealed)
+      subst (λ (cs : List ObjectCopy). Leaves old new (Flip cs ∷ []) new.table (rekeyed (pairs_of cs) old.locks) (with_copied (flipped old.spaces) (copied_size cs)) (Some (with_copies (begun old.spaces.used) (moved_objects cs))) old.sealed)
       are left;
 }

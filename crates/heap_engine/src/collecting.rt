@@ -2,7 +2,6 @@
 ghost use Rattle.std.specs.Prelude.{◌≡◌, ◌↔◌, ℕ, ◌≤◌, ◌<◌, ◌^◌, List, length, Option, None, Some, Ok, OnErr, IfOk, IsSome, IsTrue};
 ghost use Rattle.flip_copy.specs.Copied.{copied_size};
 ghost use Rattle.flip_copy.specs.Plan.{AreCopiesOf};
-ghost use Rattle.heap_memory.specs.Leaves.{key_moves};
 ghost use Rattle.heap_spaces.specs.Spaces.{flipped, with_copied};
 ghost use Rattle.log_machine.specs.Collecting.{pairs_of};
 ghost use Rattle.log_machine.specs.Translation.{translated_list};
@@ -22,10 +21,9 @@ use heap_words::FIELDS_AT;
 use log_machine::UndoEntry;
 use log_records::Record;
 use object_layout::WordSlice;
-use object_locks::Key;
 use page_scanner::next_gray_page;
 use relocation::moved_to;
-use std::alloc::{AllocError, Global};
+use std::alloc::AllocError;
 use txn_table::SESSIONS;
 
 impl Engine {
@@ -56,9 +54,8 @@ impl Engine {
         }
         let mut collection = Collection::begin(self.alloc, used);
         collection.add_copies(plan.moved())?;
-        let moves = moves_of(self.alloc, plan.pairs())?;
         // The last step that may run out of memory.
-        self.locks.rekey(&moves)?;
+        self.locks.rekey(plan.pairs())?;
         let reply = change_spaces(&mut self.spaces, &plan);
         self.table.translate(plan.pairs());
         self.collection = Some(collection);
@@ -188,15 +185,4 @@ fn change_spaces(spaces: &mut Spaces, plan: &FlipPlan) -> Reply
         objects: plan.moved().len() as u64,
         words: u64::from(spaces.used()),
     }
-}
-
-/// The old address of each object and its new one, as locks name it.
-fn moves_of(alloc: Global, pairs: &[(u32, u32)]) -> Result<Vec<(Key, Key)>, AllocError>
-    ensures { IfOk result (λ moves. moves.items ≡ key_moves pairs.now) }
-{
-    let mut moves = Vec::with_capacity(alloc, pairs.len())?;
-    for (from, to) in pairs {
-        moves.push((Key { address: *from }, Key { address: *to }))?;
-    }
-    Ok(moves)
 }

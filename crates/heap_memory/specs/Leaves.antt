@@ -1,5 +1,5 @@
 -- What an event of a session leaves in memory.
-use Rattle.std.specs.Prelude.{◌≡◌, ℕ, ◌+◌, List, [], ◌∷◌, ◌++◌, length, map, Option, None, Some, Ok, slice_set, slice_index, fold}
+use Rattle.std.specs.Prelude.{◌≡◌, ℕ, ◌+◌, List, [], ◌∷◌, ◌++◌, length, Option, None, Some, Ok, slice_set, slice_index, fold}
 use Rattle.std.specs.FinSet as set
 use Rattle.gated_log.specs.declared.log.Log.{Log}
 use Rattle.gated_log.specs.LogState.{IsPlaced, IsSameLog, Keeps}
@@ -24,7 +24,6 @@ use Rattle.txn_table.specs.Roots.{AreRoots}
 use Rattle.txn_table.specs.Translation.{HaveGoneAlong}
 use Rattle.object_locks.specs.declared.holding.Mode.{Mode}
 use Rattle.object_locks.specs.declared.holding.Mode.TheVariants.{Shared, Exclusive}
-use Rattle.object_locks.specs.declared.holding.Key.{Key}
 use Rattle.object_locks.specs.Holdings.{Holdings, without, rekeyed}
 use Rattle.txn_table.specs.declared.place.Place.{Place}
 use Rattle.txn_table.specs.declared.place.Place.TheVariants.{Stable, Volatile}
@@ -162,17 +161,13 @@ pub record Aborts (old new : Memory) (s : ℕ) : Type 0 where
   pub was : own old s ≡ Some transaction
   pub left : Leaves old new (abort_records transaction.number transaction.undo) (with_ended old.table s) (without old.locks transaction.number) old.spaces old.collection old.sealed
 
--- how locks name where objects stood and where they stand now
-abbrev pub key_moves : List (ℕ × ℕ) → List (Key × Key)
-key_moves pairs = map (λ pair. (record { address = pair.0 }, record { address = pair.1 })) pairs
-
 -- A collection began with the copies of these roots: the spaces have changed their roles, and what transactions keep and lock has gone along.
 pub record Flips (old new : Memory) (roots : List ℕ) : Type 0 where
   pub idle : old.collection ≡ None
   pub named : AreRoots old.table old.locks roots
   pub moved : HaveGoneAlong (pairs_of (flip_copies old roots)) old.table new.table
   pub left : let copies = flip_copies old roots in
-      Leaves old new (flip_records old roots) new.table (rekeyed (key_moves (pairs_of copies)) old.locks) (with_copied (flipped old.spaces) (copied_size copies))
+      Leaves old new (flip_records old roots) new.table (rekeyed (pairs_of copies) old.locks) (with_copied (flipped old.spaces) (copied_size copies))
       (Some (with_copies (begun old.spaces.used) (moved_objects copies))) old.sealed
 
 -- The next page was scanned, or the collection has ended.

@@ -8,11 +8,11 @@ use Rattle.std.specs.Ordering.{nat_cmp, ordering_then, eq_by_cmp, is_eq, is_gt, 
 use Rattle.std.specs.declared.cmp.Ordering.{Ordering}
 use Rattle.std.specs.BTreeSet.{BTreeSet, Updates, contains, IsOrdered, IsKeyInRange, IsKeyRangeOf}
 use Rattle.std.specs.declared.ops.Bound.TheVariants.{Included, Unbounded}
-use Rattle.object_locks.specs.declared.holding.Mode.TheVariants.{Shared}
+use Rattle.object_locks.specs.declared.holding.Mode.TheVariants.{Shared, Exclusive}
 use Rattle.object_locks.specs.declared.holding.Holding.{Holding}
 use Rattle.object_locks.specs.declared.lock_table.Owned.{Owned}
 use Rattle.object_locks.specs.contracts.lock_table.OwnedOrd.TheImpl as owned_ord
-use Rattle.object_locks.specs.Holdings.{Holdings, holding_cmp, writing, MayHold, IsLeastInConflict}
+use Rattle.object_locks.specs.Holdings.{Holdings, holding_cmp, MayHold, IsLeastInConflict}
 use Rattle.object_locks.specs.Conflict.{conflicts}
 use Rattle.object_locks.specs.Table.{owned_cmp, owned, of_object, on_object, IsTable, HasNone}
 use Rattle.object_locks.proofs.Orders.{by_transaction_is, holding_total, holding_exact, first_on_object, last_on_object, least_on_object, first_of_transaction, upto_number}
@@ -108,7 +108,7 @@ conflict_in_range h asked e small =
     let same = conflict_key h asked e in
     both_pass _ _
     (is_le_not_gt _ (first_on_object asked.key h (sym same)))
-    (ap is_lt (holding_total.antisymm (writing 4294967295 asked.key) h) ∙ not_lt_turned _ (last_on_object asked.key h (sym same) small))
+    (ap is_lt (holding_total.antisymm (record { key = asked.key; transaction = 4294967295; mode = Exclusive }) h) ∙ not_lt_turned _ (last_on_object asked.key h (sym same) small))
 
 not_true : (b : Bool) → (b ≡ true → ⊥) → b ≡ false
 not_true true f = absurd (f refl)

@@ -1,5 +1,5 @@
 -- What is held, as a set: who uses which object, and how.
-use Rattle.std.specs.Prelude.{◌≡◌, ℕ, ◌≤◌, ◌==◌, ◌↔◌, true, false, not, List, [], ◌∷◌, map, Contains, if◌then◌else◌}
+use Rattle.std.specs.Prelude.{◌≡◌, ℕ, ◌≤◌, ◌==◌, ◌↔◌, true, false, not, List, map, Contains}
 use Rattle.std.specs.List.Sorted.{IsStrictlyIncreasing}
 use Rattle.std.specs.Ordering.{nat_cmp, ordering_then}
 use Rattle.std.specs.declared.cmp.Ordering.{Ordering}
@@ -9,6 +9,7 @@ use Rattle.object_locks.specs.declared.holding.Mode.{Mode}
 use Rattle.object_locks.specs.declared.holding.Mode.TheVariants.{Shared, Exclusive}
 use Rattle.object_locks.specs.declared.holding.Holding.{Holding}
 use Rattle.object_locks.specs.Conflict.{conflicts}
+use Rattle.relocation.specs.Relocation.{moved_to}
 
 abbrev pub mode_number : Mode → ℕ
 mode_number Shared = 0
@@ -23,14 +24,6 @@ holding_cmp a b =
 -- what is held
 abbrev pub Holdings : Type 0
 Holdings = set.FinSet holding_cmp
-
--- transaction t reads the object
-abbrev pub reading : ℕ → Key → Holding
-reading t key = record { key = key; transaction = t; mode = Shared }
-
--- transaction t writes the object
-abbrev pub writing : ℕ → Key → Holding
-writing t key = record { key = key; transaction = t; mode = Exclusive }
 
 -- transaction t holds something that conflicts with what is asked for
 abbrev pub IsInConflict : Holdings → Holding → ℕ → Type 0
@@ -58,15 +51,10 @@ pub record AreLocked (held : Holdings) (addresses : List ℕ) : Type 0 where
 abbrev pub without : Holdings → ℕ → Holdings
 without held t = set.retain held (λ h. not (h.transaction == t))
 
--- where an object is after the moves, each from one address to another; it stays if no move names it
-abbrev pub moved : List (Key × Key) → Key → Key
-moved [] key = key
-moved (move ∷ moves) key = if move.0.address == key.address then move.1 else moved moves key
-
--- a holding whose object has moved
-abbrev pub moved_with : List (Key × Key) → Holding → Holding
-moved_with moves h = record h { key = moved moves h.key }
+-- a holding whose object has moved, as pairs of old and new addresses say
+abbrev pub moved_with : List (ℕ × ℕ) → Holding → Holding
+moved_with pairs h = record h { key = record { address = moved_to pairs h.key.address } }
 
 -- what is held after the objects have moved
-abbrev pub rekeyed : List (Key × Key) → Holdings → Holdings
-rekeyed moves held = set.from_list (map (moved_with moves) (set.items held))
+abbrev pub rekeyed : List (ℕ × ℕ) → Holdings → Holdings
+rekeyed pairs held = set.from_list (map (moved_with pairs) (set.items held))

@@ -1,5 +1,5 @@
 -- How the table keeps what is held.
-use Rattle.std.specs.Prelude.{◌≡◌, ℕ, ◌<◌, ◌^◌, Bool, true, false, List, Some, unwrap_or, ◌==◌, if◌then◌else◌}
+use Rattle.std.specs.Prelude.{◌≡◌, ℕ, ◌<◌, ◌^◌, Bool, true, false, List, if◌then◌else◌}
 use Rattle.std.specs.Ordering.{nat_cmp, ordering_then}
 use Rattle.std.specs.declared.cmp.Ordering.{Ordering}
 use Rattle.std.specs.Coded.{Coded, code_by, coded×, coded_ℕ, coded_bool}
@@ -8,8 +8,6 @@ use Rattle.std.specs.FinSet as set
 use Rattle.std.specs.List.{filter}
 use Rattle.std.specs.BTreeMap.Range.{range_contains}
 use Rattle.std.specs.BTreeSet.{BTreeSet}
-use Rattle.std.specs.BTreeMap.{BTreeMap}
-use Rattle.std.specs.BTreeMap as map
 use Rattle.std.specs.BTreeSet as tree
 use Rattle.std.proofs.Common.{refl}
 use Rattle.object_locks.specs.declared.holding.Key.{Key}
@@ -55,9 +53,6 @@ pub record IsTable (by_object : BTreeSet Holding) (by_transaction : BTreeSet Own
   pub same : (h : Holding) → tree.contains owned_cmp by_transaction (owned h) ≡ tree.contains holding_cmp by_object h
   pub small : (h : Holding) → tree.contains holding_cmp by_object h ≡ true → h.transaction < 2 ^ 32
 
-abbrev pub key_cmp : Key → Key → Ordering
-key_cmp a b = nat_cmp a.address b.address
-
 -- whether a holding stands between the first possible one of an object and its last
 abbrev pub of_object : Key → Holding → Bool
 of_object key h =
@@ -74,7 +69,3 @@ IsOf held t h = (h.transaction ≡ t) × (set.contains held h ≡ true)
 -- transaction t holds nothing
 abbrev pub HasNone : Holdings → ℕ → Type 0
 HasNone held t = (h : Holding) → IsOf held t h → ⊥
-
--- a move from one address is known; if there was one already, the old one stays
-abbrev pub AddsMove : BTreeMap Key Key → BTreeMap Key Key → Key → Key → Type 0
-AddsMove old new from to = (q : Key) → map.get key_cmp new q ≡ (if from.address == q.address then Some (unwrap_or (map.get key_cmp old q) to) else map.get key_cmp old q)

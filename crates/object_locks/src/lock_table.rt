@@ -1,20 +1,19 @@
 //! The table of the locks that are held.
 //!
 //! A lock, or a test for one, takes time logarithmic in what is held, times what is held of that object. `release` takes that logarithm
-//! times what the transaction holds, and `rekey` the time to rebuild the table.
-ghost use Rattle.std.specs.Prelude.{◌≡◌, OnOk, OnErr, IfOk, IfErr, MatchOption, unwrap_or, find};
-ghost use Rattle.std.specs.BTreeMap as tree;
+//! times what the transaction holds, and `rekey` the time to rebuild the table and to look each lock's object up.
+ghost use Rattle.std.specs.Prelude.{◌≡◌, OnOk, OnErr, IfOk, MatchOption, find};
 ghost use Rattle.std.specs.BTreeSet.{IsOrdered};
 ghost use Rattle.std.specs.FinSet as set;
-ghost use Rattle.object_locks.specs.Holdings.{holding_cmp, reading, writing, MayHold, IsLeastInConflict, without, moved, rekeyed, AreLocked};
-ghost use Rattle.object_locks.specs.Table.{owned, on_object, IsOf, HasNone, key_cmp, AddsMove};
+ghost use Rattle.object_locks.specs.Holdings.{holding_cmp, MayHold, IsLeastInConflict, without, rekeyed, AreLocked};
+ghost use Rattle.object_locks.specs.Table.{owned, on_object, IsOf, HasNone};
 ghost use Rattle.object_locks.specs.Conflict.{conflicts};
-ghost use Rattle.object_locks.specs.Refused.{IsCause};
+ghost use Rattle.relocation.specs.Relocation.{IsRelocation};
 
 use crate::holding::{Holding, Key, Mode};
-use crate::lock_error::LockError;
+use relocation::moved_to;
 use std::alloc::{AllocError, Global};
-use std::collections::{BTreeMap, BTreeSet};
+use std::collections::BTreeSet;
 use std::marker::Model;
 
 /// A holding, by its transaction.
@@ -68,34 +67,6 @@ impl LockTable {
         Some(held.transaction)
     }
 
-    /// Transaction `t` locks an object to read it. After an error nothing has changed.
-    pub fn read_lock(&mut self, key: Key, t: u32) -> Result<(), LockError>
-        ensures granted { OnOk result (self.new ≡ set.insert self.old (reading t key)) }
-        ensures free { OnOk result (MayHold self.old (reading t key)) }
-        ensures busy { IfErr result (IsCause self.old (reading t key)) }
-        ensures err { OnErr result (self.new ≡ self.old) }
-    {
-        self.lock(Holding {
-            key,
-            transaction: t,
-            mode: Mode::Shared,
-        })
-    }
-
-    /// Transaction `t` locks an object to write it. Its own lock to read it is no conflict, those of others are. An error changes nothing.
-    pub fn write_lock(&mut self, key: Key, t: u32) -> Result<(), LockError>
-        ensures granted { OnOk result (self.new ≡ set.insert self.old (writing t key)) }
-        ensures free { OnOk result (MayHold self.old (writing t key)) }
-        ensures busy { IfErr result (IsCause self.old (writing t key)) }
-        ensures err { OnErr result (self.new ≡ self.old) }
-    {
-        self.lock(Holding {
-            key,
-            transaction: t,
-            mode: Mode::Exclusive,
-        })
-    }
-
     /// Takes a lock with which no other transaction's conflicts, as `conflict` says. An error changes nothing.
     pub fn take(&mut self, lock: Holding) -> Result<(), AllocError>
         requires { MayHold self.old lock }
@@ -103,20 +74,6 @@ impl LockTable {
         ensures err { OnErr result (self.new ≡ self.old) }
     {
         self.add(lock)
-    }
-
-    // Takes the lock that is asked for, if no other transaction's conflicts with it.
-    fn lock(&mut self, asked: Holding) -> Result<(), LockError>
-        ensures granted { OnOk result (self.new ≡ set.insert self.old asked) }
-        ensures free { OnOk result (MayHold self.old asked) }
-        ensures busy { IfErr result (IsCause self.old asked) }
-        ensures err { OnErr result (self.new ≡ self.old) }
-    {
-        if let Some(holder) = self.conflict(asked) {
-            return Err(LockError::Busy { holder });
-        }
-        self.take(asked)?;
-        Ok(())
     }
 
     // Adds a holding. An error changes nothing.
@@ -182,19 +139,18 @@ impl LockTable {
         Ok(addresses)
     }
 
-    /// The objects have moved, each from the first key of a pair to the second, and the locks on them move along. An object that
-    /// no pair names has stayed; of several pairs from one key the first counts. It fails only if memory runs out, and then nothing has
+    /// The objects have moved, as these pairs say, and the locks on them move along. It fails only if memory runs out, and then nothing has
     /// changed: a caller who moves more than the locks should call it first, and then do what can't fail.
-    pub fn rekey(&mut self, moves: &[(Key, Key)]) -> Result<(), AllocError>
-        ensures ok { OnOk result (self.new ≡ rekeyed moves.now self.old) }
+    pub fn rekey(&mut self, pairs: &[(u32, u32)]) -> Result<(), AllocError>
+        requires { IsRelocation pairs.now }
+        ensures ok { OnOk result (self.new ≡ rekeyed pairs.now self.old) }
         ensures err { OnErr result (self.new ≡ self.old) }
     {
-        let destinations = destinations(self.alloc, moves)?;
         let mut table = LockTable::new(self.alloc);
         for holding in &self.by_object {
-            let to = destinations.get(&holding.key).copied();
+            let address = moved_to(pairs, holding.key.address);
             table.add(Holding {
-                key: to.unwrap_or(holding.key),
+                key: Key { address },
                 ..*holding
             })?;
         }
@@ -221,27 +177,6 @@ fn find_conflict(held: &BTreeSet<Holding>, asked: Holding) -> Option<Holding>
     held.range(first..=last)
         .find(|h| h.conflicts_with(asked))
         .copied()
-}
-
-// Where each object goes.
-fn destinations(alloc: Global, moves: &[(Key, Key)]) -> Result<BTreeMap<Key, Key>, AllocError>
-    ensures { IfOk result (λ map. (key : Key) → unwrap_or (tree.get key_cmp map key) key ≡ moved moves.now key) }
-{
-    let mut map = BTreeMap::new(alloc);
-    for (from, to) in moves {
-        add_move(&mut map, *from, *to)?;
-    }
-    Ok(map)
-}
-
-// Adds a move, unless there is one from there already.
-fn add_move(map: &mut BTreeMap<Key, Key>, from: Key, to: Key) -> Result<(), AllocError>
-    ensures { OnOk result (AddsMove map.old map.new from to) }
-{
-    if !map.contains_key(&from) {
-        map.insert(from, to)?;
-    }
-    Ok(())
 }
 
 // The holding, by its transaction.

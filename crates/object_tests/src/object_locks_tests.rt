@@ -1,6 +1,6 @@
 //! Locks that are granted, refused, freed and moved.
 use crate::compare::same;
-use object_locks::{Holding, Key, LockError, LockTable, Mode};
+use object_locks::{Holding, Key, LockTable, Mode};
 use std::alloc::AllocError;
 use std::process::Abort;
 use std::test::Fail;
@@ -54,20 +54,30 @@ const MOVED: [Row; 6] = [
     (9, Read(0), Some(4294967295)),
 ];
 
-fn ask(rt: &impl Abort, table: &mut LockTable, rows: &[Row]) {
+fn ask(rt: &impl Abort, table: &mut LockTable, rows: &[Row]) -> Result<(), AllocError> {
     for (t, act, holder) in rows {
-        let answer = match act {
-            Read(address) => table.read_lock(at(*address), *t),
-            Write(address) => table.write_lock(at(*address), *t),
-        };
-        same(rt, (*t, answer), (*t, answer_of(*holder)));
+        let lock = lock_of(*t, act);
+        let held = table.conflict(lock);
+        same(rt, (*t, held), (*t, *holder));
+        if held.is_none() {
+            table.take(lock)?;
+        }
     }
+    Ok(())
 }
 
-fn answer_of(holder: Option<u32>) -> Result<(), LockError> {
-    match holder {
-        Some(holder) => Err(LockError::Busy { holder }),
-        None => Ok(()),
+fn lock_of(transaction: u32, act: &Act) -> Holding {
+    match act {
+        Read(address) => Holding {
+            key: at(*address),
+            transaction,
+            mode: Mode::Shared,
+        },
+        Write(address) => Holding {
+            key: at(*address),
+            transaction,
+            mode: Mode::Exclusive,
+        },
     }
 }
 
@@ -75,21 +85,16 @@ fn release_and_move(rt: &impl Abort, table: &mut LockTable) -> Result<(), AllocE
     for t in [3, 5, 7] {
         table.release(t);
     }
-    ask(rt, table, &RELEASED);
-    table.rekey(&[
-        (at(12), at(10)),
-        (at(10), at(12)),
-        (at(11), at(70)),
-        (at(11), at(71)),
-    ])
+    ask(rt, table, &RELEASED)?;
+    table.rekey(&[(10, 12), (11, 70), (12, 10)])
 }
 
 #[test]
 fn locks_are_granted_and_refused(rt: HostRuntime) -> Result<(), Fail> {
     let mut table = LockTable::new(rt.alloc());
-    ask(&rt, &mut table, &FIRST);
+    ask(&rt, &mut table, &FIRST)?;
     release_and_move(&rt, &mut table)?;
-    ask(&rt, &mut table, &MOVED);
+    ask(&rt, &mut table, &MOVED)?;
     let asked = Holding {
         key: at(70),
         transaction: 2,

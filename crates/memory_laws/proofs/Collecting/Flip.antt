@@ -67,7 +67,7 @@ use Rattle.core_laws.specs.Valid.{Agrees, IsValid, IsWriting}
 use Rattle.heap_memory.specs.Memory as memory
 use Rattle.heap_memory.specs.Memory.{Memory}
 use Rattle.heap_memory.specs.Collecting as collecting
-use Rattle.heap_memory.specs.Leaves.{Flips, IsAsItWas, Leaves, key_moves}
+use Rattle.heap_memory.specs.Leaves.{Flips, IsAsItWas, Leaves}
 use Rattle.heap_memory.specs.Refusals.{flip_refusal, records_room}
 use Rattle.heap_memory.specs.Replies.{flip_reply}
 use Rattle.memory_laws.specs.CoreMemory.{AreHeld, AreSessions, IsHeld, IsMemory, kept, kept_of, mode_of, place_in}
@@ -329,7 +329,7 @@ module _ (m : Memory) (c : Core) (valid : IsValid c) (is : IsMemory m (account c
     lock_root : (h : Holding) (x : IsHeld c.places c.g0 a h) → address_of (currents none) x.id ≡ Some (moved_to (pairs none) h.key.address)
     lock_root h x = goes x.id h.key.address x.place (locked_one x.session x.transaction x.active x.id h.key.address (mode_of h.mode) x.lock)
 
-    locks_then : AreHeld (rekeyed (key_moves (pairs none)) m.locks) (currents none) c.g0 a
+    locks_then : AreHeld (rekeyed (pairs none) m.locks) (currents none) c.g0 a
     locks_then =
         held_along m.locks c.places (currents none) c.g0 a (pairs none) is.sessions.locks lock_root (λ h x.
         elim (none_or_some (address_of c.places x.id)) [
@@ -354,7 +354,7 @@ module _ (m : Memory) (c : Core) (valid : IsValid c) (is : IsMemory m (account c
 
       abbrev LeavesSo : List ObjectCopy → Type 0
       LeavesSo cs =
-          Leaves m n (logged.Flip cs ∷ []) n.table (rekeyed (key_moves (pairs_of cs)) m.locks) (with_copied (flipped m.spaces) (copied_size cs)) (Some (with_copies (begun m.spaces.used) (moved_objects cs))) m.sealed
+          Leaves m n (logged.Flip cs ∷ []) n.table (rekeyed (pairs_of cs) m.locks) (with_copied (flipped m.spaces) (copied_size cs)) (Some (with_copies (begun m.spaces.used) (moved_objects cs))) m.sealed
 
       left : LeavesSo (copies none)
       left = subst LeavesSo same flips.left

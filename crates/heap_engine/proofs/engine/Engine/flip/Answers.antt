@@ -19,7 +19,7 @@ use Rattle.page_redo.specs.Redo.{redo_all}
 use Rattle.relocation.specs.Relocation.{IsRelocation}
 use Rattle.txn_table.specs.Table.{TableState}
 use Rattle.txn_table.specs.Translation.{HaveGoneAlong}
-use Rattle.heap_memory.specs.Leaves.{Adds, key_moves}
+use Rattle.heap_memory.specs.Leaves.{Adds}
 use Rattle.heap_engine.specs.EngineState.{memory}
 use Rattle.heap_engine.specs.Reserve.{GoAlongBelow}
 use Rattle.heap_engine.proofs.FlipLeft.{flip_bytes, flip_below, flip_sound, flip_owes, flip_begins, flip_waits, flips_with}
@@ -92,13 +92,12 @@ returns-clause-flipped c objects words is =
     let log = subst (λ (rec : Record). Adds mid.log c.carry_out.new.log (rec ∷ [])) c.into_record.ensures c.carry_out.ensures.log in
     let put = c.carry_out.ensures.words ∙ ap (λ (rec : Record). fold put_record (cached mid.cache).words (rec ∷ [])) c.into_record.ensures in
     let lsns = c.carry_out.ensures.lsns ∙ ap (λ (rec : Record). (redo_all (log_next_lsn mid.log) (cached mid.cache) (rec ∷ [])).lsns) c.into_record.ensures in
-    let keys = c.deref.ensures.value ∙ c.in_ok-moves.ensures ∙ ap key_moves c.pairs.ensures.pairs in
-    let locks = c.in_ok-rekey.ensures.ok ∙ (λ i. rekeyed (keys i) (same.locks i)) in
+    let locks = c.in_ok-rekey.ensures.ok ∙ (λ i. rekeyed (c.pairs.ensures.pairs i) (same.locks i)) in
     let spaces = c.change_spaces-reply.ensures.spaces ∙ ap (λ (x : SpacesState). with_copied (flipped x) (copied_size copies)) same.spaces in
     let begins = flip_begins s.spaces copies c.moved.result.now c.begin-collection.result c.add_copies.new.self c.used-used.result c.begin-collection.ensures c.used-used.ensures.used c.moved.ensures.moved c.in_ok-add_copies.ensures.ok in (
       roots.0,
       flips_with (memory s) _ roots.0 copies roots.2 idle roots.1 gone
-          (from_same (memory s) (memory mid) _ (Flip copies ∷ []) c.translate.new.self (rekeyed (key_moves (pairs_of copies)) s.locks) (with_copied (flipped s.spaces) (copied_size copies))
+          (from_same (memory s) (memory mid) _ (Flip copies ∷ []) c.translate.new.self (rekeyed (pairs_of copies) s.locks) (with_copied (flipped s.spaces) (copied_size copies))
           (Some (with_copies (begun s.spaces.used) (moved_objects copies))) s.sealed same (record {
             log = log;
             words = put;

@@ -6,4 +6,4 @@ use Rattle.object_locks.proofs.lock_table.LockTable.rekey.Given as goal
 
 -- the holdings visited so far have moved
 abbrev pub invariant-loop-holding : goal.invariant-loop-holding
-invariant-loop-holding l = l.table ≡ set.from_list (map (moved_with l.fn.moves) (map deref l.yielded))
+invariant-loop-holding l = l.table ≡ set.from_list (map (moved_with l.fn.pairs) (map deref l.yielded))
