@@ -3,3 +3,4 @@ pub mod PageLaws
 pub mod PrefixLaws
 pub mod RedoLaws
 pub mod RedoSteps
+pub mod Touched

@@ -14,6 +14,7 @@ use Rattle.page_redo.specs.Pages.{Pages, pages_in, page_of, lsn_of, touched, tou
 use Rattle.page_redo.specs.Prefix.{HasAllWords}
 use Rattle.page_redo.specs.Redo.{lacks, redo_record, redo_all}
 use Rattle.page_redo.proofs.PageLaws.{put_kept, put_left, put_elsewhere, length-raised_to, raised_to-other, raised_to-touched}
+use Rattle.page_redo.proofs.Touched.{touches-address}
 
 -- how many of a log's records have an LSN up to this one
 abbrev pub count_to : Origin → ℕ → ℕ
@@ -81,7 +82,7 @@ module _ (o : Origin) (whole : HasAllWords o) (records : List Record) where
           | inl last ↦ let so : n + 1 ≡ count_to o (lsn_of new p) = omega (arith, kept.0, last, le) in ap (word_at a) so
           | inr before ↦
               ap (λ (l : List ℕ). get_or l a 0) next
-              ∙ put_elsewhere p a there (effect (words_after n) r) (words_after n) (ap (λ (l : List ℕ). list_any (λ q. q == p) (map page_of l)) (effect-addresses (words_after n) r) ∙ kept.1)
+              ∙ put_elsewhere p a there (effect (words_after n) r) (words_after n) (ap (λ (l : List ℕ). list_any (λ q. q == p) (map page_of l)) (effect-addresses (words_after n) r) ∙ sym (touches-address r p) ∙ kept.1)
               ∙ is.own p a lt before there
               ∙ ap (λ (k : ℕ). word_at a (count_to o k)) (sym kept.0)
         ])

@@ -1,3 +1,4 @@
 pub mod Pages
 pub mod Prefix
+pub mod Ranges
 pub mod Redo

@@ -1,10 +1,11 @@
 -- Pages of words, each with an LSN, and which of them a record touches.
-use Rattle.std.specs.Prelude.{ℕ, ◌*◌, ◌==◌, Bool, List, map, take, drop, replicate, slice_index}
-use Rattle.std.specs.List.{list_any}
+use Rattle.std.specs.Prelude.{ℕ, ◌*◌, ◌==◌, Bool, List, take, drop, replicate, slice_index}
+use Rattle.std.specs.List.{flat_map, list_any}
 use Rattle.log_records.specs.declared.Record.{Record}
-use Rattle.log_machine.specs.Machine.{addresses, first_contents}
+use Rattle.log_machine.specs.Machine.{first_contents}
 use Rattle.heap_words.specs.declared.TheConstants.{PAGE_WORDS}
 pub use Rattle.heap_spaces.specs.Collection.{page_of}
+use Rattle.page_redo.specs.Ranges.{range_pages, ranges}
 
 -- The pages of both spaces, each with its LSN: all words by address, and the LSNs by page.
 pub record Pages : Type 0 where
@@ -27,9 +28,9 @@ lsn_of at p = slice_index at.lsns p
 abbrev pub first_pages : ℕ → Pages
 first_pages pages = record { words = first_contents pages; lsns = replicate (pages_in pages) 0 }
 
--- the pages that a record touches: those in which the addresses lie that it writes
+-- the pages that a record touches: those in which the words lie that it writes
 abbrev pub touched : Record → List ℕ
-touched rec = map page_of (addresses rec)
+touched rec = flat_map range_pages (ranges rec)
 
 -- whether it touches a page
 abbrev pub touches : Record → ℕ → Bool

@@ -7,8 +7,12 @@ use Rattle.log_machine.specs.Effect.{WritesBelow}
 use Rattle.log_machine.specs.Machine.{put_all}
 use Rattle.log_machine.proofs.Addresses.{effect_writes}
 use Rattle.log_machine.proofs.ListLaws.{AllByRecursion-front, AllByRecursion-behind}
+use Rattle.page_redo.specs.Pages.{page_of}
+use Rattle.page_redo.specs.Redo.{raised_to}
 use Rattle.page_redo.proofs.RedoLaws.{redo_record-words}
-use Rattle.page_cache.specs.Writing.{AreBelow}
+use Rattle.page_redo.proofs.Touched.{raised-touched}
+use Rattle.page_cache.specs.Writing.{AreBelow, pages_of}
+use Rattle.page_cache.proofs.PutLaws.{raised_on}
 use Rattle.page_cache.proofs.applying.apply_copy.Goals as goal
 
 -- what a copy writes lies below an address: its words, and the word that leads to them
@@ -49,3 +53,16 @@ returns-clause-words c =
     ∙ (λ i. put_all (put_all c.args.words.now (enumerate_from copy.to copy.words)) ((c.from-from.ensures i, forwarding i) ∷ []))
     ∙ sym (fold-append (λ (l : List ℕ) (w : ℕ × ℕ). set l w.0 w.1) c.args.words.now (enumerate_from copy.to copy.words) ((copy.from, 4 * copy.to + 2) ∷ []))
     ∙ sym (redo_record-words c.args.lsn (record { words = c.args.words.now; lsns = c.args.lsns.now }) (copy_record copy) c.requires.new)
+
+pub returns-clause-lsns : goal.returns-clause-lsns
+returns-clause-lsns c =
+    let copy = c.args.copy.now in
+    let lsn = c.args.lsn in
+    let lsns = c.args.lsns.now in
+    let words = enumerate_from copy.to copy.words in
+    c.raise_page.ensures
+    ∙ ap (λ (now : List ℕ). raised_to lsn now (page_of c.from-from.result ∷ []))
+    (c.raise_from.ensures ∙ (λ i. raised_to lsn lsns (pages_of (enumerate_from (c.to-to.ensures i) (c.words-2.ensures i)))))
+    ∙ ap (λ (at : ℕ). raised_to lsn (raised_to lsn lsns (pages_of words)) (page_of at ∷ [])) c.from-from.ensures
+    ∙ sym (raised_on lsn lsns words ((copy.from, 4 * copy.to + 2) ∷ []))
+    ∙ raised-touched lsn lsns (copy_record copy)

@@ -7,6 +7,7 @@ use Rattle.log_machine.proofs.Addresses.{effect-addresses}
 use Rattle.log_machine.proofs.RunLaws.{run_below, run_taken, runs_done, writes_more}
 use Rattle.page_redo.specs.Pages.{page_of}
 use Rattle.page_redo.specs.Redo.{raised_to}
+use Rattle.page_redo.proofs.Touched.{raised-touched}
 use Rattle.page_cache.specs.Writing.{AreBelow, pages_of}
 use Rattle.page_cache.proofs.PutLaws.{raised_on}
 use Rattle.page_cache.proofs.raising.raise_touched.Goals as goal
@@ -43,3 +44,4 @@ returns c =
     c.loop-run.invariant.raised
     ∙ ap (λ (ws : List (ℕ × ℕ)). raised_to c.args.lsn c.args.lsns.now (pages_of ws)) (runs_done [] c.args.rec.now c.loop-run.yielded (runs_left c.loop-run.run-iterator) c.loop-run.invariant.left c.in-None.ensures.steps.0)
     ∙ ap (λ (l : List ℕ). raised_to c.args.lsn c.args.lsns.now (map page_of l)) (effect-addresses [] c.args.rec.now)
+    ∙ raised-touched c.args.lsn c.args.lsns.now c.args.rec.now
