@@ -1,6 +1,4 @@
 //! Images whose pages were stored at different times: an opening redoes on each page what it lacks, and nothing else.
-ghost use Rattle.log_machine.specs.Effect.{WritesBelow};
-
 use crate::opening_tests::{
     LOG_BYTES, ask, ask_all, compare, crash, expect, format, found, make_disk, make_heap, open,
     read_log, refused,
@@ -147,24 +145,18 @@ fn open_pages(
     PageCache::open(alloc, disk, PLAN)
 }
 
-/// Redoes these records on the pages.
+/// Redoes these records on the pages, on which each of them can follow.
 fn redo(rt: &impl Abort, alloc: Global, cache: &mut PageCache, records: &[Record]) {
+    assert!(rt; records.len() < 99);
     let mut state = LogState::start(alloc, PLAN.pages, 1);
     for (i, record) in records.iter().enumerate() {
-        take(rt, alloc, &mut state, record);
-        assert!(rt; cache.as_slice().len() == 256);
+        assert!(rt; state.commits() < 99 && state.reserve() < 999);
+        assert!(rt; cache.as_slice().len() == 128 * state.pages() as usize);
+        let Ok(()) = state.after(alloc, record) else {
+            panic!(rt; "it can't follow");
+        };
         cache.redo(i as u64 + 1, record);
     }
-}
-
-/// The record can follow, and so it writes words of the two spaces alone.
-fn take(rt: &impl Abort, alloc: Global, state: &mut LogState, record: &Record)
-    ensures { WritesBelow 256 record.now }
-{
-    assert!(rt; state.pages() == 2 && state.commits() < 99 && state.reserve() < 999);
-    let Ok(()) = state.after(alloc, record) else {
-        panic!(rt; "it can't follow");
-    };
 }
 
 /// Stores page `p` as it is in memory, if the disk has it otherwise. The log has `forced` records.
