@@ -23,14 +23,11 @@ use Rattle.heap_core.specs.declared.errors.OpenError.TheVariants as opening
 use Rattle.heap_program.specs.declared.status.Status.{Status}
 use Rattle.heap_program.specs.declared.status.Status.TheVariants as status
 use Rattle.heap_program.specs.Causes.{IsInputError}
-use Rattle.heap_program.specs.Headline.{IsEndOfPlay}
-use Rattle.heap_program.specs.Refusals.{IsFault, IsWordFault, CallsOfOneOpening, CallsAtMostOneOpening, fault_calls, IsToldOf, IsToldOfEach, EndsRefused, IsLeftAlone, LeavesAlone}
-use Rattle.command_words.specs.declared.commands.CommandError.{CommandError}
-use Rattle.command_words.specs.declared.commands.CommandError.TheVariants as asking
+use Rattle.heap_program.specs.Refusals.{IsFault, IsWordFault, CallsOfOneOpening, CallsAtMostOneOpening, fault_calls, IsToldOf, EndsRefused, IsLeftAlone, LeavesAlone}
 use Rattle.heap_model.specs.Opening.{opening_calls}
 use Rattle.counts.specs.Count.{counted}
 use Rattle.heap_program.proofs.Counts.{counted_mono}
-use Rattle.heap_program.specs.StatusOf.{command_status, open_status}
+use Rattle.heap_program.specs.StatusOf.{open_status}
 
 -- what the error of an opening says, its status says
 pub told_status : (e : OpenError) (image : List ℕ) → opening_refusals.IsToldOf e image → IsToldOf (open_status e) image
@@ -39,19 +36,6 @@ told_status opening.NotHeap image told = told
 told_status (opening.Damaged at) image told = told
 told_status opening.DiskFault image told = tt
 told_status opening.Stopped image told = tt
-
--- the end of a play says nothing of the image
-pub end_told : (s : Status) (image : List ℕ) → IsEndOfPlay s → IsToldOf s image
-end_told status.Done image end = tt
-end_told status.NoMemory image end = tt
-end_told status.Usage image end = absurd end
-end_told (status.Script line) image end = absurd end
-end_told status.ReadFault image end = absurd end
-end_told status.WriteFault image end = tt
-end_told status.DiskFault image end = tt
-end_told status.NotHeap image end = absurd end
-end_told (status.Damaged at) image end = absurd end
-end_told (status.TooSmall size need) image end = absurd end
 
 outside_ends : (expected : Status) (e : OpenError) → IsFromOutside e → EndsRefused expected (open_status e)
 outside_ends expected opening.NoMemory outside = tt
@@ -158,39 +142,9 @@ module _ {D : Type 0} (g : Ghosts D) where
       → (image : List ℕ) → g.may_leave new image → P image
   at_end old new P moments counts image may = moments.each image (counts (g.moment old) image moments.later may)
 
-  -- what an opening's error says of the image that it read, its status says of each image that a crash may leave afterwards
-  pub told_each : (e : OpenError) (by : Status) (old new : D) → by ≡ open_status e → opening_refusals.IsToldOf e (g.bytes old) → (IsNoHeap (g.bytes old) → LeavesOnly g.moment g.left_since old new IsNoHeap)
-      → ((at : At) → IsFaultAt at (g.bytes old) → LeavesOnly g.moment g.left_since old new (IsFaultAt at))
-      → ((t : ℕ) (image : List ℕ) → t ≤ g.moment new → g.may_leave new image → g.left_since new t image) → IsToldOfEach by (g.may_leave new)
-  told_each opening.NoMemory by old new is told no_heap damaged counts = rw is (λ image may. tt)
-  told_each opening.NotHeap by old new is told no_heap damaged counts = rw is (at_end old new IsNoHeap (no_heap told) counts)
-  told_each (opening.Damaged at) by old new is told no_heap damaged counts = rw is (at_end old new (IsFaultAt at) (damaged at told) counts)
-  told_each opening.DiskFault by old new is told no_heap damaged counts = rw is (λ image may. tt)
-  told_each opening.Stopped by old new is told no_heap damaged counts = rw is (λ image may. tt)
-
 -- An image that openings left of one that is damaged at an address is so too.
 pub left_word_fault : (old new : List ℕ) → IsWordFault old → IsLeftOf old new → IsWordFault new
 left_word_fault old new fault left = (fault.0, left_of_fault old new (place.Address fault.0) fault.1 left)
-
--- the end of a play says nothing of them
-pub end_told_each : (s : Status) (may_leave : List ℕ → Type 0) → IsEndOfPlay s → IsToldOfEach s may_leave
-end_told_each s may_leave end image may = end_told s image end
-
-pub input_told : (s : Status) (image : List ℕ) → IsInputError s → IsToldOf s image
-input_told status.Done image input = tt
-input_told status.NoMemory image input = tt
-input_told status.Usage image input = tt
-input_told (status.Script line) image input = tt
-input_told status.ReadFault image input = tt
-input_told status.WriteFault image input = tt
-input_told status.DiskFault image input = tt
-input_told status.NotHeap image input = absurd input
-input_told (status.Damaged at) image input = absurd input
-input_told (status.TooSmall size need) image input = tt
-
--- nor of those that a crash may leave
-pub input_told_each : (s : Status) (may_leave : List ℕ → Type 0) → IsInputError s → IsToldOfEach s may_leave
-input_told_each s may_leave input image may = input_told s image input
 
 -- A run that ends before it opens a heap makes no call.
 pub input_once : (n k : ℕ) (s : Status) → IsInputError s → CallsOfOneOpening n k k s
@@ -204,10 +158,6 @@ input_once n k status.DiskFault input = absurd input
 input_once n k status.NotHeap input = refl
 input_once n k (status.Damaged at) input = absurd input
 input_once n k (status.TooSmall size need) input = refl
-
-pub command_once : (n k : ℕ) (e : CommandError) → CallsOfOneOpening n k k (command_status e)
-command_once n k asking.NoMemory = refl
-command_once n k asking.Usage = refl
 
 -- The calls of one opening are no more than it makes.
 pub once_few : (n before now : ℕ) (s : Status) → CallsOfOneOpening n before now s → CallsAtMostOneOpening n before now s

@@ -6,7 +6,7 @@ use Rattle.heap_program.specs.declared.output.WriteError.TheVariants as writing
 use Rattle.heap_program.specs.declared.play.Halt.{Halt}
 use Rattle.heap_program.specs.declared.play.Halt.TheVariants as halt
 use Rattle.heap_program.specs.declared.status.Status.{Status}
-use Rattle.heap_program.specs.declared.status.Status.TheVariants.{Done}
+use Rattle.heap_program.specs.declared.status.Status.TheVariants.{Done, WriteFault}
 use Rattle.disk_model.specs.declared.disk.DiskError.TheVariants as device
 use Rattle.disk_model.specs.Disk.{HasCause}
 use Rattle.heap_program.specs.Causes.{DiskRose}
@@ -87,6 +87,14 @@ open_not_done opening.NotHeap is = cc
 open_not_done (opening.Damaged at) is = cc
 open_not_done opening.DiskFault is = cc
 open_not_done opening.Stopped is = cc
+
+-- and is not refused by its output
+pub open_not_refused : (e : OpenError) → open_status e ≡ WriteFault → ⊥
+open_not_refused opening.NoMemory is = cc
+open_not_refused opening.NotHeap is = cc
+open_not_refused (opening.Damaged at) is = cc
+open_not_refused opening.DiskFault is = cc
+open_not_refused opening.Stopped is = cc
 
 -- one that was refused by the disk was so since a count of the disk rose
 pub open_harm : (f s f' s' : ℕ) (e : OpenError) → IsFromOutside e → e ≢ opening.NoMemory → HasCause {T = Unit {0}} f f' s s' (error_device e) → DiskRose f s f' s'

@@ -37,7 +37,7 @@ use Rattle.heap_program.specs.declared.play.Halt.TheVariants as halt
 use Rattle.heap_program.specs.declared.status.Status.{Status}
 use Rattle.heap_program.specs.declared.status.Status.TheVariants as status
 use Rattle.heap_program.specs.Causes.{DiskRose, CountsStay, Unharmed}
-use Rattle.heap_program.specs.Headline.{KeepsThroughout, CountsOpening}
+use Rattle.heap_program.specs.Headline.{KeepsThroughout, CountsOpening, BlamesNoImage}
 use Rattle.heap_program.specs.Play.{IsRunning, MadeAll, IsCutBy, MakesAll, MakesShort, Makes, Plays}
 use Rattle.heap_program.specs.StatusOf.{open_status, halt_status}
 use Rattle.heap_program.specs.Stored.{IsStored, stored_core, stored_calls}
@@ -52,7 +52,8 @@ use Rattle.heap_program.proofs.PlayOpen.{stored_running, unopened_calls}
 use Rattle.heap_program.proofs.PlayLaws.{ends_makes, plays_none}
 use Rattle.heap_program.proofs.Ready.{AreReady}
 use Rattle.heap_program.proofs.Reopened.{outside_memory}
-use Rattle.heap_program.proofs.Statuses.{halt_not_done, open_not_done}
+use Rattle.heap_program.proofs.RunLaws.{end_sound}
+use Rattle.heap_program.proofs.Statuses.{halt_not_done, open_not_done, halt_end}
 use Rattle.heap_program.specs.Causes.{IsFaultless}
 use Rattle.heap_program.proofs.Unfaulted.{halt_faulty}
 use Rattle.session_program.specs.declared.ending.Break.{Break}
@@ -271,6 +272,11 @@ module _ {D : Type 0} (g : Ghosts D) {bytes : List ℕ} (stored : IsStored bytes
 pub broken_uncut : (b : Break) → IsFaultless (break_status b) → IsUncut (Err b)
 broken_uncut (Halted h) none = halt_faulty h none
 broken_uncut ReadFault none = tt
+
+-- one that ended in the midst says nothing against the image
+pub broken_sound : (b : Break) → BlamesNoImage (break_status b)
+broken_sound (Halted h) = end_sound (halt_status h) (halt_end h)
+broken_sound ReadFault = tt
 
 -- Without a fault a session is done, or memory ran out.
 pub broken_memory : (b : Break) → (b ≡ ReadFault → ⊥) → (b ≡ Halted halt.WriteFault → ⊥) → (session_device (Err b) ≡ Err device.Failed → ⊥) → (session_device (Err b) ≡ Err device.Stopped → ⊥)

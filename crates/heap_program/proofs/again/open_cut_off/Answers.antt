@@ -1,7 +1,6 @@
 use Rattle.std.proofs.Common.{◌≡◌, ◌≢◌, ◌≤◌, inl, ℕ, min, rules, refl, sym, ap, ◌∙◌, subst, arith}
 use Rattle.counts.specs.Count.{counted}
 use Rattle.disk_model.specs.Disk.{Only}
-use Rattle.disk_model.specs.Moments.{LeavesOnly}
 use Rattle.disk_model.specs.Fuse.{fuse_inner, fuse_passed}
 use Rattle.heap_core.specs.Causes.{ErrorPasses}
 use Rattle.heap_core.specs.Refusals.{ComesBeforeWrites}
@@ -14,11 +13,10 @@ use Rattle.heap_model.specs.Opening.{opening_calls, rollback_of}
 use Rattle.heap_program.specs.Headline.{IsCutOff, FailsToOpen}
 use Rattle.heap_program.proofs.PlayFuse.{same_disk, same_limit, fuse_since, fuse_passes, fuse_none, fuse_most}
 use Rattle.heap_program.proofs.PrintRecovered.{keeps_first, few_to_open, whole_passes, error_cut}
-use Rattle.heap_recovery.specs.declared.at.At.TheVariants.{Address}
-use Rattle.heap_recovery.specs.Faults.{IsNoHeap, IsFaultAt, IsLogLeft, IsLeftOf}
+use Rattle.heap_recovery.specs.Faults.{IsNoHeap, IsFaultAt, IsLogLeft}
 use Rattle.heap_recovery.proofs.FaultLaws.{shaped_readable}
-use Rattle.heap_program.specs.Refusals.{IsFault, IsWordFault}
-use Rattle.heap_program.proofs.RefusalLaws.{fault_moments, left_moments, at_end}
+use Rattle.heap_program.specs.Refusals.{KeepsFault}
+use Rattle.heap_program.proofs.ImageLaws.{keeps_opening}
 use Rattle.heap_program.proofs.again.open_cut_off.Goals as goal
 
 -- the whole opening passed
@@ -113,114 +111,41 @@ returns-then-eq-clause-cut g c tells core k at_first at_only =
     rw (c.into_inner-disk.ensures, sym inner) fails
 
 -- at each moment of such an opening the fault stays
-pub returns-in-Ok-clause-refuses : goal.returns-in-Ok-clause-refuses
-returns-in-Ok-clause-refuses g c tells only expected fault =
+pub returns-in-Ok-clause-keeps : goal.returns-in-Ok-clause-keeps
+returns-in-Ok-clause-keeps g c tells only =
     let d = g.D.Disk in
     let inner = c.new.ensures.inner in
     let first = fuse_inner c.new.result in
     let cut = fuse_inner c.in-Ok.heap.disk in
-    let at = subst (λ x. IsFault expected (d.bytes x)) (sym inner) fault in
+    let e = c.in-Ok.ensures in
     let only_f = subst (λ x. Only (d.bytes x) (d.may_leave x)) (sym inner) only in
-    let moments = fault_moments d expected (d.bytes first) first cut at
-    (λ none. fuse_since c.new.result c.in-Ok.heap.disk IsNoHeap (c.in-Ok.ensures.moments_not_heap tells only_f none))
-    (λ place damage. fuse_since c.new.result c.in-Ok.heap.disk (IsFaultAt place) (c.in-Ok.ensures.moments_damaged tells only_f place damage)) in
-    let left = at_end d first cut (IsFault expected) moments (λ t image le may. g.met.D.Disk.counts_now tells cut t image le may) in
-    rw (c.into_inner.ensures, c.close.ensures) left
+    let keeps = keeps_opening d first cut (λ none. fuse_since c.new.result c.in-Ok.heap.disk IsNoHeap (e.moments_not_heap tells only_f none))
+    (λ place damage. fuse_since c.new.result c.in-Ok.heap.disk (IsFaultAt place) (e.moments_damaged tells only_f place damage))
+    (λ s batches state readable. fuse_since c.new.result c.in-Ok.heap.disk (IsLogLeft s batches (d.bytes first)) (e.moments_readable tells only_f s batches state readable)) in
+    rw (c.into_inner.ensures, c.close.ensures) (subst (λ x. KeepsFault d x cut) inner keeps)
 
-pub returns-else-eq-clause-refuses : goal.returns-else-eq-clause-refuses
-returns-else-eq-clause-refuses g c tells only expected fault =
+pub returns-else-eq-clause-keeps : goal.returns-else-eq-clause-keeps
+returns-else-eq-clause-keeps g c tells only =
     let d = g.D.Disk in
     let inner = c.new.ensures.inner in
     let first = fuse_inner c.new.result in
     let cut = fuse_inner c.in-Err.fuse in
-    let at = subst (λ x. IsFault expected (d.bytes x)) (sym inner) fault in
+    let e = c.in-Err.ensures in
     let only_f = subst (λ x. Only (d.bytes x) (d.may_leave x)) (sym inner) only in
-    let moments = fault_moments d expected (d.bytes first) first cut at
-    (λ none. fuse_since c.new.result c.in-Err.fuse IsNoHeap (c.in-Err.ensures.moments_not_heap tells only_f none))
-    (λ place damage. fuse_since c.new.result c.in-Err.fuse (IsFaultAt place) (c.in-Err.ensures.moments_damaged tells only_f place damage)) in
-    let left = at_end d first cut (IsFault expected) moments (λ t image le may. g.met.D.Disk.counts_now tells cut t image le may) in
-    rw c.into_inner-disk.ensures left
+    let keeps = keeps_opening d first cut (λ none. fuse_since c.new.result c.in-Err.fuse IsNoHeap (e.moments_not_heap tells only_f none))
+    (λ place damage. fuse_since c.new.result c.in-Err.fuse (IsFaultAt place) (e.moments_damaged tells only_f place damage))
+    (λ s batches state readable. fuse_since c.new.result c.in-Err.fuse (IsLogLeft s batches (d.bytes first)) (e.moments_readable tells only_f s batches state readable)) in
+    rw c.into_inner-disk.ensures (subst (λ x. KeepsFault d x cut) inner keeps)
 
-pub returns-then-eq-clause-refuses : goal.returns-then-eq-clause-refuses
-returns-then-eq-clause-refuses g c tells only expected fault =
+pub returns-then-eq-clause-keeps : goal.returns-then-eq-clause-keeps
+returns-then-eq-clause-keeps g c tells only =
     let d = g.D.Disk in
     let inner = c.new.ensures.inner in
     let first = fuse_inner c.new.result in
     let cut = fuse_inner c.in-Err.fuse in
-    let at = subst (λ x. IsFault expected (d.bytes x)) (sym inner) fault in
+    let e = c.in-Err.ensures in
     let only_f = subst (λ x. Only (d.bytes x) (d.may_leave x)) (sym inner) only in
-    let moments = fault_moments d expected (d.bytes first) first cut at
-    (λ none. fuse_since c.new.result c.in-Err.fuse IsNoHeap (c.in-Err.ensures.moments_not_heap tells only_f none))
-    (λ place damage. fuse_since c.new.result c.in-Err.fuse (IsFaultAt place) (c.in-Err.ensures.moments_damaged tells only_f place damage)) in
-    let left = at_end d first cut (IsFault expected) moments (λ t image le may. g.met.D.Disk.counts_now tells cut t image le may) in
-    rw c.into_inner-disk.ensures left
-
-pub returns-in-Ok-clause-keeps_fault : goal.returns-in-Ok-clause-keeps_fault
-returns-in-Ok-clause-keeps_fault g c tells only expected fault =
-    let d = g.D.Disk in
-    let inner = c.new.ensures.inner in
-    let first = fuse_inner c.new.result in
-    let cut = fuse_inner c.in-Ok.heap.disk in
-    let at = subst (λ x. IsFault expected (d.bytes x)) (sym inner) fault in
-    let only_f = subst (λ x. Only (d.bytes x) (d.may_leave x)) (sym inner) only in
-    let moments = fault_moments d expected (d.bytes first) first cut at
-    (λ none. fuse_since c.new.result c.in-Ok.heap.disk IsNoHeap (c.in-Ok.ensures.moments_not_heap tells only_f none))
-    (λ place damage. fuse_since c.new.result c.in-Ok.heap.disk (IsFaultAt place) (c.in-Ok.ensures.moments_damaged tells only_f place damage)) in
-    rw (c.into_inner.ensures, c.close.ensures) (subst (λ x. LeavesOnly d.moment d.left_since x cut (IsFault expected)) inner moments)
-
-pub returns-else-eq-clause-keeps_fault : goal.returns-else-eq-clause-keeps_fault
-returns-else-eq-clause-keeps_fault g c tells only expected fault =
-    let d = g.D.Disk in
-    let inner = c.new.ensures.inner in
-    let first = fuse_inner c.new.result in
-    let cut = fuse_inner c.in-Err.fuse in
-    let at = subst (λ x. IsFault expected (d.bytes x)) (sym inner) fault in
-    let only_f = subst (λ x. Only (d.bytes x) (d.may_leave x)) (sym inner) only in
-    let moments = fault_moments d expected (d.bytes first) first cut at
-    (λ none. fuse_since c.new.result c.in-Err.fuse IsNoHeap (c.in-Err.ensures.moments_not_heap tells only_f none))
-    (λ place damage. fuse_since c.new.result c.in-Err.fuse (IsFaultAt place) (c.in-Err.ensures.moments_damaged tells only_f place damage)) in
-    rw c.into_inner-disk.ensures (subst (λ x. LeavesOnly d.moment d.left_since x cut (IsFault expected)) inner moments)
-
-pub returns-then-eq-clause-keeps_fault : goal.returns-then-eq-clause-keeps_fault
-returns-then-eq-clause-keeps_fault g c tells only expected fault =
-    let d = g.D.Disk in
-    let inner = c.new.ensures.inner in
-    let first = fuse_inner c.new.result in
-    let cut = fuse_inner c.in-Err.fuse in
-    let at = subst (λ x. IsFault expected (d.bytes x)) (sym inner) fault in
-    let only_f = subst (λ x. Only (d.bytes x) (d.may_leave x)) (sym inner) only in
-    let moments = fault_moments d expected (d.bytes first) first cut at
-    (λ none. fuse_since c.new.result c.in-Err.fuse IsNoHeap (c.in-Err.ensures.moments_not_heap tells only_f none))
-    (λ place damage. fuse_since c.new.result c.in-Err.fuse (IsFaultAt place) (c.in-Err.ensures.moments_damaged tells only_f place damage)) in
-    rw c.into_inner-disk.ensures (subst (λ x. LeavesOnly d.moment d.left_since x cut (IsFault expected)) inner moments)
-
--- and the log, rolled back or not, and all else
-pub returns-in-Ok-clause-keeps_log : goal.returns-in-Ok-clause-keeps_log
-returns-in-Ok-clause-keeps_log g c tells only fault =
-    let d = g.D.Disk in
-    let at = subst (λ x. IsWordFault (d.bytes x)) (sym c.new.ensures.inner) fault in
-    absurd (c.in-Ok.ensures.damaged tells (Address at.0) at.1)
-
-pub returns-else-eq-clause-keeps_log : goal.returns-else-eq-clause-keeps_log
-returns-else-eq-clause-keeps_log g c tells only fault =
-    let d = g.D.Disk in
-    let inner = c.new.ensures.inner in
-    let first = fuse_inner c.new.result in
-    let cut = fuse_inner c.in-Err.fuse in
-    let at = subst (λ x. IsWordFault (d.bytes x)) (sym inner) fault in
-    let only_f = subst (λ x. Only (d.bytes x) (d.may_leave x)) (sym inner) only in
-    let moments = left_moments d (d.bytes first) first cut at
-    (λ s batches state readable. fuse_since c.new.result c.in-Err.fuse (IsLogLeft s batches (d.bytes first)) (c.in-Err.ensures.moments_readable tells only_f s batches state readable)) in
-    rw c.into_inner-disk.ensures (subst (λ x. LeavesOnly d.moment d.left_since x cut (IsLeftOf (d.bytes x))) inner moments)
-
-pub returns-then-eq-clause-keeps_log : goal.returns-then-eq-clause-keeps_log
-returns-then-eq-clause-keeps_log g c tells only fault =
-    let d = g.D.Disk in
-    let inner = c.new.ensures.inner in
-    let first = fuse_inner c.new.result in
-    let cut = fuse_inner c.in-Err.fuse in
-    let at = subst (λ x. IsWordFault (d.bytes x)) (sym inner) fault in
-    let only_f = subst (λ x. Only (d.bytes x) (d.may_leave x)) (sym inner) only in
-    let moments = left_moments d (d.bytes first) first cut at
-    (λ s batches state readable. fuse_since c.new.result c.in-Err.fuse (IsLogLeft s batches (d.bytes first)) (c.in-Err.ensures.moments_readable tells only_f s batches state readable)) in
-    rw c.into_inner-disk.ensures (subst (λ x. LeavesOnly d.moment d.left_since x cut (IsLeftOf (d.bytes x))) inner moments)
+    let keeps = keeps_opening d first cut (λ none. fuse_since c.new.result c.in-Err.fuse IsNoHeap (e.moments_not_heap tells only_f none))
+    (λ place damage. fuse_since c.new.result c.in-Err.fuse (IsFaultAt place) (e.moments_damaged tells only_f place damage))
+    (λ s batches state readable. fuse_since c.new.result c.in-Err.fuse (IsLogLeft s batches (d.bytes first)) (e.moments_readable tells only_f s batches state readable)) in
+    rw c.into_inner-disk.ensures (subst (λ x. KeepsFault d x cut) inner keeps)

@@ -16,11 +16,11 @@ use Rattle.heap_program.proofs.PlayOpen.{opened_core, opened_unfailed}
 use Rattle.heap_program.proofs.PlayPrints.{wrote_again}
 use Rattle.heap_program.proofs.Statuses.{open_not_done, written_end}
 use Rattle.heap_program.proofs.PrintRecovered.{legal_of, keeps_first, few_commits, since_before, recovers_nothing, recovers_first}
-use Rattle.heap_recovery.specs.declared.at.At.TheVariants.{Address}
 use Rattle.heap_recovery.specs.Faults.{IsLogLeft}
 use Rattle.heap_recovery.proofs.FaultLaws.{shaped_readable}
-use Rattle.heap_program.proofs.RefusalLaws.{told_each, end_told_each, refused_by, not_opened, fault_moments, left_moments}
 use Rattle.heap_program.proofs.Reopened.{reads_only, refused_memory}
+use Rattle.heap_program.proofs.ImageLaws.{keeps_opening, answers_failed, answers_opened}
+use Rattle.heap_program.proofs.RunLaws.{end_sound, restarts_none}
 use Rattle.heap_program.proofs.again.print_recovered.Goals as goal
 
 -- an opening leaves the same commits at each moment
@@ -109,32 +109,16 @@ returns-clause-again g c tells =
     let some = opened_core g.D.Disk.tells (g.D.Disk.bytes c.args.disk) c.in-Ok.heap c.in-Ok.ensures.opens c.in-Ok.ensures.sound in
     wrote_again c.write_recovered.result _ _ c.status_after-status.result (k.written c.args.sink.now) (k.written c.write_recovered.new.sink) c.status_after-status.ensures (c.write_recovered.ensures.wrote tells some.0 some.2 some.1.running.reached)
 
-pub returns-in-Err-clause-refuses : goal.returns-in-Err-clause-refuses
-returns-in-Err-clause-refuses g c tells expected fault = (rw c.from.ensures (refused_by expected (g.D.Disk.bytes c.args.disk) c.in-Err.e fault (c.in-Err.ensures.not_heap tells) (c.in-Err.ensures.damaged tells)), refl)
+-- the image was not opened
+pub returns-in-Err-clause-image : goal.returns-in-Err-clause-image
+returns-in-Err-clause-image g c =
+    let d = g.D.Disk in
+    let e = c.in-Err.ensures in
+    rw c.from.ensures (answers_failed d c.args.disk c.in-Err.disk _ _ c.in-Err.e refl e.refused e.not_heap e.damaged e.reads_not_heap e.reads_damaged
+    (λ tells only. keeps_opening d c.args.disk c.in-Err.disk (e.moments_not_heap tells only) (e.moments_damaged tells only) (e.moments_readable tells only)) e.passes_readable e.disk.restarts
+    (λ tells t image le may. g.met.D.Disk.counts_now tells c.in-Err.disk t image le may))
 
--- what can't be opened is not printed
-pub returns-clause-refuses : goal.returns-clause-refuses
-returns-clause-refuses g c tells expected fault = absurd (not_opened expected (g.D.Disk.bytes c.args.disk) fault (c.in-Ok.ensures.not_heap tells) (c.in-Ok.ensures.damaged tells))
-
-pub returns-in-Err-clause-keeps_fault : goal.returns-in-Err-clause-keeps_fault
-returns-in-Err-clause-keeps_fault g c tells only expected fault =
-    fault_moments g.D.Disk expected (g.D.Disk.bytes c.args.disk) c.args.disk c.in-Err.disk fault (c.in-Err.ensures.moments_not_heap tells only) (c.in-Err.ensures.moments_damaged tells only)
-
-pub returns-clause-keeps_fault : goal.returns-clause-keeps_fault
-returns-clause-keeps_fault g c tells only expected fault = absurd (not_opened expected (g.D.Disk.bytes c.args.disk) fault (c.in-Ok.ensures.not_heap tells) (c.in-Ok.ensures.damaged tells))
-
--- a status against the image is true of what a crash may leave now
-pub returns-in-Err-clause-refused_at_end : goal.returns-in-Err-clause-refused_at_end
-returns-in-Err-clause-refused_at_end g c tells only =
-    told_each g.D.Disk c.in-Err.e c.from.result c.args.disk c.in-Err.disk c.from.ensures (c.in-Err.ensures.refused tells) (c.in-Err.ensures.moments_not_heap tells only) (c.in-Err.ensures.moments_damaged tells only)
-    (λ t image le may. g.met.D.Disk.counts_now tells c.in-Err.disk t image le may)
-
-pub returns-clause-refused_at_end : goal.returns-clause-refused_at_end
-returns-clause-refused_at_end g c tells only = rw c.status_after-status.ensures (end_told_each _ _ (written_end c.write_recovered.result))
-
--- of an image that is damaged at an address a crash leaves the log, rolled back or not, and all else
-pub returns-in-Err-clause-keeps_log : goal.returns-in-Err-clause-keeps_log
-returns-in-Err-clause-keeps_log g c tells only fault = left_moments g.D.Disk (g.D.Disk.bytes c.args.disk) c.args.disk c.in-Err.disk fault (c.in-Err.ensures.moments_readable tells only)
-
-pub returns-clause-keeps_log : goal.returns-clause-keeps_log
-returns-clause-keeps_log g c tells only fault = absurd (c.in-Ok.ensures.damaged tells (Address fault.0) fault.1)
+pub returns-clause-image : goal.returns-clause-image
+returns-clause-image g c =
+    rw (c.close.ensures, c.status_after-status.ensures) (answers_opened g.D.Disk 0 c.args.disk _ _ _ (end_sound _ (written_end c.write_recovered.result)) c.in-Ok.ensures.not_heap c.in-Ok.ensures.damaged
+    (λ tells. restarts_none 0 _ _ _ (λ done. refl) (c.in-Ok.ensures.disk.restarts tells)))

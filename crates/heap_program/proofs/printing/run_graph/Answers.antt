@@ -8,16 +8,16 @@ use Rattle.page_store.specs.Gates.{open_gates}
 use Rattle.heap_program.specs.Headline.{graph_text}
 use Rattle.heap_program.proofs.PlayOpen.{opened_core}
 use Rattle.heap_program.proofs.PrintRecovered.{fails_most}
-use Rattle.heap_recovery.specs.declared.at.At.TheVariants.{Address}
 use Rattle.heap_recovery.proofs.FaultLaws.{shaped_readable}
-use Rattle.heap_program.proofs.RefusalLaws.{told_status, told_each, end_told, end_told_each, refused_by, not_opened, only_read, alone_read, fault_moments, left_moments, opens_once, left_outside}
+use Rattle.heap_program.proofs.RefusalLaws.{left_outside}
 use Rattle.heap_program.proofs.Statuses.{open_end, open_not_done, written_end, wrote_all}
 use Rattle.heap_program.proofs.Written.{none_written, wrote_some}
 use Rattle.heap_program.proofs.Reopened.{reads_only, refused_memory, outside_memory}
-use Rattle.heap_program.proofs.RunLaws.{end_sound}
+use Rattle.heap_program.proofs.RunLaws.{end_sound, restarts_none}
 use Rattle.heap_program.proofs.Unfaulted.{keeps_counts, open_counts}
 use Rattle.heap_program.specs.declared.status.Status.{Status}
 use Rattle.heap_program.specs.declared.status.Status.TheVariants as status
+use Rattle.heap_program.proofs.ImageLaws.{keeps_opening, answers_failed, answers_opened}
 use Rattle.heap_program.proofs.printing.run_graph.Goals as goal
 
 pub returns-in-Ok-clause-graph : goal.returns-in-Ok-clause-graph
@@ -82,63 +82,23 @@ returns-in-Ok-clause-prints g c tells =
       },
     ))
 
-pub returns-in-Ok-clause-refused : goal.returns-in-Ok-clause-refused
-returns-in-Ok-clause-refused g c tells = rw c.status_after-status.ensures (end_told _ (g.D.Disk.bytes c.args.disk) (written_end c.write_graph.result))
-
-pub returns-in-Err-clause-refused : goal.returns-in-Err-clause-refused
-returns-in-Err-clause-refused g c tells = rw c.from.ensures (told_status c.in-Err.e (g.D.Disk.bytes c.args.disk) (c.in-Err.ensures.refused tells))
-
-pub returns-in-Ok-clause-refuses : goal.returns-in-Ok-clause-refuses
-returns-in-Ok-clause-refuses g c tells expected fault = absurd (not_opened expected (g.D.Disk.bytes c.args.disk) fault (c.in-Ok.ensures.not_heap tells) (c.in-Ok.ensures.damaged tells))
-
-pub returns-in-Err-clause-refuses : goal.returns-in-Err-clause-refuses
-returns-in-Err-clause-refuses g c tells expected fault = (rw c.from.ensures (refused_by expected (g.D.Disk.bytes c.args.disk) c.in-Err.e fault (c.in-Err.ensures.not_heap tells) (c.in-Err.ensures.damaged tells)), refl)
-
-pub returns-in-Ok-clause-left_alone : goal.returns-in-Ok-clause-left_alone
-returns-in-Ok-clause-left_alone g c tells expected fault alone = absurd (not_opened expected (g.D.Disk.bytes c.args.disk) fault (c.in-Ok.ensures.not_heap tells) (c.in-Ok.ensures.damaged tells))
-
-pub returns-in-Err-clause-left_alone : goal.returns-in-Err-clause-left_alone
-returns-in-Err-clause-left_alone g c tells expected fault alone =
-    let d = g.D.Disk in
-    alone_read d c.args.disk c.in-Err.disk _ tells (only_read d expected (d.bytes c.args.disk) c.args.disk c.in-Err.disk _ fault alone (c.in-Err.ensures.reads_not_heap tells) (c.in-Err.ensures.reads_damaged tells))
-
-pub returns-in-Err-clause-keeps_fault : goal.returns-in-Err-clause-keeps_fault
-returns-in-Err-clause-keeps_fault g c tells only expected fault =
-    fault_moments g.D.Disk expected (g.D.Disk.bytes c.args.disk) c.args.disk c.in-Err.disk fault (c.in-Err.ensures.moments_not_heap tells only) (c.in-Err.ensures.moments_damaged tells only)
-
-pub returns-in-Ok-clause-keeps_fault : goal.returns-in-Ok-clause-keeps_fault
-returns-in-Ok-clause-keeps_fault g c tells only expected fault = absurd (not_opened expected (g.D.Disk.bytes c.args.disk) fault (c.in-Ok.ensures.not_heap tells) (c.in-Ok.ensures.damaged tells))
-
--- a status against the image is true of what a crash may leave now
-pub returns-in-Ok-clause-refused_at_end : goal.returns-in-Ok-clause-refused_at_end
-returns-in-Ok-clause-refused_at_end g c tells only = rw c.status_after-status.ensures (end_told_each _ _ (written_end c.write_graph.result))
-
-pub returns-in-Err-clause-refused_at_end : goal.returns-in-Err-clause-refused_at_end
-returns-in-Err-clause-refused_at_end g c tells only =
-    told_each g.D.Disk c.in-Err.e c.from.result c.args.disk c.in-Err.disk c.from.ensures (c.in-Err.ensures.refused tells) (c.in-Err.ensures.moments_not_heap tells only) (c.in-Err.ensures.moments_damaged tells only)
-    (λ t image le may. g.met.D.Disk.counts_now tells c.in-Err.disk t image le may)
-
-pub returns-in-Ok-clause-unwritten : goal.returns-in-Ok-clause-unwritten
-returns-in-Ok-clause-unwritten g c against = absurd (against (rw c.status_after-status.ensures (end_sound _ (written_end c.write_graph.result))))
-
-pub returns-in-Err-clause-keeps_log : goal.returns-in-Err-clause-keeps_log
-returns-in-Err-clause-keeps_log g c tells only fault = left_moments g.D.Disk (g.D.Disk.bytes c.args.disk) c.args.disk c.in-Err.disk fault (c.in-Err.ensures.moments_readable tells only)
-
-pub returns-in-Ok-clause-keeps_log : goal.returns-in-Ok-clause-keeps_log
-returns-in-Ok-clause-keeps_log g c tells only fault = absurd (c.in-Ok.ensures.damaged tells (Address fault.0) fault.1)
-
--- it made the writes and syncs of one opening
-pub returns-in-Err-clause-opens_once : goal.returns-in-Err-clause-opens_once
-returns-in-Err-clause-opens_once g c tells fault =
-    let d = g.D.Disk in
-    rw c.from.ensures (opens_once (d.bytes c.args.disk) (d.passed c.args.disk) (d.passed c.in-Err.disk) c.in-Err.e fault (c.in-Err.ensures.refused tells) (c.in-Err.ensures.passes_readable tells))
-
-pub returns-in-Ok-clause-opens_once : goal.returns-in-Ok-clause-opens_once
-returns-in-Ok-clause-opens_once g c tells fault = absurd (c.in-Ok.ensures.damaged tells (Address fault.0) fault.1)
-
 -- no fault of the disk was ignored
 pub returns-in-Err-clause-unfaulted : goal.returns-in-Err-clause-unfaulted
 returns-in-Err-clause-unfaulted g c none = open_counts g.D.Disk c.args.disk c.in-Err.disk c.in-Err.e c.in-Err.ensures.disk (subst (λ (s : Status). s ≢ status.DiskFault) c.from.ensures none)
 
 pub returns-in-Ok-clause-unfaulted : goal.returns-in-Ok-clause-unfaulted
 returns-in-Ok-clause-unfaulted g c none = rw c.close.ensures (keeps_counts g.D.Disk c.args.disk c.in-Ok.heap.disk tt c.in-Ok.ensures.disk)
+
+-- the image was not opened
+pub returns-in-Err-clause-image : goal.returns-in-Err-clause-image
+returns-in-Err-clause-image g c =
+    let d = g.D.Disk in
+    let e = c.in-Err.ensures in
+    rw c.from.ensures (answers_failed d c.args.disk c.in-Err.disk _ _ c.in-Err.e refl e.refused e.not_heap e.damaged e.reads_not_heap e.reads_damaged
+    (λ tells only. keeps_opening d c.args.disk c.in-Err.disk (e.moments_not_heap tells only) (e.moments_damaged tells only) (e.moments_readable tells only)) e.passes_readable e.disk.restarts
+    (λ tells t image le may. g.met.D.Disk.counts_now tells c.in-Err.disk t image le may))
+
+pub returns-in-Ok-clause-image : goal.returns-in-Ok-clause-image
+returns-in-Ok-clause-image g c =
+    rw (c.close.ensures, c.status_after-status.ensures) (answers_opened g.D.Disk 0 c.args.disk _ _ _ (end_sound _ (written_end c.write_graph.result)) c.in-Ok.ensures.not_heap c.in-Ok.ensures.damaged
+    (λ tells. restarts_none 0 _ _ _ (λ done. refl) (c.in-Ok.ensures.disk.restarts tells)))

@@ -1,5 +1,4 @@
-use Rattle.std.proofs.Common.{◌≡◌, ◌++◌, ◌+◌, inl, inr, None, Ok, Err, refl, sym, ap, ◌∙◌, subst, arith}
-use Rattle.heap_core.specs.HeapState.{heap_disk}
+use Rattle.std.proofs.Common.{◌≡◌, ◌++◌, ◌+◌, inr, Ok, Err, refl, sym, ap, ◌∙◌, subst, arith}
 use Rattle.heap_model.proofs.Shaped.{shaped_image}
 use Rattle.heap_program.specs.declared.play.Halt.TheVariants as halt
 use Rattle.heap_program.specs.declared.status.Status.TheVariants as status
@@ -12,15 +11,14 @@ use Rattle.heap_recovery.proofs.FaultLaws.{shaped_readable}
 use Rattle.heap_program.proofs.Behind.{opening_behind}
 use Rattle.heap_program.proofs.PlayOpen.{stored_running, stored_keeps, stored_moments, stored_super, opened_core}
 use Rattle.heap_program.proofs.PrintRecovered.{fails_most, fails_none}
-use Rattle.heap_program.proofs.RefusalLaws.{fault_moments, left_moments, opens_once}
 use Rattle.heap_program.proofs.Reopened.{outside_memory, reads_only, refused_memory}
 use Rattle.heap_program.proofs.Statuses.{open_harm}
-use Rattle.heap_recovery.specs.declared.at.At.TheVariants.{Address}
 use Rattle.session_program.specs.declared.ending.Break.{Break}
-use Rattle.session_program.specs.declared.ending.Break.TheVariants.{Halted, ReadFault}
 use Rattle.session_program.proofs.Limits.{session_limits}
-use Rattle.session_program.proofs.ServedWhole.{served_opened, served_none, broken_memory, broken_uncut}
+use Rattle.session_program.proofs.ServedWhole.{served_opened, served_none, broken_memory, broken_sound, broken_uncut}
 use Rattle.heap_program.proofs.Unfaulted.{counts_on, keeps_counts, open_counts, not_disk}
+use Rattle.heap_program.proofs.ImageLaws.{keeps_opening, answers_failed, answers_opened}
+use Rattle.heap_program.proofs.RunLaws.{restarts_none}
 use Rattle.session_program.proofs.serving.serve_part.Goals as goal
 
 pub returns-in-Ok-serve_all-clause-serves : goal.returns-in-Ok-serve_all-clause-serves
@@ -66,10 +64,6 @@ returns-in-Err-serve_all-clause-serves g c =
         limits = session_limits g.S.Source.tells o.part o.rest c.serve_all.new.heap g.K.Sink.tells (g.K.Sink.written c.serve_all.new.sink) some.0 (g.K.Sink.written c.args.sink.now) (Err c.in-Err-serve_all.ended) o.is some.1.running.reached some.1.nothing;
       };
     })
-
-pub returns-in-Err-clause-keeps_fault : goal.returns-in-Err-clause-keeps_fault
-returns-in-Err-clause-keeps_fault g c tells only expected fault =
-    fault_moments g.D.Disk expected (g.D.Disk.bytes c.args.disk) c.args.disk c.in-Err.disk fault (c.in-Err.ensures.moments_not_heap tells only) (c.in-Err.ensures.moments_damaged tells only)
 
 -- On a modelled disk with a heap.
 pub returns-in-Err-clause-served : goal.returns-in-Err-clause-served
@@ -176,28 +170,6 @@ returns-in-Err-serve_all-clause-complete g c tells only stored no_source no_sink
     (λ is. since (rose_sum _ _ _ _ all.disk.cause.faults_kept all.disk.cause.stops_kept (all.disk.cause.failed is)))
     (λ is. since (rose_sum_stops _ _ _ _ all.disk.cause.faults_kept all.disk.cause.stops_kept (all.disk.cause.stopped is))))
 
--- of an image that is damaged at an address a crash leaves the log, rolled back or not, and all else
-pub returns-in-Err-clause-keeps_log : goal.returns-in-Err-clause-keeps_log
-returns-in-Err-clause-keeps_log g c tells only fault = left_moments g.D.Disk (g.D.Disk.bytes c.args.disk) c.args.disk c.in-Err.disk fault (c.in-Err.ensures.moments_readable tells only)
-
-pub returns-in-Ok-serve_all-clause-keeps_log : goal.returns-in-Ok-serve_all-clause-keeps_log
-returns-in-Ok-serve_all-clause-keeps_log g c tells only fault = absurd (c.in-Ok.ensures.damaged tells (Address fault.0) fault.1)
-
-pub returns-in-Err-serve_all-clause-keeps_log : goal.returns-in-Err-serve_all-clause-keeps_log
-returns-in-Err-serve_all-clause-keeps_log g c tells only fault = absurd (c.in-Ok.ensures.damaged tells (Address fault.0) fault.1)
-
--- it made the writes and syncs of one opening
-pub returns-in-Err-clause-opens_once : goal.returns-in-Err-clause-opens_once
-returns-in-Err-clause-opens_once g c tells fault =
-    let d = g.D.Disk in
-    rw c.from.ensures (opens_once (d.bytes c.args.disk) (d.passed c.args.disk) (d.passed c.in-Err.disk) c.in-Err.e fault (c.in-Err.ensures.refused tells) (c.in-Err.ensures.passes_readable tells))
-
-pub returns-in-Ok-serve_all-clause-opens_once : goal.returns-in-Ok-serve_all-clause-opens_once
-returns-in-Ok-serve_all-clause-opens_once g c tells fault = absurd (c.in-Ok.ensures.damaged tells (Address fault.0) fault.1)
-
-pub returns-in-Err-serve_all-clause-opens_once : goal.returns-in-Err-serve_all-clause-opens_once
-returns-in-Err-serve_all-clause-opens_once g c tells fault = absurd (c.in-Ok.ensures.damaged tells (Address fault.0) fault.1)
-
 -- no fault of the disk was ignored
 pub returns-in-Err-clause-unfaulted : goal.returns-in-Err-clause-unfaulted
 returns-in-Err-clause-unfaulted g c none = open_counts g.D.Disk c.args.disk c.in-Err.disk c.in-Err.e c.in-Err.ensures.disk (not_disk _ (subst IsFaultless c.from.ensures none))
@@ -212,3 +184,22 @@ returns-in-Err-serve_all-clause-unfaulted g c none =
     let d = g.D.Disk in
     let uncut = broken_uncut c.in-Err-serve_all.ended (subst IsFaultless c.break_status.ensures none) in
     rw c.close-in-Err-serve_all.ensures (counts_on d _ _ _ (keeps_counts d c.args.disk c.in-Ok.heap.disk tt c.in-Ok.ensures.disk) (c.in-Err-serve_all.ensures.disk.still uncut))
+
+-- the image was not opened
+pub returns-in-Err-clause-image : goal.returns-in-Err-clause-image
+returns-in-Err-clause-image g c =
+    let d = g.D.Disk in
+    let e = c.in-Err.ensures in
+    rw c.from.ensures (answers_failed d c.args.disk c.in-Err.disk _ _ c.in-Err.e (refl, refl) e.refused e.not_heap e.damaged e.reads_not_heap e.reads_damaged
+    (λ tells only. keeps_opening d c.args.disk c.in-Err.disk (e.moments_not_heap tells only) (e.moments_damaged tells only) (e.moments_readable tells only)) e.passes_readable e.disk.restarts
+    (λ tells t image le may. g.met.D.Disk.counts_now tells c.in-Err.disk t image le may))
+
+pub returns-in-Ok-serve_all-clause-image : goal.returns-in-Ok-serve_all-clause-image
+returns-in-Ok-serve_all-clause-image g c =
+    rw c.close.ensures (answers_opened g.D.Disk 0 c.args.disk _ _ _ tt c.in-Ok.ensures.not_heap c.in-Ok.ensures.damaged
+    (λ tells. restarts_none 0 _ _ _ (λ done. refl) (c.serve_all.ensures.disk.restarts tells ∙ c.in-Ok.ensures.disk.restarts tells)))
+
+pub returns-in-Err-serve_all-clause-image : goal.returns-in-Err-serve_all-clause-image
+returns-in-Err-serve_all-clause-image g c =
+    rw (c.close-in-Err-serve_all.ensures, c.break_status.ensures) (answers_opened g.D.Disk 0 c.args.disk _ _ _ (broken_sound c.in-Err-serve_all.ended) c.in-Ok.ensures.not_heap c.in-Ok.ensures.damaged
+    (λ tells. restarts_none 0 _ _ _ (λ done. refl) (c.serve_all.ensures.disk.restarts tells ∙ c.in-Ok.ensures.disk.restarts tells)))
