@@ -104,7 +104,6 @@ pub fn run_alone<D: Disk, S: Source, K: Sink>(
     // at each moment; and each such status is true of the image. How often the disk was restarted.
     ensures image { (asked : Command) → command (map string_bytes words.now) ≡ Some asked → AnswersImage D.Disk (makes asked ≡ None) (restarts_of asked) disk result.1 result.0 (sink.new ≡ sink.old) }
 
-
     // Which statuses each command has.
     ensures ends { (asked : Command) → command (map string_bytes words.now) ≡ Some asked → IsEndOf asked result.0 }
 

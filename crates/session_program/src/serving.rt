@@ -100,7 +100,6 @@ fn serve_part<D: Disk, S: Source, K: Sink>(
     // Without a fault it is done, if memory suffices.
     ensures complete { OfTold D.tells (D.bytes disk) (D.may_leave disk) (IsStored (D.bytes disk) → ¬ Rose (S.faults source.old) (S.faults source.new) → ¬ Rose (K.faults sink.old) (K.faults sink.new)
         → ¬ DiskRose (D.faults disk) (D.stops disk) (D.faults result.1) (D.stops result.1) → (result.0 ≡ Status.Done) ⊎ (result.0 ≡ Status.NoMemory)) }
-
 {
     let mut heap = match Heap::open(alloc, disk) {
         Ok(heap) => heap,

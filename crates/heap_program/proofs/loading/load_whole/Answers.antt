@@ -54,7 +54,7 @@ returns-in-Err-clause-played g c tells stored only =
           (omega (arith, few.2, most)) (omega (arith, few.2, total))
           (λ refused. reads_only d c.args.disk c.in-Err.disk ((e.left_alone (refused_memory c.in-Err.e refused)).contents tells) only)
           (λ stop. opening_stops d (stored_calls stored) c.args.disk c.in-Err.disk c.in-Err.e outside passes e.disk.cause
-    (λ none. e.no_first_stop tells stored.super stored.batches stored.pages shaped (no_rollback (rollback_of stored.super stored.batches) none)));
+          (λ none. e.no_first_stop tells stored.super stored.batches stored.pages shaped (no_rollback (rollback_of stored.super stored.batches) none)));
       made = λ refused. absurd (open_not_refused c.in-Err.e (sym c.from.ensures ∙ refused));
       written = λ t. unwritten_summary c.from.result _ (g.K.Sink.written c.args.sink.now) (λ done. open_not_done c.in-Err.e (sym c.from.ensures ∙ done));
     }

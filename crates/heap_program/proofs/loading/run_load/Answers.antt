@@ -66,9 +66,9 @@ returns-in-Ok-clause-image g c =
     let image = c.load_whole-in-Ok.ensures.image in
     answers_made g.D.Disk 0 c.args.disk _ _ _ _ (λ none. let never : None ≡ Some c.in-Some.pages = sym none ∙ c.in-Some.is in cc never)
     (λ tells only.
-        let made = c.in-Ok.ensures.made tells in
-        let stored = new_stored c.in-Some.pages (g.D.Disk.bytes c.in-Ok.disk) made.0 in
-        end_sound _ (c.load_whole-in-Ok.ensures.played tells stored made.1).played.end)
+    let made = c.in-Ok.ensures.made tells in
+    let stored = new_stored c.in-Some.pages (g.D.Disk.bytes c.in-Ok.disk) made.0 in
+    end_sound _ (c.load_whole-in-Ok.ensures.played tells stored made.1).played.end)
     image.unwritten (λ tells. restarts_none 0 _ _ _ (λ done. refl) (never_restarted _ _ _ (image.restarts tells) ∙ c.in-Ok.ensures.disk.restarts tells))
 
 -- or none could be made

@@ -347,27 +347,27 @@ returns-in-Err-clause-image g c =
     let began = same_disk _ _ (e.disk.origin ∙ c.new.ensures.origin) ∙ sym inner in
     let image = answers_refused d asked first cut (c.args.sink.now ≡ c.args.sink.now) c.in-Err.e refl e.refused e.not_heap e.damaged
     (λ tells expected fault alone.
-        let reads = only_read _ expected (d.bytes first) c.new.result fuse _ fault alone (e.reads_not_heap tells) (e.reads_damaged tells) in
-        let still = reads.contents tells in
-        record {
-          contents = record {
-            bytes = still.bytes;
-            crash = still.crash;
-            moments = fuse_since c.new.result fuse (d.may_leave first) still.moments;
-            passed = fuse_none fuse first tells began (still.passed ∙ c.new.ensures.passed);
-          };
-          restarts = reads.disk.restarts tells;
-        })
+    let reads = only_read _ expected (d.bytes first) c.new.result fuse _ fault alone (e.reads_not_heap tells) (e.reads_damaged tells) in
+    let still = reads.contents tells in
+    record {
+      contents = record {
+        bytes = still.bytes;
+        crash = still.crash;
+        moments = fuse_since c.new.result fuse (d.may_leave first) still.moments;
+        passed = fuse_none fuse first tells began (still.passed ∙ c.new.ensures.passed);
+      };
+      restarts = reads.disk.restarts tells;
+    })
     (λ tells only. keeps_opening d first cut (λ none. fuse_since c.new.result fuse IsNoHeap (e.moments_not_heap tells only none))
     (λ place damage. fuse_since c.new.result fuse (IsFaultAt place) (e.moments_damaged tells only place damage))
     (λ s batches state readable. fuse_since c.new.result fuse (IsLogLeft s batches (d.bytes first)) (e.moments_readable tells only s batches state readable)))
     (λ tells unstopped fault. absurd (starts_some c.args.stop.again unstopped))
     (λ tells fault.
-        let n = fault_calls fault in
-        let passes = subst (λ p. ErrorPasses n p (fuse_passed fuse) c.in-Err.e) c.new.ensures.passed (e.passes_readable tells fault.1.0 fault.1.1 fault.1.2 fault.1.3) in
-        opens_few n (d.passed first) (d.passed cut) (d.bytes first) c.in-Err.e fault (e.refused tells)
-        (λ memory. fuse_none fuse first tells began (fails_none n 0 (fuse_passed fuse) c.in-Err.e memory passes))
-        (fuse_most fuse first n tells began (fails_few n (fuse_passed fuse) (few_calls fault.1.0 fault.1.1) c.in-Err.e passes)))
+    let n = fault_calls fault in
+    let passes = subst (λ p. ErrorPasses n p (fuse_passed fuse) c.in-Err.e) c.new.ensures.passed (e.passes_readable tells fault.1.0 fault.1.1 fault.1.2 fault.1.3) in
+    opens_few n (d.passed first) (d.passed cut) (d.bytes first) c.in-Err.e fault (e.refused tells)
+    (λ memory. fuse_none fuse first tells began (fails_none n 0 (fuse_passed fuse) c.in-Err.e memory passes))
+    (fuse_most fuse first n tells began (fails_few n (fuse_passed fuse) (few_calls fault.1.0 fault.1.1) c.in-Err.e passes)))
     (λ tells. restarts_none asked _ _ _ (λ done. absurd (open_not_done c.in-Err.e done)) (e.disk.restarts tells))
     (λ tells t image le may. g.met.D.Disk.counts_now tells cut t image le may) in
     rw (c.into_inner.ensures, c.from.ensures) (subst (λ x. AnswersImage d (Unit {0}) asked x cut (open_status c.in-Err.e) (c.args.sink.now ≡ c.args.sink.now)) inner image)

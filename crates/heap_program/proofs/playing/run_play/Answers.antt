@@ -103,9 +103,9 @@ returns-in-Ok-format-clause-image g c =
     let r = g.D.Disk.restarts in
     answers_made g.D.Disk (restarts_asked c.args.stop) c.args.disk _ _ _ _ (λ none. let never : None ≡ Some c.in-Some.pages = sym none ∙ c.in-Some.is in cc never)
     (λ tells only.
-        let made = c.in-Ok-format.ensures.made tells in
-        let stored = new_stored c.in-Some.pages (g.D.Disk.bytes c.in-Ok-format.disk) made.0 in
-        end_sound _ (c.play_script-in-Ok-format.ensures.played tells stored made.1).end)
+    let made = c.in-Ok-format.ensures.made tells in
+    let stored = new_stored c.in-Some.pages (g.D.Disk.bytes c.in-Ok-format.disk) made.0 in
+    end_sound _ (c.play_script-in-Ok-format.ensures.played tells stored made.1).end)
     image.unwritten
     (λ tells. subst (λ (n : ℕ). RestartsDisk (restarts_asked c.args.stop) c.play_script-in-Ok-format.result.0 n (r c.play_script-in-Ok-format.result.1)) (c.in-Ok-format.ensures.disk.restarts tells) (image.restarts tells))
 

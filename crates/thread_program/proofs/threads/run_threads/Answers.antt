@@ -112,9 +112,9 @@ returns-in-Ok-format-clause-image g c =
     let image = c.play_by_workers-in-Ok-format.ensures.image in
     answers_made g.D.Disk 0 c.args.disk _ _ _ _ (λ none. let never : None ≡ Some c.in-Some.pages = sym none ∙ c.in-Some.is in cc never)
     (λ tells only.
-        let made = c.in-Ok-format.ensures.made tells in
-        let stored = new_stored c.in-Some.pages (g.D.Disk.bytes c.in-Ok-format.disk) made.0 in
-        end_sound _ (c.play_by_workers-in-Ok-format.ensures.played tells stored made.1).runs.end)
+    let made = c.in-Ok-format.ensures.made tells in
+    let stored = new_stored c.in-Some.pages (g.D.Disk.bytes c.in-Ok-format.disk) made.0 in
+    end_sound _ (c.play_by_workers-in-Ok-format.ensures.played tells stored made.1).runs.end)
     image.unwritten (λ tells. restarts_none 0 _ _ _ (λ done. refl) (never_restarted _ _ _ (image.restarts tells) ∙ c.in-Ok-format.ensures.disk.restarts tells))
 
 -- or none could be made
