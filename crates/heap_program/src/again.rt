@@ -8,7 +8,7 @@ ghost use Rattle.heap_core.specs.Refinement.{IsLeftByStep};
 ghost use Rattle.heap_model.specs.Core.{Core};
 ghost use Rattle.heap_model.specs.CoreCrash.{StandsForFirst, IsCommitPrefix};
 ghost use Rattle.heap_program.specs.Causes.{StreamCause, RunsDisk, IsOpenedEnd, either_disk};
-ghost use Rattle.heap_program.specs.Headline.{Restarts, KeepsFirst, Reopens, FailsToOpen, IsCutOff, StartsAgain, EndsUnopened, starts_asked};
+ghost use Rattle.heap_program.specs.Headline.{OfTold, Restarts, KeepsFirst, Reopens, FailsToOpen, IsCutOff, StartsAgain, EndsUnopened, starts_asked};
 ghost use Rattle.heap_program.specs.Refusals.{KeepsFault, AnswersImage, AnswersLeft};
 ghost use Rattle.heap_program.specs.Output.{IsBefore, Recovers, WroteAgain};
 
