@@ -13,7 +13,7 @@ A claim is an item of a list, below a heading "Proved" or one that names a crate
 
     - What is promised (`Type::function`, `function`: `clause`, `clause.field`, result; law `name`; definition `IsRecord`: `field`).
 
-"result" is the clause without a name. A group is of functions, or begins with "law", "type", "definition" or "impl"; an impl without
+"result" is the clause without a name. A group is of functions, or begins with "law", "type", "definition" or "impl", some of them with an s; an impl without
 clauses claims all that its trait promises.
 """
 import functools
@@ -139,9 +139,24 @@ def has_field(text, name):
     return re.search(rf"^ +pub {re.escape(name)} :", text, re.M) is not None
 
 
+@functools.lru_cache(maxsize=None)
+def imports(crate):
+    """The names that a crate's code takes from the definitions of others, each with the crate that has it."""
+    found = [it for path in code(crate) for it in re.findall(r"ghost use Rattle\.(\w+)\.specs\.[\w.]+\.\{([^}]*)\}", text_of(path))]
+    return {name: other for other, names in found if other in crates() for name in re.findall(NAME, names)}
+
+
 def leads_to(crate, text, field):
-    """Whether a record of the crate that this text names, or one that is named there, and so on, has that field."""
-    known, seen, left = definitions(crate), set(), set(re.findall(NAME, text))
+    """Whether a record that this text names, of the crate or of one from which its code takes the name, or one that is named there, and so on, has
+    that field."""
+    named = set(re.findall(NAME, text))
+    taken = {(other, name) for name, other in imports(crate).items() if name in named}
+    return reaches(crate, named, field) or any(reaches(other, {name}, field) for other, name in taken)
+
+
+def reaches(crate, names, field):
+    """Whether a record of the crate with one of these names, or one that is named there, and so on, has that field."""
+    known, seen, left = definitions(crate), set(), set(names)
     while left:
         name = left.pop()
         seen.add(name)
@@ -200,7 +215,7 @@ def wrong_function(crate, name, clauses):
     return wrong
 
 
-KINDS = {"law": wrong_law, "laws": wrong_law, "definition": wrong_definition, "type": wrong_type, "impl": wrong_impl}
+KINDS = {"law": wrong_law, "laws": wrong_law, "definition": wrong_definition, "definitions": wrong_definition, "type": wrong_type, "impl": wrong_impl}
 
 
 def wrong_claim(crate, text):

@@ -1,8 +1,8 @@
 mod Calls
 mod Empty
 mod KeptEntries
-mod OpenErrors
 mod Outside
+mod PrintErrors
 mod RefinementGraph
 mod RefinementOpen
 mod StepCore

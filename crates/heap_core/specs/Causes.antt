@@ -1,11 +1,10 @@
 -- What the disk answered in a call of a heap, and what an error says of it.
-use Rattle.std.specs.Prelude.{◌≡◌, ℕ, ◌≤◌, Result, Ok, Err, ⊤}
+use Rattle.std.specs.Prelude.{◌≡◌, ℕ, ◌≤◌, Result, Ok, Err}
 use Rattle.std.specs.declared.alloc.AllocError.{AllocError}
 use Rattle.counts.specs.Count.{Rose}
 use Rattle.disk_model.specs.declared.disk.Disk.{Ghosts}
 use Rattle.disk_model.specs.declared.disk.DiskError.{DiskError}
 use Rattle.disk_model.specs.declared.disk.DiskError.TheVariants as device
-use Rattle.gate_slot.specs.Passing.{Passes}
 use Rattle.graph_model.specs.declared.reply.Reply.{Reply}
 use Rattle.graph_print.specs.declared.print_error.PrintError.{PrintError}
 use Rattle.graph_print.specs.declared.print_error.PrintError.TheVariants as printing
@@ -34,39 +33,18 @@ pub record WasCaused {T : Type 0} (faults faults' stops stops' : ℕ) (result : 
 abbrev pub IsCausedBy : {D : Type 0} (g : Ghosts D) → D → D → Reply → Type 0
 IsCausedBy g old new reply = WasCaused (g.faults old) (g.faults new) (g.stops old) (g.stops new) (reply_device reply)
 
--- the error of an opening for each error of a recovery
-abbrev pub open_error : RecoverError → OpenError
-open_error recovery.NoMemory = opening.NoMemory
-open_error recovery.NotHeap = opening.NotHeap
-open_error (recovery.Damaged at) = opening.Damaged at
-open_error (recovery.Disk device.Failed) = opening.DiskFault
-open_error (recovery.Disk device.Stopped) = opening.Stopped
+-- the error of a recovery that an opening reports by each of its own
+abbrev pub recovery_error : OpenError → RecoverError
+recovery_error opening.NoMemory = recovery.NoMemory
+recovery_error opening.NotHeap = recovery.NotHeap
+recovery_error (opening.Damaged at) = recovery.Damaged at
+recovery_error opening.DiskFault = recovery.Disk device.Failed
+recovery_error opening.Stopped = recovery.Disk device.Stopped
 
--- what the disk answered in an opening
-abbrev pub error_device : OpenError → Result (Unit {0}) DiskError
-error_device opening.DiskFault = Err device.Failed
-error_device opening.Stopped = Err device.Stopped
-error_device e = Ok tt
-
-abbrev pub opened_device : {H D : Type 0} → Result H (OpenError × D) → Result (Unit {0}) DiskError
-opened_device (Ok heap) = Ok tt
-opened_device (Err e) = error_device e.0
-
--- Memory ran out or the disk failed: nothing is said of the image.
-abbrev pub IsFromOutside : OpenError → Type 0
-IsFromOutside opening.NotHeap = ⊥
-IsFromOutside (opening.Damaged at) = ⊥
-IsFromOutside e = ⊤
-
--- The calls of an opening that ends in an error: fewer than n if the disk stopped it, and none if memory ran out.
-abbrev pub ErrorPasses : ℕ → ℕ → ℕ → OpenError → Type 0
-ErrorPasses n before now opening.NoMemory = now ≡ before
-ErrorPasses n before now e = Passes n before now (error_device e)
-
--- The calls of an opening: n if it succeeds.
-abbrev pub OpenedPasses : {H D : Type 0} → ℕ → ℕ → ℕ → Result H (OpenError × D) → Type 0
-OpenedPasses n before now (Ok heap) = Passes n before now (Ok tt)
-OpenedPasses n before now (Err e) = ErrorPasses n before now e.0
+-- how a recovery ended whose heap, or error, an opening returns
+abbrev pub opened_outcome : {H D : Type 0} → Result H (OpenError × D) → Result (Unit {0}) RecoverError
+opened_outcome (Ok heap) = Ok tt
+opened_outcome (Err e) = Err (recovery_error e.0)
 
 -- the error of a graph's text for each error of a print
 abbrev pub graph_error : PrintError → GraphError

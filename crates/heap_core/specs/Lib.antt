@@ -5,5 +5,4 @@ pub mod Format
 pub mod GivenBack
 pub mod HeapState
 pub mod Refinement
-pub mod Refusals
 pub mod Steps

@@ -1,7 +1,11 @@
 -- When an open heap is a core.
-use Rattle.std.specs.Prelude.{◌≡◌, ◌≢◌, ◌↔◌, IsTrue, ℕ, List, [], length, is_some, Option, None, MatchOption}
+use Rattle.std.specs.Prelude.{◌≡◌, ◌≢◌, ◌↔◌, Bool, IsTrue, ℕ, List, [], length, is_some, Option, None, MatchOption}
 use Rattle.disk_model.specs.declared.disk.Disk.{Ghosts}
+use Rattle.graph_model.specs.Graph.{Graph}
 use Rattle.graph_model.specs.History.{account}
+use Rattle.graph_words.specs.Places.{Places}
+use Rattle.log_records.specs.declared.Record.{Record}
+use Rattle.page_redo.specs.Pages.{Pages}
 use Rattle.image_plan.specs.declared.superblock.Super.{Super}
 use Rattle.heap_core.specs.declared.heap.Failure.{Failure}
 use Rattle.heap_core.specs.declared.heap.Heap.{Heap}
@@ -12,6 +16,8 @@ use Rattle.heap_engine.specs.Refinement.{IsEngine, OnDisk}
 pub use Rattle.heap_engine.specs.Refinement.{SameBehind, IsLeftByStep}
 use Rattle.heap_memory.specs.Memory.{own}
 use Rattle.heap_model.specs.Core.{Core}
+use Rattle.heap_model.specs.Image.{IsShapedLog}
+use Rattle.heap_model.specs.Opening.{opened, IsFound}
 
 -- What a heap remembers of a core, even after the disk stopped or failed: at which entry that was, whether records were pending before it, how
 -- many transactions were sealed, and which sessions have one.
@@ -36,6 +42,11 @@ module _ {D : Type 0} {g : Ghosts D} where
     pub before : heap.before ≡ c.before
     pub memory : Remembers c heap.engine heap.failed
     pub engine : heap.failed ≡ None → IsEngine g c heap.engine heap.disk
+
+  -- An open heap is the core that a shaped log encodes beside stored pages, in frames of which this many gates are open, whatever graph stands in it,
+  -- under whatever names.
+  abbrev pub IsCoreOfLog : (s : Super) (batches : List (List Record)) (stored : Pages) → IsShapedLog s batches stored → (ℕ → ℕ) → Heap D g → Type 0
+  IsCoreOfLog s batches stored shaped gates heap = (born : Bool) (places : Places) (graph : Graph) → IsFound s batches stored shaped born places graph → IsCore (opened s batches stored gates born places graph) heap
 
   -- The disk of an open heap holds a core's image, and a crash leaves nothing else; of a core whose disk stopped or failed a
   -- crash leaves a commit prefix, and the bytes past the plan.

@@ -55,9 +55,9 @@ pub enum OpenError {
 
 impl From<RecoverError> for OpenError {
     ghost use Rattle.std.specs.Prelude.{◌≡◌};
-    ghost use Rattle.heap_core.specs.Causes.{open_error};
+    ghost use Rattle.heap_core.specs.Causes.{recovery_error};
 
-    ghost from_gives = { λ e error. error ≡ open_error e };
+    ghost from_gives = { λ e error. recovery_error error ≡ e };
 
     fn from(e: RecoverError) -> Self {
         match e {

@@ -1,8 +1,8 @@
 //! The heap: events on an image, each of them one step.
-ghost use Rattle.std.specs.Prelude.{◌≡◌, ◌≢◌, ◌⊎◌, ◌↔◌, ◌+◌, ◌≤◌, ◌^◌, ◌<◌, ℕ, List, [], ◌∷◌, ◌++◌, length, min, is_some, Bool, true, None, Some, Ok, Err, IsTrue, IsOk, IfOk, IfErr, MatchResult, IsErrAnd, OnOk, OnErr};
+ghost use Rattle.std.specs.Prelude.{◌≡◌, ◌≢◌, ◌⊎◌, ◌↔◌, ◌+◌, ◌≤◌, ◌<◌, ℕ, List, [], ◌∷◌, ◌++◌, length, min, is_some, true, None, Some, Ok, Err, IsTrue, IsOk, IfOk, IfErr, MatchResult, OnOk, OnErr};
 ghost use Rattle.counts.specs.Count.{greatest};
 ghost use Rattle.disk_model.specs.Disk.{Only};
-ghost use Rattle.disk_model.specs.Keeps.{KeepsDisk, OnlyReads};
+ghost use Rattle.disk_model.specs.Keeps.{KeepsDisk};
 ghost use Rattle.disk_model.specs.Moments.{LeavesOnly};
 ghost use Rattle.gate_slot.specs.Passing.{Passes};
 ghost use Rattle.graph_model.specs.Graph.{Graph};
@@ -15,14 +15,14 @@ ghost use Rattle.graph_model.specs.declared.reply.Refusal.TheVariants.{DiskFault
 ghost use Rattle.image_plan.specs.declared.superblock.Super.{Super};
 ghost use Rattle.log_records.specs.declared.Record.{Record};
 ghost use Rattle.page_redo.specs.Pages.{Pages};
-ghost use Rattle.heap_model.specs.Image.{IsShapedLog, Holds, IsShaped, IsLegal};
+ghost use Rattle.heap_model.specs.Image.{IsShapedLog, IsShaped, IsLegal};
 ghost use Rattle.graph_model.specs.declared.id.Id.{Id};
 ghost use Rattle.graph_words.specs.Places.{Places};
 ghost use Rattle.object_layout.specs.Layout.{IsSeenAs};
-ghost use Rattle.heap_model.specs.Opening.{opened, rolled_back, rollback_of, opening_calls, IsFound, IsLeftByOpening};
+ghost use Rattle.heap_model.specs.Opening.{opened, IsFound};
 ghost use Rattle.heap_core.specs.Ending.{EndsAsTold, TakesNoMemory, IsReady, entries_kept};
 ghost use Rattle.limit_laws.specs.Room.{IsEnd};
-ghost use Rattle.heap_core.specs.Causes.{step_device, reply_device, opened_device, IsFromOutside, OpenedPasses};
+ghost use Rattle.heap_core.specs.Causes.{step_device, reply_device, opened_outcome};
 ghost use Rattle.heap_model.specs.Core.{Core, IsStep, calls, is_dirty};
 ghost use Rattle.page_store.specs.Gates.{open_gates};
 ghost use Rattle.core_laws.specs.Valid.{IsReached};
@@ -138,58 +138,24 @@ fn count(alloc: Global, mut words: CommittedWords<'_>, root: u32) -> Result<u64,
 
 impl<D: Disk> Heap<D> {
     ghost use Rattle.heap_core.specs.HeapState.{opened_disk, heap_disk, failed_at, entries_of, history_of};
-    ghost use Rattle.heap_core.specs.Refinement.{IsCore, IsHeap};
-    ghost use Rattle.heap_core.specs.Refusals.{IsToldOf, IsErrorOrOutside, ComesBeforeWrites};
-    ghost use Rattle.heap_core.specs.declared.errors.OpenError.TheVariants.{NotHeap, Damaged};
-    ghost use Rattle.heap_recovery.specs.declared.at.At.{At};
-    ghost use Rattle.heap_recovery.specs.Faults.{IsNoHeap, IsReadable, IsFaultAt, IsLogLeft};
-    ghost use Rattle.log_machine.specs.Machine.{State};
+    ghost use Rattle.heap_core.specs.Refinement.{IsCore, IsCoreOfLog, IsHeap};
+    ghost use Rattle.heap_recovery.specs.Opens.{OpensImage};
 
     /// Opens the heap on the disk. An error gives the disk back. `NotHeap` and `Damaged` report the first fault of its image, and the disk is then
     /// unchanged, except for a fault at an address: that is reported after the rollback was forced.
     pub fn open(alloc: Global, mut disk: D) -> Result<Heap<D>, (OpenError, D)>
-        ensures disk { KeepsDisk D.Disk disk (opened_disk result) (opened_device result) }
+        ensures image { OpensImage D.Disk disk (opened_disk result) (opened_outcome result) }
 
-        // What is opened is the core that a shaped log encodes beside stored pages, whatever graph stands in it, under whatever names: the log and the
-        // pages that were read, in frames of which this many gates are open.
-        ensures opens { IfOk result (λ heap. (s : Super) × (batches : List (List Record)) × (stored : Pages) × (gates : ℕ → ℕ) × (shaped : IsShapedLog s batches stored) × ((born : Bool) (places : Places) (g : Graph) → IsFound s batches stored shaped born places g → IsCore (opened s batches stored gates born places g) heap)) }
+        // What is opened is the core that a shaped log encodes beside stored pages: the log and the pages that were read.
+        ensures opens { IfOk result (λ heap. (s : Super) × (batches : List (List Record)) × (stored : Pages) × (gates : ℕ → ℕ) × (shaped : IsShapedLog s batches stored) × IsCoreOfLog s batches stored shaped gates heap) }
 
         ensures unfailed { IfOk result (λ heap. failed_at heap ≡ None) }
 
-        // On a modelled disk they are those of its image. An error reports only a fault that the image has, and a fault is reported unless memory runs out
-        // or the disk fails.
-        ensures sound { IsTrue D.tells → IfOk result (λ heap. (s : Super) × (batches : List (List Record)) × (stored : Pages) × (shaped : IsShaped s batches stored (D.bytes disk)) × ((born : Bool) (places : Places) (g : Graph) → IsFound s batches stored shaped.log born places g → IsCore (opened s batches stored (open_gates s.log_bytes (D.bytes disk)) born places g) heap)) }
-        ensures refused { IsTrue D.tells → IfErr result (λ e. IsToldOf e.0 (D.bytes disk)) }
-        ensures not_heap { IsTrue D.tells → IsNoHeap (D.bytes disk) → IsErrAnd result (λ e. IsErrorOrOutside NotHeap e.0) }
-        ensures damaged { IsTrue D.tells → (at : At) → IsFaultAt at (D.bytes disk) → IsErrAnd result (λ e. IsErrorOrOutside (Damaged at) e.0) }
-        ensures left_alone { IfErr result (λ e. ComesBeforeWrites e.0 → OnlyReads D.Disk disk (opened_disk result) (opened_device result)) }
-        // An image with a fault that is found before any write is only read, however the opening ends: the first stop of its disk doesn't come here.
-        ensures reads_not_heap { IsTrue D.tells → IsNoHeap (D.bytes disk) → OnlyReads D.Disk disk (opened_disk result) (opened_device result) }
-        ensures reads_damaged { IsTrue D.tells → (at : At) → IsFaultAt at (D.bytes disk) → ComesBeforeWrites (Damaged at) → OnlyReads D.Disk disk (opened_disk result) (opened_device result) }
-        // A crash at any moment leaves an image that is refused as this one is.
-        ensures moments_not_heap { IsTrue D.tells → Only (D.bytes disk) (D.may_leave disk) → IsNoHeap (D.bytes disk) → LeavesOnly D.moment D.left_since disk (opened_disk result) IsNoHeap }
-        ensures moments_damaged { IsTrue D.tells → Only (D.bytes disk) (D.may_leave disk) → (at : At) → IsFaultAt at (D.bytes disk) → LeavesOnly D.moment D.left_since disk (opened_disk result) (IsFaultAt at) }
-
-        // Of an image whose log can be read, whatever its words, a crash at any moment leaves one with that log or with that log rolled back, and each byte
-        // outside of the log as it was. The opening then makes these calls, and leaves nothing unsynced if it reports a fault of the words.
-        ensures moments_readable { IsTrue D.tells → Only (D.bytes disk) (D.may_leave disk) → (s : Super) (batches : List (List Record)) (state : State) → IsReadable s batches state (D.bytes disk) → LeavesOnly D.moment D.left_since disk (opened_disk result) (IsLogLeft s batches (D.bytes disk)) }
-        ensures passes_readable { IsTrue D.tells → (s : Super) (batches : List (List Record)) (state : State) → IsReadable s batches state (D.bytes disk) → OpenedPasses (opening_calls s batches) (D.passed disk) (D.passed (opened_disk result)) result }
-        ensures durable_damaged { IsTrue D.tells → Only (D.bytes disk) (D.may_leave disk) → IfErr result (λ e. (at : At) → e.0 ≡ Damaged at → Only (D.bytes e.1) (D.may_leave e.1)) }
-
+        // On a modelled disk they are those of its image.
+        ensures sound { IsTrue D.tells → IfOk result (λ heap. (s : Super) × (batches : List (List Record)) × (stored : Pages) × (shaped : IsShaped s batches stored (D.bytes disk)) × IsCoreOfLog s batches stored shaped.log (open_gates s.log_bytes (D.bytes disk)) heap) }
         // Of a shaped image they are the log and the pages that the disk holds; if that is legal the disk then holds the core.
-        ensures found { IsTrue D.tells → (s : Super) (batches : List (List Record)) (stored : Pages) → (shaped : IsShaped s batches stored (D.bytes disk)) → IfOk result (λ heap. (born : Bool) (places : Places) (g : Graph) → IsFound s batches stored shaped.log born places g → IsCore (opened s batches stored (open_gates s.log_bytes (D.bytes disk)) born places g) heap) }
+        ensures found { IsTrue D.tells → (s : Super) (batches : List (List Record)) (stored : Pages) → (shaped : IsShaped s batches stored (D.bytes disk)) → IfOk result (IsCoreOfLog s batches stored shaped.log (open_gates s.log_bytes (D.bytes disk))) }
         ensures holds { IsTrue D.tells → (s : Super) (batches : List (List Record)) (stored : Pages) → (legal : IsLegal s batches stored (D.bytes disk)) → Only (D.bytes disk) (D.may_leave disk) → IfOk result (λ heap. (places : Places) (g : Graph) → IsFound s batches stored legal.log.shaped true places g → IsHeap s (opened s batches stored (open_gates s.log_bytes (D.bytes disk)) true places g) heap) }
-        // A shaped image is refused only for lack of memory or by the disk.
-        ensures shaped { IsTrue D.tells → (s : Super) (batches : List (List Record)) (stored : Pages) → IsShaped s batches stored (D.bytes disk) → IfErr result (λ e. IsFromOutside e.0) }
-        // At each moment of it a crash leaves the image as it was, or with its log rolled back: both stand for the same graph and commits.
-        ensures moments { IsTrue D.tells → Only (D.bytes disk) (D.may_leave disk) → (s : Super) (batches : List (List Record)) (stored : Pages) → IsShaped s batches stored (D.bytes disk) → LeavesOnly D.moment D.left_since disk (opened_disk result) (IsLeftByOpening s batches stored) }
-        ensures crash { IsTrue D.tells → Only (D.bytes disk) (D.may_leave disk) → (s : Super) (batches : List (List Record)) (stored : Pages) → IsShaped s batches stored (D.bytes disk) → (image : List ℕ) → D.may_leave (opened_disk result) image → IsLeftByOpening s batches stored image }
-        // It writes only if it has to take transactions' writes back.
-        ensures passes { IsTrue D.tells → (s : Super) (batches : List (List Record)) (stored : Pages) → IsShaped s batches stored (D.bytes disk) → OpenedPasses (opening_calls s batches) (D.passed disk) (D.passed (opened_disk result)) result }
-        // The disk then holds the log rolled back beside the same pages, and a crash leaves nothing else.
-        ensures rolled { IsTrue D.tells → (s : Super) (batches : List (List Record)) (stored : Pages) → IsShaped s batches stored (D.bytes disk) → IfOk result (λ heap. Holds s (rolled_back s batches) stored (D.bytes (heap_disk heap))) }
-        ensures durable { IsTrue D.tells → Only (D.bytes disk) (D.may_leave disk) → IfOk result (λ heap. Only (D.bytes (heap_disk heap)) (D.may_leave (heap_disk heap))) }
-        ensures no_first_stop { IsTrue D.tells → (s : Super) (batches : List (List Record)) (stored : Pages) → IsShaped s batches stored (D.bytes disk) → rollback_of s batches ≡ [] → D.stops disk ≡ 0 → D.stops (opened_disk result) ≡ 0 }
     {
         // The table is allocated before the disk is written.
         let mut table = match TxnTable::new(alloc) {

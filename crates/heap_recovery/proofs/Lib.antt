@@ -1,4 +1,5 @@
 pub mod FaultLaws
 pub mod LogReplay
 pub mod Opening
+pub mod OpensLaws
 pub mod Refusals

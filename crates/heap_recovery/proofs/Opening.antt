@@ -1,12 +1,10 @@
 -- What an opening reads of a log, and what it leaves.
-use Rattle.std.proofs.Common.{inl, inr, ◌≡◌, ◌⊎◌, ⊎_elim, ℕ, ◌+◌, ◌<◌, ◌≤◌, cond, List, [], ◌∷◌, ◌++◌, length, length-append, Option, None, Some, Result, Ok, Err, refl, sym, ap, ◌∙◌, subst, arith}
-use Rattle.std.specs.Prelude.{nat_lt, if◌then◌else◌, IsFalse, IfOk, IfErr, IsOk}
+use Rattle.std.proofs.Common.{◌≡◌, ℕ, ◌+◌, ◌<◌, ◌≤◌, cond, List, [], ◌∷◌, ◌++◌, length, length-append, Option, None, Some, Result, Ok, Err, refl, sym, ap, ◌∙◌, subst, arith}
+use Rattle.std.specs.Prelude.{nat_lt, if◌then◌else◌, IsFalse, IfOk}
 use Rattle.std.proofs.lemmas.Bool.{lt-ltb}
 use Rattle.std.proofs.lemmas.Bool.Decides.{nat_tests}
 use Rattle.disk_model.specs.declared.disk.DiskError.{DiskError}
 use Rattle.disk_model.specs.Disk.{part, Only, Narrows, SameOutside}
-use Rattle.disk_model.specs.Moments.{LeavesOnly}
-use Rattle.disk_model.proofs.MomentLaws.{joined, weaker}
 use Rattle.gate_slot.specs.Passing.{Passes}
 use Rattle.gated_log.specs.declared.log.Log.{Log}
 use Rattle.gated_log.specs.Log.{records_of, with_batch, HoldsBatches, batches_bytes}
@@ -35,16 +33,15 @@ use Rattle.object_layout.specs.CollectionWalk.{FromSpace, IsWalkFaultBeside, IsW
 use Rattle.object_layout.proofs.CollectionLaws.{beside_walked_fault}
 use Rattle.walk_laws.specs.Heap.{IsStateWalked, from_space}
 use Rattle.heap_model.proofs.Step.Room.{records_of-with_batch}
-use Rattle.heap_model.proofs.Opening.Held.{held_with}
 use Rattle.heap_model.specs.Bits.{AreOf64Bits}
 use Rattle.heap_model.specs.Image.{origin_of, redone_words, words_of, IsShapedLog, Holds}
 use Rattle.heap_model.specs.Core.{force_calls}
-use Rattle.heap_model.specs.Opening.{state_of, IsLeftByOpening, opening_calls, rollback_in, rollback_of, rolled_back}
+use Rattle.heap_model.specs.Opening.{state_of, opening_calls, rollback_in, rollback_of, rolled_back}
 use Rattle.heap_recovery.specs.declared.error.RecoverError.{RecoverError}
 use Rattle.heap_recovery.specs.declared.error.RecoverError.TheVariants.{NoMemory, NotHeap, Damaged, Disk}
 use Rattle.heap_recovery.specs.declared.reading.Reading.{Reading}
 use Rattle.heap_recovery.specs.declared.recovery.Recovered.{Recovered}
-use Rattle.heap_recovery.specs.Recovered.{IsRead, IsRecovered, IsFromOutside, ErrorPasses, OpenPasses}
+use Rattle.heap_recovery.specs.Recovered.{IsRead, IsRecovered, IsFromOutside, ErrorPasses}
 
 -- a log with no pending record is known to be so
 pub none_waits : (log : Log) (batches : List (List Record)) → Keeps log batches [] → IsBufferEmpty log
@@ -211,21 +208,6 @@ pub known_found : (r : Result Recovered RecoverError) (cache : PageCache) (image
 known_found (Ok found) cache image same knows = subst (λ (x : PageCache). Knows (cache_store x) image) (sym same) knows
 known_found (Err e) cache image same knows = tt
 
--- an opening that ended well
-pub ok_outside : (r : Result Recovered RecoverError) → IsOk r → IfErr r IsFromOutside
-ok_outside (Ok found) ok = tt
-ok_outside (Err e) ok = cc ok
-
--- what is found in any case
-pub if_ok : (r : Result Recovered RecoverError) (P : Type 0) → P → IfOk r (λ found. P)
-if_ok (Ok found) P h = h
-if_ok (Err e) P h = tt
-
--- the calls of an opening that ends well
-pub ok_passes : (r : Result Recovered RecoverError) (n before now : ℕ) → IsOk r → Passes n before now (Ok tt) → OpenPasses n before now r
-ok_passes (Ok found) n before now ok passes = passes
-ok_passes (Err e) n before now ok passes = cc ok
-
 -- a force makes four calls where a record is pending
 some_bytes : (r : Record) (rs : List Record) → 0 < length (spellings (r ∷ rs))
 some_bytes r rs = omega (arith, some_spelling r, length-append (spelling r) (spellings rs))
@@ -245,15 +227,3 @@ module _ (s : Super) (batches : List (List Record)) (stored : Pages) (read : Rea
   -- and no record is pending where nothing is rolled back
   pub nothing_waits : rollback_of s batches ≡ [] → IsBufferEmpty log
   nothing_waits none = none_waits log batches (subst (λ (rs : List Record). Keeps log batches rs) (sym (same_rollback s batches stored read is) ∙ none) keeps)
-
--- A crash at any moment of an opening leaves the image as it was, or with its log rolled back.
-pub opening_moments : {D : Type 0} (moment : D → ℕ) (left_since : D → ℕ → List ℕ → Type 0) (old mid new : D) (may_leave : List ℕ → Type 0) (now image : List ℕ) (s : Super) (batches : List (List Record)) (stored : Pages) → Holds s batches stored image → (read : Reading)
-    → IsRead s batches stored read → Only image may_leave → now ≡ image → LeavesOnly moment left_since old mid may_leave
-    → LeavesOnly moment left_since mid new (λ c. SameOutside (log_place read.log) (log_place read.log + log_room read.log) now c × (HoldsBatches (part c (log_place read.log) (log_room read.log)) batches ⊎ HoldsBatches (part c (log_place read.log) (log_room read.log)) (with_batch batches (rollback read.state))))
-    → LeavesOnly moment left_since old new (IsLeftByOpening s batches stored)
-opening_moments moment left_since old mid new may_leave now image s batches stored here read is only same first second =
-    let outside = outside_log s batches stored read is image now in
-    weaker moment left_since old new _ (IsLeftByOpening s batches stored) (joined moment left_since old mid new _ _ first second)
-    (λ c. ⊎_elim (λ left. inl (subst (Holds s batches stored) (sym (only c left)) here))
-    (λ found. ⊎_elim (λ holds. inl (held_with s batches batches stored image c here (outside c same found.0) (in_log s batches stored read is (λ n m. HoldsBatches (part c n m) batches) holds)))
-    (λ holds. inr (held_with s batches (rolled_back s batches) stored image c here (outside c same found.0) (rolled_held s batches stored read is c holds))) found.1))

@@ -1,6 +1,6 @@
 -- What an opening reports of an image that it refuses, and what it leaves of it.
 use Rattle.std.proofs.Common.{inl, inr, ◌≡◌, ◌≢◌, ◌⊎◌, ⊎_elim, ℕ, ◌+◌, ◌≤◌, List, Option, None, Some, Result, Ok, Err, refl, sym, ap, ◌∙◌, subst, arith}
-use Rattle.std.specs.Prelude.{IfOk, IfErr, IsOk, IsErrAnd}
+use Rattle.std.specs.Prelude.{IfOk, IfErr, IsOk, OnOk}
 use Rattle.std.specs.List.{AllByRecursion}
 use Rattle.disk_model.specs.Disk.{part, Only, Narrows, SameOutside}
 use Rattle.disk_model.specs.Moments.{LeavesOnly}
@@ -28,8 +28,10 @@ use Rattle.heap_recovery.specs.declared.error.RecoverError.{RecoverError}
 use Rattle.heap_recovery.specs.declared.error.RecoverError.TheVariants.{NoMemory, NotHeap, Damaged, Disk}
 use Rattle.heap_recovery.specs.declared.reading.Reading.{Reading}
 use Rattle.heap_recovery.specs.declared.recovery.Recovered.{Recovered}
-use Rattle.heap_recovery.specs.Faults.{stored_in, HasSuper, IsNoHeap, HoldsLog, IsReadable, IsFaultAt, IsToldOf, IsErrorOrOutside, IsLogLeft}
-use Rattle.heap_recovery.proofs.FaultLaws.{one_numbers, one_batches, shaped_log, shaped_whole, told_not_heap, told_damaged, readable_fault, left_fault, left_same, rolled_spelled}
+use Rattle.heap_recovery.specs.Causes.{open_device}
+use Rattle.heap_recovery.specs.Opens.{outcome}
+use Rattle.heap_recovery.specs.Faults.{stored_in, HasSuper, HoldsLog, IsReadable, IsFaultAt, IsToldOf, ComesBeforeWrites, IsLogLeft}
+use Rattle.heap_recovery.proofs.FaultLaws.{one_numbers, one_batches, shaped_log, shaped_whole, readable_fault, left_fault, left_same, rolled_spelled}
 use Rattle.heap_recovery.specs.Recovered.{IsRead, IsRecovered, IsFromOutside, ErrorPasses, OpenPasses}
 use Rattle.heap_recovery.proofs.Opening.{committed, only_still, in_log, held_there, outside_log, rolled_held, placed_there, read_shaped}
 
@@ -75,36 +77,49 @@ read_own s batches stored image (Ok read) shaped (bs, is, readable) =
 abbrev pub IsFoundOn : List ℕ → Recovered → Type 0
 IsFoundOn image found = (s : Super) × (batches : List (List Record)) × (stored : Pages) × IsShaped s batches stored image × IsRecovered s batches stored found
 
--- of what is no heap nothing is opened, and an error reports that
-pub not_heap_told : (r : Result Recovered RecoverError) (image : List ℕ) → IfErr r (λ e. IsToldOf e image) → IfOk r (IsFoundOn image) → IsNoHeap image → IsErrAnd r (IsErrorOrOutside NotHeap)
-not_heap_told (Ok found) image told sound none = absurd (none sound.0 (shaped_log sound.0 sound.1 sound.2 image sound.3).super)
-not_heap_told (Err e) image told sound none = told_not_heap e image told none
+-- so it has no fault
+pub found_whole : (r : Result Recovered RecoverError) (image : List ℕ) → IfOk r (IsFoundOn image) → OnOk (outcome r) ((at : At) → ¬ IsFaultAt at image)
+found_whole (Ok found) image sound = λ at. shaped_whole sound.0 sound.1 sound.2 image at sound.3
+found_whole (Err e) image sound = tt
 
--- nor of what is damaged
-pub damaged_told : (r : Result Recovered RecoverError) (image : List ℕ) → IfErr r (λ e. IsToldOf e image) → IfOk r (IsFoundOn image) → (at : At) → IsFaultAt at image → IsErrAnd r (IsErrorOrOutside (Damaged at))
-damaged_told (Ok found) image told sound at fault = absurd (shaped_whole sound.0 sound.1 sound.2 image at sound.3 fault)
-damaged_told (Err e) image told sound at fault = told_damaged e image at told fault
+-- what is so in any case
+pub on_ok : (r : Result Recovered RecoverError) (P : Type 0) → P → OnOk (outcome r) P
+on_ok (Ok found) P h = h
+on_ok (Err e) P h = tt
+
+pub on_damaged : (r : Result Recovered RecoverError) (P : Type 0) → P → IfErr (outcome r) (λ e. (at : At) → e ≡ Damaged at → P)
+on_damaged (Ok found) P h = tt
+on_damaged (Err e) P h = λ at is. h
+
+-- what the disk answered
+pub device_of : (r : Result Recovered RecoverError) → open_device (outcome r) ≡ open_device r
+device_of (Ok found) = refl
+device_of (Err e) = refl
 
 -- Where the walk has found a fault, or none.
 module _ (r : Result Recovered RecoverError) (fault : Option ℕ) (damaged : (at : ℕ) → fault ≡ Some at → r ≡ Err (Damaged (Address at))) (whole : fault ≡ None → IsOk r) where
-  ended : (o : Option ℕ) (P : RecoverError → Type 0) → fault ≡ o → ((at : ℕ) → fault ≡ Some at → P (Damaged (Address at))) → IfErr r P
+  ended : (o : Option ℕ) (P : RecoverError → Type 0) → fault ≡ o → ((at : ℕ) → fault ≡ Some at → P (Damaged (Address at))) → IfErr (outcome r) P
   ended None P is told = ok_none r (whole is)
     where
-      ok_none : (x : Result Recovered RecoverError) → IsOk x → IfErr x P
+      ok_none : (x : Result Recovered RecoverError) → IsOk x → IfErr (outcome x) P
       ok_none (Ok found) ok = tt
       ok_none (Err e) ok = cc ok
-  ended (Some at) P is told = subst (λ x. IfErr x P) (sym (damaged at is)) (told at is)
+  ended (Some at) P is told = subst (λ x. IfErr (outcome x) P) (sym (damaged at is)) (told at is)
 
   -- an opening has then made all calls
-  pub finish_passes : (n before now : ℕ) → Passes n before now (Ok tt) → OpenPasses n before now r
+  pub finish_passes : (n before now : ℕ) → Passes n before now (Ok tt) → OpenPasses n before now (outcome r)
   finish_passes n before now passes = either r (ended fault (λ e. ErrorPasses n before now e) refl (λ at is. passes))
     where
-      either : (x : Result Recovered RecoverError) → IfErr x (λ e. ErrorPasses n before now e) → OpenPasses n before now x
+      either : (x : Result Recovered RecoverError) → IfErr (outcome x) (λ e. ErrorPasses n before now e) → OpenPasses n before now (outcome x)
       either (Ok found) told = passes
       either (Err e) told = told
 
-  -- an error reports that fault
-  pub finish_told : (image : List ℕ) → ((at : ℕ) → fault ≡ Some at → IsFaultAt (Address at) image) → IfErr r (λ e. IsToldOf e image)
+  -- an error comes after the writes
+  pub finish_late : IfErr (outcome r) (λ e. ¬ ComesBeforeWrites e)
+  finish_late = ended fault (λ e. ¬ ComesBeforeWrites e) refl (λ at is early. early)
+
+  -- it reports that fault
+  pub finish_told : (image : List ℕ) → ((at : ℕ) → fault ≡ Some at → IsFaultAt (Address at) image) → IfErr (outcome r) (λ e. IsToldOf e image)
   finish_told image told = ended fault (λ e. IsToldOf e image) refl told
 
 module _ (s : Super) (batches : List (List Record)) (image : List ℕ) (read : Reading) (is : IsRead s batches (stored_in s image) read) (readable : IsReadable s batches read.state image) where
@@ -167,22 +182,19 @@ module _ {D : Type 0} (moment : D → ℕ) (left_since : D → ℕ → List ℕ 
           outside c found.0,
         )))
 
-    module _ (run : LeavesOnly moment left_since old new (IsLogLeft s batches image)) where
-      -- whatever the log is called
-      pub left_readable : (r : Super) (bs : List (List Record)) (state : State) → IsReadable r bs state image → LeavesOnly moment left_since old new (IsLogLeft r bs image)
-      left_readable r bs state other =
-          let log = readable.roomy.replayed.log in
-          let there = other.roomy.replayed.log in
-          let numbers = one_numbers s r image log.super there.super in
-          let mine = (let P : Super → Type 0 = λ x. HoldsLog x batches image in subst P numbers log) in
-          let Q : Super → Type 0 = λ x. LeavesOnly moment left_since old new (IsLogLeft x batches image) in
-          let R : List (List Record) → Type 0 = λ l. LeavesOnly moment left_since old new (IsLogLeft r l image) in
-          subst R (one_batches r batches bs image mine there) (subst Q numbers run)
+  -- So it leaves of an image whose log can be read,
+  module _ (s : Super) (batches : List (List Record)) (state : State) (image : List ℕ) (readable : IsReadable s batches state image) (old new : D) (run : LeavesOnly moment left_since old new (IsLogLeft s batches image)) where
+    -- whatever that log is called,
+    pub left_readable : (r : Super) (bs : List (List Record)) (other : State) → IsReadable r bs other image → LeavesOnly moment left_since old new (IsLogLeft r bs image)
+    left_readable r bs other there =
+        let log = readable.roomy.replayed.log in
+        let that = there.roomy.replayed.log in
+        let numbers = one_numbers s r image log.super that.super in
+        let mine = (let P : Super → Type 0 = λ x. HoldsLog x batches image in subst P numbers log) in
+        let Q : Super → Type 0 = λ x. LeavesOnly moment left_since old new (IsLogLeft x batches image) in
+        let R : List (List Record) → Type 0 = λ l. LeavesOnly moment left_since old new (IsLogLeft r l image) in
+        subst R (one_batches r batches bs image mine that) (subst Q numbers run)
 
-      -- an image whose log can be read is a heap
-      pub left_no_heap : IsNoHeap image → LeavesOnly moment left_since old new IsNoHeap
-      left_no_heap none = absurd (none s readable.roomy.replayed.log.super)
-
-      -- a fault stays
-      pub left_damaged : (at : At) → IsFaultAt at image → LeavesOnly moment left_since old new (IsFaultAt at)
-      left_damaged at fault = weaker moment left_since old new (IsLogLeft s batches image) (IsFaultAt at) run (left_fault s batches read.state image readable at fault)
+    -- one with the same fault
+    pub left_damaged : (at : At) → IsFaultAt at image → LeavesOnly moment left_since old new (IsFaultAt at)
+    left_damaged at fault = weaker moment left_since old new (IsLogLeft s batches image) (IsFaultAt at) run (left_fault s batches state image readable at fault)

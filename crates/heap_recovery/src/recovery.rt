@@ -1,30 +1,25 @@
 //! An image is opened, and the writes of unfinished transactions are rolled back.
-ghost use Rattle.std.specs.Prelude.{◌≡◌, ◌+◌, ◌^◌, ◌<◌, ◌≤◌, ℕ, List, [], None, Some, Ok, Err, IsTrue, IsOk, IfOk, IfErr, IfSome, OnOk, IsErrAnd};
+ghost use Rattle.std.specs.Prelude.{◌≡◌, ◌+◌, ◌^◌, ◌<◌, ◌≤◌, ℕ, List, [], None, Some, Ok, Err, IsTrue, IsOk, IfOk, IfErr, IfSome, OnOk};
 ghost use Rattle.std.specs.Option.{option_map};
-ghost use Rattle.disk_model.specs.Disk.{Only};
-ghost use Rattle.disk_model.specs.Keeps.{KeepsDisk, OnlyReads};
-ghost use Rattle.disk_model.specs.Moments.{LeavesOnly};
 ghost use Rattle.gated_log.specs.LogState.{log_place, log_room, log_used, log_count, Keeps};
 ghost use Rattle.image_plan.specs.declared.superblock.Super.{Super};
 ghost use Rattle.log_records.specs.declared.Record.{Record};
-ghost use Rattle.log_machine.specs.Machine.{State, settled, rollback, all_taken_back, reserve, words_in};
+ghost use Rattle.log_machine.specs.Machine.{settled, rollback, all_taken_back, reserve, words_in};
 ghost use Rattle.page_redo.specs.Pages.{Pages};
 ghost use Rattle.page_redo.specs.Redo.{EachLacks, redo_all};
-ghost use Rattle.page_store.specs.Gates.{open_gates};
 ghost use Rattle.page_store.specs.StoreState.{Knows};
 ghost use Rattle.page_cache.specs.CacheState.{cached, cache_store, cache_size};
 ghost use Rattle.object_layout.specs.CollectionWalk.{IsWalkFaultBeside, given};
 ghost use Rattle.walk_laws.specs.Heap.{IsStateWalked, from_space};
 ghost use Rattle.heap_model.specs.Bits.{AreOf64Bits};
-ghost use Rattle.heap_model.specs.Image.{IsShapedLog, Holds, IsShaped};
+ghost use Rattle.heap_model.specs.Image.{IsShapedLog, IsShaped};
 ghost use Rattle.heap_model.specs.Lsns.{log_next_lsn};
-ghost use Rattle.heap_model.specs.Opening.{rollback_of, rolled_back, opening_calls, IsLeftByOpening};
 ghost use Rattle.heap_recovery.specs.Causes.{open_device};
 ghost use Rattle.heap_recovery.specs.declared.at.At.{At};
 ghost use Rattle.heap_recovery.specs.declared.at.At.TheVariants.{Address};
-ghost use Rattle.heap_recovery.specs.declared.error.RecoverError.TheVariants.{NoMemory, NotHeap, Damaged};
-ghost use Rattle.heap_recovery.specs.Faults.{IsNoHeap, IsReadable, IsFaultAt, IsToldOf, IsErrorOrOutside, ComesBeforeWrites, IsLogLeft};
-ghost use Rattle.heap_recovery.specs.Recovered.{IsRecovered, IsFromOutside, OpenPasses};
+ghost use Rattle.heap_recovery.specs.declared.error.RecoverError.TheVariants.{NoMemory, Damaged};
+ghost use Rattle.heap_recovery.specs.Opens.{outcome, OpensImage};
+ghost use Rattle.heap_recovery.specs.Recovered.{IsRecovered};
 
 use crate::at::At;
 use crate::error::RecoverError;
@@ -53,44 +48,17 @@ pub struct Recovered {
 /// `NotHeap` and `Damaged` report the first fault of the image. The disk is then as it was, but for a fault at an address: that is reported
 /// after the rollback was forced.
 pub fn recover<D: Disk>(alloc: Global, disk: &mut D) -> Result<Recovered, RecoverError>
+    ensures image { OpensImage D.Disk disk.old disk.new (outcome result) }
+
     // On every disk what is opened is a log that is shaped beside some pages, rolled back.
     ensures opens { IfOk result (λ found. (s : Super) × (batches : List (List Record)) × (stored : Pages) × IsShapedLog s batches stored × IsRecovered s batches stored found) }
     ensures inside { IfOk result (λ found. log_place found.log + log_room found.log ≤ D.extent disk.new) }
     ensures pages_inside { IfOk result (λ found. cache_size found.cache ≤ D.extent disk.new) }
-    ensures disk { KeepsDisk D.Disk disk.old disk.new (open_device result) }
 
-    // They are the log and the pages of the image. An error reports what is wrong with the image, and every fault is reported.
+    // They are the log and the pages of the image. A shaped image is opened as it is, and the pages that it stores are known.
     ensures sound { IsTrue D.tells → IfOk result (λ found. (s : Super) × (batches : List (List Record)) × (stored : Pages) × IsShaped s batches stored (D.bytes disk.old) × IsRecovered s batches stored found) }
-    ensures refused { IsTrue D.tells → IfErr result (λ e. IsToldOf e (D.bytes disk.old)) }
-    ensures not_heap { IsTrue D.tells → IsNoHeap (D.bytes disk.old) → IsErrAnd result (IsErrorOrOutside NotHeap) }
-    ensures damaged { IsTrue D.tells → (at : At) → IsFaultAt at (D.bytes disk.old) → IsErrAnd result (IsErrorOrOutside (Damaged at)) }
-    ensures left_alone { IfErr result (λ e. ComesBeforeWrites e → OnlyReads D.Disk disk.old disk.new (open_device result)) }
-    // An image with a fault that comes before writes is only read, whatever the outcome: its disk doesn't stop here for the first time.
-    ensures reads_not_heap { IsTrue D.tells → IsNoHeap (D.bytes disk.old) → OnlyReads D.Disk disk.old disk.new (open_device result) }
-    ensures reads_damaged { IsTrue D.tells → (at : At) → IsFaultAt at (D.bytes disk.old) → ComesBeforeWrites (Damaged at) → OnlyReads D.Disk disk.old disk.new (open_device result) }
-
-    // A crash at any moment leaves an image with the same log, or that log rolled back; where it is wrong, with the same fault.
-    ensures moments_readable { IsTrue D.tells → Only (D.bytes disk.old) (D.may_leave disk.old) → (s : Super) (batches : List (List Record)) (state : State) → IsReadable s batches state (D.bytes disk.old) → LeavesOnly D.moment D.left_since disk.old disk.new (IsLogLeft s batches (D.bytes disk.old)) }
-    ensures moments_not_heap { IsTrue D.tells → Only (D.bytes disk.old) (D.may_leave disk.old) → IsNoHeap (D.bytes disk.old) → LeavesOnly D.moment D.left_since disk.old disk.new IsNoHeap }
-    ensures moments_damaged { IsTrue D.tells → Only (D.bytes disk.old) (D.may_leave disk.old) → (at : At) → IsFaultAt at (D.bytes disk.old) → LeavesOnly D.moment D.left_since disk.old disk.new (IsFaultAt at) }
-
-    // A shaped image is opened as it is, and the disk then holds it rolled back. The pages that it stores are known.
     ensures found { IsTrue D.tells → (s : Super) (batches : List (List Record)) (stored : Pages) → IsShaped s batches stored (D.bytes disk.old) → IfOk result (IsRecovered s batches stored) }
-    ensures shaped { IsTrue D.tells → (s : Super) (batches : List (List Record)) (stored : Pages) → IsShaped s batches stored (D.bytes disk.old) → IfErr result IsFromOutside }
-    ensures holds { IsTrue D.tells → (s : Super) (batches : List (List Record)) (stored : Pages) → IsShaped s batches stored (D.bytes disk.old) → IfOk result (λ found. Holds s (rolled_back s batches) stored (D.bytes disk.new)) }
     ensures known { IsTrue D.tells → IfOk result (λ found. Knows (cache_store found.cache) (D.bytes disk.new)) }
-    // It stores no page.
-    ensures gates { IsTrue D.tells → (s : Super) (batches : List (List Record)) (stored : Pages) → IsShaped s batches stored (D.bytes disk.old) → IfOk result (λ found. (p : ℕ) → open_gates s.log_bytes (D.bytes disk.new) p ≡ open_gates s.log_bytes (D.bytes disk.old) p) }
-    ensures durable { IsTrue D.tells → Only (D.bytes disk.old) (D.may_leave disk.old) → IfOk result (λ found. Only (D.bytes disk.new) (D.may_leave disk.new)) }
-
-    // A crash at any moment leaves the image as it was, or with its log rolled back: both stand for the same graph and commits.
-    ensures moments { IsTrue D.tells → Only (D.bytes disk.old) (D.may_leave disk.old) → (s : Super) (batches : List (List Record)) (stored : Pages) → IsShaped s batches stored (D.bytes disk.old) → LeavesOnly D.moment D.left_since disk.old disk.new (IsLeftByOpening s batches stored) }
-    ensures passes { IsTrue D.tells → (s : Super) (batches : List (List Record)) (stored : Pages) → IsShaped s batches stored (D.bytes disk.old) → OpenPasses (opening_calls s batches) (D.passed disk.old) (D.passed disk.new) result }
-    // It makes that many calls also where the words are damaged, and where it reports damage it leaves nothing unsynced.
-    ensures passes_readable { IsTrue D.tells → (s : Super) (batches : List (List Record)) (state : State) → IsReadable s batches state (D.bytes disk.old) → OpenPasses (opening_calls s batches) (D.passed disk.old) (D.passed disk.new) result }
-    ensures durable_damaged { IsTrue D.tells → Only (D.bytes disk.old) (D.may_leave disk.old) → (at : At) → result ≡ Err (Damaged at) → Only (D.bytes disk.new) (D.may_leave disk.new) }
-    // Where nothing is rolled back the disk is only read.
-    ensures no_first_stop { IsTrue D.tells → (s : Super) (batches : List (List Record)) (stored : Pages) → IsShaped s batches stored (D.bytes disk.old) → rollback_of s batches ≡ [] → D.stops disk.old ≡ 0 → D.stops disk.new ≡ 0 }
 {
     let mut read = read_image(alloc, disk)?;
     read.roll_back()?;

@@ -2,7 +2,7 @@ use Rattle.std.proofs.Common.{◌≡◌, ℕ, List, Err, refl, sym, ap, ◌∙�
 use Rattle.object_layout.specs.Layout.{IsSeenAs}
 use Rattle.heap_core.specs.Causes.{graph_error}
 use Rattle.graph_print.specs.PrintFailure.{print_failure}
-use Rattle.heap_core.proofs.OpenErrors.{only_memory}
+use Rattle.heap_core.proofs.PrintErrors.{only_memory}
 use Rattle.heap_core.proofs.Undamaged.{undamaged, no_failure}
 use Rattle.heap_core.proofs.heap.print.Goals as goal
 
