@@ -1,25 +1,21 @@
 -- What a run says of an image, and does to it, from what an opening of it does.
-use Rattle.std.proofs.Common.{◌≡◌, ℕ, ◌≤◌, List, Result, refl, subst, sym, ap, ◌∙◌, arith}
+use Rattle.std.proofs.Common.{◌≡◌, ℕ, ◌≤◌, List, Result, Err, refl, subst, sym, ap, ◌∙◌, arith}
 use Rattle.std.specs.Prelude.{IsTrue}
 use Rattle.counts.specs.Count.{Rose, counted}
 use Rattle.disk_model.specs.declared.disk.Disk.{Ghosts}
-use Rattle.disk_model.specs.declared.disk.DiskError.{DiskError}
-use Rattle.disk_model.specs.Keeps.{OnlyReads}
-use Rattle.disk_model.specs.Moments.{LeavesOnly}
 use Rattle.disk_model.proofs.MomentLaws.{begins}
-use Rattle.heap_core.specs.Causes.{ErrorPasses}
-use Rattle.heap_core.specs.Refusals as opening_refusals
+use Rattle.heap_core.specs.Causes.{recovery_error}
 use Rattle.heap_core.specs.declared.errors.FormatError.{FormatError}
 use Rattle.heap_core.specs.declared.errors.FormatError.TheVariants as format
 use Rattle.heap_core.specs.declared.errors.OpenError.{OpenError}
 use Rattle.heap_core.specs.declared.errors.OpenError.TheVariants as opening
+use Rattle.heap_recovery.specs.declared.error.RecoverError.{RecoverError}
+use Rattle.heap_recovery.specs.declared.error.RecoverError.TheVariants as recovery
+use Rattle.heap_recovery.specs.Opens.{OpensImage}
+use Rattle.heap_recovery.specs.Faults as faults
 use Rattle.heap_recovery.specs.declared.at.At.{At}
 use Rattle.heap_recovery.specs.declared.at.At.TheVariants.{Address}
-use Rattle.heap_recovery.specs.Faults.{IsNoHeap, IsReadable, IsFaultAt, IsLogLeft, IsLeftOf}
-use Rattle.heap_model.specs.Opening.{opening_calls}
-use Rattle.image_plan.specs.declared.superblock.Super.{Super}
-use Rattle.log_machine.specs.Machine.{State}
-use Rattle.log_records.specs.declared.Record.{Record}
+use Rattle.heap_recovery.specs.Faults.{IsNoHeap, IsErrorOrOutside, IsFaultAt, IsLeftOf}
 use Rattle.heap_program.specs.Causes.{IsInputError}
 use Rattle.heap_program.specs.Headline.{OfTold, BlamesNoImage, RestartsDisk}
 use Rattle.heap_program.specs.Refusals.{IsFault, IsWordFault, CallsOfOneOpening, CallsAtMostOneOpening, fault_calls, IsToldOf, IsToldOfEach, EndsRefused, IsLeftAlone, LeavesAlone, KeepsFault, AnswersImage, AnswersLeft}
@@ -90,15 +86,14 @@ format_not_refused format.Stopped is = cc
 
 module _ {D : Type 0} (g : Ghosts D) where
   -- An opening leaves such an image with its fault, however it ends.
-  pub keeps_opening : (old new : D) → (IsNoHeap (g.bytes old) → LeavesOnly g.moment g.left_since old new IsNoHeap) → ((at : At) → IsFaultAt at (g.bytes old) → LeavesOnly g.moment g.left_since old new (IsFaultAt at))
-      → ((s : Super) (batches : List (List Record)) (state : State) → IsReadable s batches state (g.bytes old) → LeavesOnly g.moment g.left_since old new (IsLogLeft s batches (g.bytes old))) → KeepsFault g old new
-  keeps_opening old new no_heap damaged readable = record {
-    keeps_fault = λ expected fault. fault_moments g expected (g.bytes old) old new fault no_heap damaged;
-    keeps_log = λ fault. left_moments g (g.bytes old) old new fault readable;
+  pub keeps_opening : (old new : D) (result : Result (Unit {0}) RecoverError) → OpensImage g old new result → OfTold g.tells (g.bytes old) (g.may_leave old) (KeepsFault g old new)
+  keeps_opening old new result image tells only = record {
+    keeps_fault = λ expected fault. fault_moments g expected (g.bytes old) old new fault (λ none. (image.not_heap tells none).moments only) (λ at damage. (image.damaged tells at damage).moments only);
+    keeps_log = λ fault. left_moments g (g.bytes old) old new fault (λ s batches state readable. (image.readable tells s batches state readable).moments only);
   }
 
   -- what an opening's error says of the image that it read, its status says of each image that a crash may leave afterwards
-  told_each : (old new : D) (e : OpenError) → opening_refusals.IsToldOf e (g.bytes old) → KeepsFault g old new
+  told_each : (old new : D) (e : OpenError) → faults.IsToldOf (recovery_error e) (g.bytes old) → KeepsFault g old new
       → ((t : ℕ) (image : List ℕ) → t ≤ g.moment new → g.may_leave new image → g.left_since new t image) → IsToldOfEach (open_status e) (g.may_leave new)
   told_each old new opening.NoMemory told keeps counts image may = tt
   told_each old new opening.NotHeap told keeps counts image may = at_end g old new IsNoHeap (keeps.keeps_fault status.NotHeap told) counts image may
@@ -108,8 +103,8 @@ module _ {D : Type 0} (g : Ghosts D) where
 
   module _ (asked : ℕ) (old new : D) (silent : Type 0) where
     -- The heap was not opened, and the run ends so.
-    pub answers_refused : (e : OpenError) → silent → (IsTrue g.tells → opening_refusals.IsToldOf e (g.bytes old)) → (IsTrue g.tells → IsNoHeap (g.bytes old) → opening_refusals.IsErrorOrOutside opening.NotHeap e)
-        → (IsTrue g.tells → (at : At) → IsFaultAt at (g.bytes old) → opening_refusals.IsErrorOrOutside (opening.Damaged at) e)
+    pub answers_refused : (e : OpenError) → silent → (IsTrue g.tells → faults.IsToldOf (recovery_error e) (g.bytes old)) → (IsTrue g.tells → IsNoHeap (g.bytes old) → IsErrorOrOutside recovery.NotHeap (recovery_error e))
+        → (IsTrue g.tells → (at : At) → IsFaultAt at (g.bytes old) → IsErrorOrOutside (recovery.Damaged at) (recovery_error e))
         → (IsTrue g.tells → (expected : Status) → IsFault expected (g.bytes old) → IsLeftAlone expected → LeavesAlone g old new) → OfTold g.tells (g.bytes old) (g.may_leave old) (KeepsFault g old new)
         → (IsTrue g.tells → asked ≡ 0 → (fault : IsWordFault (g.bytes old)) → CallsOfOneOpening (fault_calls fault) (g.passed old) (g.passed new) (open_status e))
         → (IsTrue g.tells → (fault : IsWordFault (g.bytes old)) → CallsAtMostOneOpening (fault_calls fault) (g.passed old) (g.passed new) (open_status e))
@@ -211,19 +206,14 @@ module _ {D : Type 0} (g : Ghosts D) where
         }
 
   -- The heap was not opened, by what is said of an opening.
-  pub answers_failed : {T : Type 0} (old new : D) (silent : Type 0) (device : Result T DiskError) (e : OpenError) → silent → (IsTrue g.tells → opening_refusals.IsToldOf e (g.bytes old))
-      → (IsTrue g.tells → IsNoHeap (g.bytes old) → opening_refusals.IsErrorOrOutside opening.NotHeap e) → (IsTrue g.tells → (at : At) → IsFaultAt at (g.bytes old) → opening_refusals.IsErrorOrOutside (opening.Damaged at) e)
-      → (IsTrue g.tells → IsNoHeap (g.bytes old) → OnlyReads g old new device) → (IsTrue g.tells → (at : At) → IsFaultAt at (g.bytes old) → opening_refusals.ComesBeforeWrites (opening.Damaged at) → OnlyReads g old new device)
-      → OfTold g.tells (g.bytes old) (g.may_leave old) (KeepsFault g old new)
-      → (IsTrue g.tells → (s : Super) (batches : List (List Record)) (state : State) → IsReadable s batches state (g.bytes old) → ErrorPasses (opening_calls s batches) (g.passed old) (g.passed new) e)
-      → (IsTrue g.tells → g.restarts new ≡ g.restarts old) → (IsTrue g.tells → (t : ℕ) (image : List ℕ) → t ≤ g.moment new → g.may_leave new image → g.left_since new t image)
+  pub answers_failed : (old new : D) (silent : Type 0) (e : OpenError) → silent → OpensImage g old new (Err (recovery_error e)) → (IsTrue g.tells → (t : ℕ) (image : List ℕ) → t ≤ g.moment new → g.may_leave new image → g.left_since new t image)
       → AnswersImage g (Unit {0}) 0 old new (open_status e) silent
-  answers_failed old new silent device e nothing told no_heap damaged reads_no_heap reads_damaged keeps passes restarts counts =
-      let once = λ (tells : IsTrue g.tells) (fault : IsWordFault (g.bytes old)). opens_once (g.bytes old) (g.passed old) (g.passed new) e fault (told tells) (passes tells) in
-      answers_refused 0 old new silent e nothing told no_heap damaged
-      (λ tells expected fault alone. alone_read g old new device tells (only_read g expected (g.bytes old) old new device fault alone (reads_no_heap tells) (reads_damaged tells)))
-      keeps (λ tells unstopped fault. once tells fault) (λ tells fault. once_few (fault_calls fault) (g.passed old) (g.passed new) (open_status e) (once tells fault))
-      (λ tells. restarts_none 0 (open_status e) (g.restarts old) (g.restarts new) (λ done. refl) (restarts tells)) counts
+  answers_failed old new silent e nothing image counts =
+      let once = λ (tells : IsTrue g.tells) (fault : IsWordFault (g.bytes old)). opens_once (g.bytes old) (g.passed old) (g.passed new) e fault (image.refused tells) (λ s batches state readable. (image.readable tells s batches state readable).passes) in
+      answers_refused 0 old new silent e nothing image.refused (λ tells none. (image.not_heap tells none).told) (λ tells at damage. (image.damaged tells at damage).told)
+      (λ tells expected fault alone. alone_read g old new _ tells (only_read g expected (g.bytes old) old new _ fault alone (λ none. (image.not_heap tells none).reads) (λ at damage early. (image.damaged tells at damage).reads early)))
+      (keeps_opening old new (Err (recovery_error e)) image) (λ tells unstopped fault. once tells fault) (λ tells fault. once_few (fault_calls fault) (g.passed old) (g.passed new) (open_status e) (once tells fault))
+      (λ tells. restarts_none 0 (open_status e) (g.restarts old) (g.restarts new) (λ done. refl) (image.disk.restarts tells)) counts
 
   -- A run whose input failed did nothing.
   pub answers_unread : (own : Type 0) (asked : ℕ) (disk : D) (by : Status) (silent : Type 0) → IsInputError by → silent → (IsTrue g.tells → (image : List ℕ) → g.left_since disk (g.moment disk) image → g.may_leave disk image)

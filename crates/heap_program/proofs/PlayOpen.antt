@@ -12,7 +12,7 @@ use Rattle.graph_model.specs.declared.reply.Refusal.TheVariants.{DiskFault, Stop
 use Rattle.graph_model.specs.declared.reply.Reply.TheVariants.{Refused}
 use Rattle.graph_model.specs.Graph.{Graph, new_graph}
 use Rattle.graph_model.specs.History.{account}
-use Rattle.heap_core.specs.Causes.{IsFromOutside, ErrorPasses, error_device}
+use Rattle.heap_core.specs.Causes.{recovery_error}
 use Rattle.heap_core.specs.declared.errors.OpenError.{OpenError}
 use Rattle.heap_core.specs.declared.errors.OpenError.TheVariants as opening
 use Rattle.heap_model.specs.Core.{Core, commits_on_disk}
@@ -60,6 +60,8 @@ use Rattle.heap_program.specs.Play.{IsRunning, PlaysCore, WroteFront}
 use Rattle.heap_program.specs.StatusOf.{open_status}
 use Rattle.heap_program.proofs.Statuses.{open_end, open_not_done}
 use Rattle.heap_program.proofs.Written.{none_written, whole_front}
+use Rattle.heap_recovery.specs.Recovered.{IsFromOutside, ErrorPasses}
+use Rattle.heap_recovery.specs.Causes.{error_device}
 
 -- A new heap, as an existing one.
 abbrev pub new_stored : (pages : ℕ) (image : List ℕ) → IsLegal (made_super pages) [] (first_pages pages) image → IsStored image
@@ -121,7 +123,7 @@ none_through None = refl
 none_through (Some n) = omega arith
 
 -- The calls of an opening that failed: none if memory ran out, and otherwise the disk failed in it.
-pub unopened_calls : (stop : Option ℕ) (at_opening before now : ℕ) (unharmed : Type 0) (e : OpenError) (by : Status) → by ≡ open_status e → IsFromOutside e → (e ≡ opening.NoMemory → now ≡ before) → (e ≢ opening.NoMemory → unharmed → ⊥)
+pub unopened_calls : (stop : Option ℕ) (at_opening before now : ℕ) (unharmed : Type 0) (e : OpenError) (by : Status) → by ≡ open_status e → IsFromOutside (recovery_error e) → (e ≡ opening.NoMemory → now ≡ before) → (e ≢ opening.NoMemory → unharmed → ⊥)
     → (counts : ℕ) × CountsOpening at_opening by [] counts × (unharmed → now ≡ counted (let_through stop (counts + 0)) before)
 unopened_calls stop at_opening before now unharmed opening.NoMemory by is outside same harm = (0, inr (is, refl, refl), λ u. same refl ∙ ap (λ (n : ℕ). counted n before) (sym (none_through stop)))
 unopened_calls stop at_opening before now unharmed opening.NotHeap by is outside same harm = absurd outside
@@ -130,8 +132,8 @@ unopened_calls stop at_opening before now unharmed opening.DiskFault by is outsi
 unopened_calls stop at_opening before now unharmed opening.Stopped by is outside same harm = (at_opening, inl refl, λ u. absurd (harm (λ other. cc) u))
 
 -- An opening that failed was stopped with calls left, if its disk met its first stop in it.
-pub opening_stops : {D : Type 0} (g : Ghosts D) (n : ℕ) (start final : D) (e : OpenError) → IsFromOutside e → ErrorPasses n (g.passed start) (g.passed final) e
-    → HasCause {T = Unit {0}} (g.faults start) (g.faults final) (g.stops start) (g.stops final) (error_device e) → (n ≡ 0 → g.stops start ≡ 0 → g.stops final ≡ 0) → StopsOnlyOpening g n start final
+pub opening_stops : {D : Type 0} (g : Ghosts D) (n : ℕ) (start final : D) (e : OpenError) → IsFromOutside (recovery_error e) → ErrorPasses n (g.passed start) (g.passed final) (recovery_error e)
+    → HasCause {T = Unit {0}} (g.faults start) (g.faults final) (g.stops start) (g.stops final) (error_device (recovery_error e)) → (n ≡ 0 → g.stops start ≡ 0 → g.stops final ≡ 0) → StopsOnlyOpening g n start final
 opening_stops g n start final opening.NoMemory outside passes cause first none = inl (cause.stops_still (λ is. cc) ∙ none)
 opening_stops g n start final opening.NotHeap outside passes cause first none = absurd outside
 opening_stops g n start final (opening.Damaged at) outside passes cause first none = absurd outside
@@ -168,7 +170,7 @@ module _ {D : Type 0} (g : Ghosts D) {bytes : List ℕ} (stored : IsStored bytes
   stored_super = record { limits = stored.legal.log.shaped.limits; pages = refl; room = refl; first = refl }
 
   -- The heap was not opened: no event was made, and nothing was written.
-  pub ends_unopened : (stop : Option Stop) (events : List Event) (e : OpenError) (by : Status) (start final : D) (told : Bool) (before : List ℕ) → by ≡ open_status e → IsFromOutside e
+  pub ends_unopened : (stop : Option Stop) (events : List Event) (e : OpenError) (by : Status) (start final : D) (told : Bool) (before : List ℕ) → by ≡ open_status e → IsFromOutside (recovery_error e)
       → LeavesOnly g.moment g.left_since start final (IsCommitPrefix c) → LeavesOnly g.moment g.left_since start final (SameBehind c (g.bytes start)) → ((image : List ℕ) → g.may_leave final image → IsCommitPrefix c image)
       → ((image : List ℕ) → g.left_since final (g.moment final) image → g.may_leave final image) → g.restarts final ≡ g.restarts start
       → (e ≡ opening.NoMemory → g.passed final ≡ g.passed start) → (e ≢ opening.NoMemory → Unharmed g start final → ⊥)

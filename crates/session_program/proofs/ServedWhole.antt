@@ -16,7 +16,7 @@ use Rattle.graph_model.specs.declared.reply.Reply.{Reply}
 use Rattle.graph_model.specs.declared.reply.Reply.TheVariants.{Refused}
 use Rattle.graph_model.specs.History.{IsOfSession, account}
 use Rattle.image_plan.specs.declared.superblock.Super.{Super}
-use Rattle.heap_core.specs.Causes.{IsFromOutside, reply_device}
+use Rattle.heap_core.specs.Causes.{reply_device, recovery_error}
 use Rattle.heap_core.specs.declared.errors.OpenError.{OpenError}
 use Rattle.heap_core.specs.declared.errors.OpenError.TheVariants as opening
 use Rattle.heap_core.specs.declared.heap.Heap.{Heap}
@@ -68,6 +68,7 @@ use Rattle.session_program.proofs.Answering.{asked_sessions}
 use Rattle.session_program.proofs.OnDisk.{makes_last, plays_core}
 use Rattle.session_program.proofs.PlayedLines.{makes_behind}
 use Rattle.session_program.proofs.Whole.{ended_as, widen, session_early, session_ended, still}
+use Rattle.heap_recovery.specs.Recovered.{IsFromOutside}
 
 module _ {D : Type 0} {g : Ghosts D} (s : Super) (tells : Bool) (left rest : List ℕ) (c : Core) (told : Bool) (before : List ℕ) where
   -- it ended at a line
@@ -228,7 +229,7 @@ module _ {D : Type 0} {g : Ghosts D} {bytes : List ℕ} (stored : IsStored bytes
 
 -- The heap was not opened: no event was made, and nothing was written.
 module _ {D : Type 0} (g : Ghosts D) {bytes : List ℕ} (stored : IsStored bytes) where
-  pub served_none : (tells : Bool) (left rest : List ℕ) (start final : D) (e : OpenError) (told : Bool) (before : List ℕ) → IsFromOutside e
+  pub served_none : (tells : Bool) (left rest : List ℕ) (start final : D) (e : OpenError) (told : Bool) (before : List ℕ) → IsFromOutside (recovery_error e)
       → LeavesOnly g.moment g.left_since start final (IsCommitPrefix (stored_core stored)) → LeavesOnly g.moment g.left_since start final (SameBehind (stored_core stored) (g.bytes start)) → ((image : List ℕ) → g.may_leave final image → IsCommitPrefix (stored_core stored) image)
       → ((image : List ℕ) → g.left_since final (g.moment final) image → g.may_leave final image) → g.restarts final ≡ g.restarts start
       → (e ≡ opening.NoMemory → g.passed final ≡ g.passed start) → (e ≢ opening.NoMemory → Unharmed g start final → ⊥)

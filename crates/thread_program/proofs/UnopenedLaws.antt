@@ -9,7 +9,7 @@ use Rattle.disk_model.specs.Moments.{LeavesOnly}
 use Rattle.disk_model.proofs.MomentLaws.{begins}
 use Rattle.graph_model.specs.History.{sealed}
 use Rattle.graph_model.specs.Transaction.{serial}
-use Rattle.heap_core.specs.Causes.{IsFromOutside}
+use Rattle.heap_core.specs.Causes.{recovery_error}
 use Rattle.heap_core.specs.Refinement.{SameBehind}
 use Rattle.heap_core.specs.declared.errors.OpenError.{OpenError}
 use Rattle.heap_core.specs.declared.errors.OpenError.TheVariants as opening
@@ -30,9 +30,10 @@ use Rattle.heap_program.proofs.Reopened.{outside_memory}
 use Rattle.heap_program.proofs.Statuses.{open_end, open_not_done, open_not_refused}
 use Rattle.heap_program.proofs.Written.{none_written}
 use Rattle.thread_program.specs.Together.{MakesTogether, IsPlayedTogether}
+use Rattle.heap_recovery.specs.Recovered.{IsFromOutside}
 
 -- An opening that the outside hinders gives one of two statuses.
-open_refused : (e : OpenError) → IsFromOutside e → (open_status e ≡ status.NoMemory) ⊎ (open_status e ≡ status.DiskFault)
+open_refused : (e : OpenError) → IsFromOutside (recovery_error e) → (open_status e ≡ status.NoMemory) ⊎ (open_status e ≡ status.DiskFault)
 open_refused opening.NoMemory outside = inl refl
 open_refused opening.NotHeap outside = absurd outside
 open_refused (opening.Damaged at) outside = absurd outside
@@ -46,7 +47,7 @@ module _ {D : Type 0} (g : Ghosts D) {bytes : List ℕ} (stored : IsStored bytes
   abbrev n : ℕ
   n = stored_calls stored
 
-  abbrev none_made : (tries : ℕ) (lines : List Line) (e : OpenError) (by : Status) → 0 < tries → by ≡ open_status e → IsFromOutside e → MakesTogether tries lines c [] c by
+  abbrev none_made : (tries : ℕ) (lines : List Line) (e : OpenError) (by : Status) → 0 < tries → by ≡ open_status e → IsFromOutside (recovery_error e) → MakesTogether tries lines c [] c by
   none_made tries lines e by some is outside =
       let failed : AllocError = record {} in
       record {
@@ -66,7 +67,7 @@ module _ {D : Type 0} (g : Ghosts D) {bytes : List ℕ} (stored : IsStored bytes
       }
 
   -- No event was made, and nothing was written.
-  pub unopened_together : (tries : ℕ) (lines : List Line) (e : OpenError) (by : Status) (start final : D) (told : Bool) (before : List ℕ) → 0 < tries → by ≡ open_status e → IsFromOutside e
+  pub unopened_together : (tries : ℕ) (lines : List Line) (e : OpenError) (by : Status) (start final : D) (told : Bool) (before : List ℕ) → 0 < tries → by ≡ open_status e → IsFromOutside (recovery_error e)
       → LeavesOnly g.moment g.left_since start final (IsCommitPrefix c) → LeavesOnly g.moment g.left_since start final (SameBehind c (g.bytes start)) → ((image : List ℕ) → g.may_leave final image → IsCommitPrefix c image)
       → ((image : List ℕ) → g.left_since final (g.moment final) image → g.may_leave final image) → g.restarts final ≡ g.restarts start
       → (e ≡ opening.NoMemory → g.passed final ≡ g.passed start) → (e ≢ opening.NoMemory → Unharmed g start final → ⊥)

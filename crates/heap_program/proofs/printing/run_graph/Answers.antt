@@ -17,7 +17,7 @@ use Rattle.heap_program.proofs.RunLaws.{end_sound, restarts_none}
 use Rattle.heap_program.proofs.Unfaulted.{keeps_counts, open_counts}
 use Rattle.heap_program.specs.declared.status.Status.{Status}
 use Rattle.heap_program.specs.declared.status.Status.TheVariants as status
-use Rattle.heap_program.proofs.ImageLaws.{keeps_opening, answers_failed, answers_opened}
+use Rattle.heap_program.proofs.ImageLaws.{answers_failed, answers_opened}
 use Rattle.heap_program.proofs.printing.run_graph.Goals as goal
 
 pub returns-in-Ok-clause-graph : goal.returns-in-Ok-clause-graph
@@ -31,15 +31,15 @@ returns-in-Ok-clause-graph g c tells only s batches stored shaped born places gr
     let reached = opened_reached s batches stored shaped.log gates born places graph found in
     let before = k.written c.args.sink.now in
     let after = k.written c.write_graph.new.sink in
-    let passed : d.passed c.in-Ok.heap.disk ≡ counted (opening_calls s batches) (d.passed c.args.disk) = (e.passes tells s batches stored shaped).ok in
+    let passed : d.passed c.in-Ok.heap.disk ≡ counted (opening_calls s batches) (d.passed c.args.disk) = (e.image.shaped tells s batches stored shaped).passes.ok in
     rw (c.close.ensures, c.status_after-status.ensures) (record {
-      moments = e.moments tells only s batches stored shaped;
-      left = e.crash tells only s batches stored shaped;
-      outside = left_outside d s batches c.args.disk c.in-Ok.heap.disk (e.moments_readable tells only s batches shaped.log.state (shaped_readable s batches stored (d.bytes c.args.disk) shaped));
+      moments = (e.image.shaped tells s batches stored shaped).moments only;
+      left = (e.image.shaped tells s batches stored shaped).crash only;
+      outside = left_outside d s batches c.args.disk c.in-Ok.heap.disk ((e.image.readable tells s batches shaped.log.state (shaped_readable s batches stored (d.bytes c.args.disk) shaped)).moments only);
       calls = record { times = opening_calls s batches; most = omega arith; all = λ done. refl; told = passed };
-      restarts = e.disk.restarts tells;
-      holds = λ done. (e.rolled tells s batches stored shaped, e.durable tells only);
-      settled = λ other. e.durable tells only;
+      restarts = e.image.disk.restarts tells;
+      holds = λ done. ((e.image.shaped tells s batches stored shaped).holds, e.image.durable tells only);
+      settled = λ other. e.image.durable tells only;
       written = λ t. record {
         front = wrote_some c.write_graph.result before (graph_text graph) after (c.write_graph.ensures.wrote t core is reached);
         whole = λ done. wrote_all c.write_graph.result before (graph_text graph) after done (c.write_graph.ensures.wrote t core is reached);
@@ -52,17 +52,17 @@ returns-in-Err-clause-graph g c tells only s batches stored shaped born places g
     let d = g.D.Disk in
     let k = g.K.Sink in
     let e = c.in-Err.ensures in
-    let most = fails_most (opening_calls s batches) (d.passed c.args.disk) (d.passed c.in-Err.disk) c.in-Err.e (e.passes tells s batches stored shaped) in
+    let most = fails_most (opening_calls s batches) (d.passed c.args.disk) (d.passed c.in-Err.disk) c.in-Err.e ((e.image.shaped tells s batches stored shaped).passes) in
     rw c.from.ensures (record {
-      moments = e.moments tells only s batches stored shaped;
-      left = e.crash tells only s batches stored shaped;
-      outside = left_outside d s batches c.args.disk c.in-Err.disk (e.moments_readable tells only s batches shaped.log.state (shaped_readable s batches stored (d.bytes c.args.disk) shaped));
+      moments = (e.image.shaped tells s batches stored shaped).moments only;
+      left = (e.image.shaped tells s batches stored shaped).crash only;
+      outside = left_outside d s batches c.args.disk c.in-Err.disk ((e.image.readable tells s batches shaped.log.state (shaped_readable s batches stored (d.bytes c.args.disk) shaped)).moments only);
       calls = record { times = most.0; most = most.1; all = λ done. absurd (open_not_done c.in-Err.e done); told = most.2 };
-      restarts = e.disk.restarts tells;
+      restarts = e.image.disk.restarts tells;
       holds = λ done. absurd (open_not_done c.in-Err.e done);
-      settled = λ other. reads_only d c.args.disk c.in-Err.disk ((e.left_alone (refused_memory c.in-Err.e (outside_memory c.in-Err.e (e.shaped tells s batches stored shaped) other))).contents tells) only;
+      settled = λ other. reads_only d c.args.disk c.in-Err.disk ((e.image.left_alone (refused_memory c.in-Err.e (outside_memory c.in-Err.e ((e.image.shaped tells s batches stored shaped).error) other))).contents tells) only;
       written = λ t. record { front = none_written (k.written c.args.sink.now) (graph_text graph); whole = λ done. absurd (open_not_done c.in-Err.e done) };
-      end = open_end c.in-Err.e (e.shaped tells s batches stored shaped);
+      end = open_end c.in-Err.e ((e.image.shaped tells s batches stored shaped).error);
     })
 
 pub returns-in-Ok-clause-prints : goal.returns-in-Ok-clause-prints
@@ -84,21 +84,17 @@ returns-in-Ok-clause-prints g c tells =
 
 -- no fault of the disk was ignored
 pub returns-in-Err-clause-unfaulted : goal.returns-in-Err-clause-unfaulted
-returns-in-Err-clause-unfaulted g c none = open_counts g.D.Disk c.args.disk c.in-Err.disk c.in-Err.e c.in-Err.ensures.disk (subst (λ (s : Status). s ≢ status.DiskFault) c.from.ensures none)
+returns-in-Err-clause-unfaulted g c none = open_counts g.D.Disk c.args.disk c.in-Err.disk c.in-Err.e c.in-Err.ensures.image.disk (subst (λ (s : Status). s ≢ status.DiskFault) c.from.ensures none)
 
 pub returns-in-Ok-clause-unfaulted : goal.returns-in-Ok-clause-unfaulted
-returns-in-Ok-clause-unfaulted g c none = rw c.close.ensures (keeps_counts g.D.Disk c.args.disk c.in-Ok.heap.disk tt c.in-Ok.ensures.disk)
+returns-in-Ok-clause-unfaulted g c none = rw c.close.ensures (keeps_counts g.D.Disk c.args.disk c.in-Ok.heap.disk tt c.in-Ok.ensures.image.disk)
 
 -- the image was not opened
 pub returns-in-Err-clause-image : goal.returns-in-Err-clause-image
 returns-in-Err-clause-image g c =
-    let d = g.D.Disk in
-    let e = c.in-Err.ensures in
-    rw c.from.ensures (answers_failed d c.args.disk c.in-Err.disk _ _ c.in-Err.e refl e.refused e.not_heap e.damaged e.reads_not_heap e.reads_damaged
-    (λ tells only. keeps_opening d c.args.disk c.in-Err.disk (e.moments_not_heap tells only) (e.moments_damaged tells only) (e.moments_readable tells only)) e.passes_readable e.disk.restarts
-    (λ tells t image le may. g.met.D.Disk.counts_now tells c.in-Err.disk t image le may))
+    rw c.from.ensures (answers_failed g.D.Disk c.args.disk c.in-Err.disk _ c.in-Err.e refl c.in-Err.ensures.image (λ tells t image le may. g.met.D.Disk.counts_now tells c.in-Err.disk t image le may))
 
 pub returns-in-Ok-clause-image : goal.returns-in-Ok-clause-image
 returns-in-Ok-clause-image g c =
-    rw (c.close.ensures, c.status_after-status.ensures) (answers_opened g.D.Disk 0 c.args.disk _ _ _ (end_sound _ (written_end c.write_graph.result)) c.in-Ok.ensures.not_heap c.in-Ok.ensures.damaged
-    (λ tells. restarts_none 0 _ _ _ (λ done. refl) (c.in-Ok.ensures.disk.restarts tells)))
+    rw (c.close.ensures, c.status_after-status.ensures) (answers_opened g.D.Disk 0 c.args.disk _ _ _ (end_sound _ (written_end c.write_graph.result)) (λ tells none. (c.in-Ok.ensures.image.not_heap tells none).told) (λ tells at damage. (c.in-Ok.ensures.image.damaged tells at damage).told)
+    (λ tells. restarts_none 0 _ _ _ (λ done. refl) (c.in-Ok.ensures.image.disk.restarts tells)))
