@@ -12,6 +12,7 @@ use Rattle.graph_model.specs.Graph.{Graph, new_graph}
 use Rattle.graph_model.specs.History.{sealed, commits}
 use Rattle.graph_model.specs.Transaction.{serial, serial_replies}
 use Rattle.commit_order.specs.SerialOrder.{HasPlainReplies}
+use Rattle.core_laws.proofs.Crash.Image.{commits-sealed}
 use Rattle.core_laws.proofs.Run.Events.{run_reached}
 use Rattle.heap_model.specs.Core.{Core, IsRun}
 use Rattle.heap_model.proofs.Run.Calls.{same_run, step_history}
@@ -29,8 +30,9 @@ use Rattle.heap_program.proofs.PrintedImage.{whole_count}
 use Rattle.thread_program.specs.Together.{AreLast, PlaysTogether, RunsTogether}
 use Rattle.thread_program.proofs.SafeLaws.{done_settled}
 use Rattle.black_box.specs.Stores.{Stores}
-use Rattle.black_box.specs.Told.{EndsScript, MakesNone, events_of, text_of}
+use Rattle.black_box.specs.Told.{EndsScript, HaveReplies, MakesNone, events_of, text_of}
 use Rattle.black_box.specs.Workers.{TellsWorkers}
+use Rattle.black_box.proofs.FitLaws.{run_fits, replies_so_far}
 use Rattle.black_box.proofs.History.{ending_ends}
 use Rattle.black_box.proofs.Left.{legal_stores, prefix_stores}
 use Rattle.black_box.proofs.Runs.{made_none}
@@ -86,12 +88,15 @@ module _ {D : Type 0} (g : Ghosts D) where
           end = together.workers_end;
           worked = subst (λ (n : ℕ). IsWorked tries plays.lines n together.between.history together.workers_end) none together.worked;
           front = subst (λ (x : Graph). WroteFront before (lines_text d.history ++ text_of (serial x (sealed d.history))) after) same written.front;
+          fits = run_fits c d made fresh run;
           plain = subst (λ (x : Graph). HasPlainReplies x d.history) same at_end.locked.plain;
           replies = played.replies ∙ ap (λ (x : Graph). serial_replies x (commits d.history)) same;
+          so_far = λ first rest is. subst (λ (x : Graph). HaveReplies x first) same (replies_so_far d.g0 d.history first rest at_end.locked.plain at_end.locked.two_phase is);
           count = kept.0;
           least = first.kept;
           most = first.some;
           graph = there.2 ∙ stands.says.graph ∙ ap (λ (x : Graph). canon (serial x (take kept.0 (commits d.history)))) same;
+          certain = commits-sealed d at_end.sound;
           done = λ done.
               let settled = done_settled tries plays.lines c made d result running.reached running.unfailed runs.sessions together done in (
                 (together.done done).0,

@@ -1,4 +1,4 @@
--- Why a play on a new heap ends as it does.
+-- Why a play on a new heap, by its workers or not, ends as it does.
 use Rattle.std.specs.Prelude.{◌≡◌, ℕ, ◌<◌}
 use Rattle.image_plan.specs.Plan.{image_size}
 use Rattle.heap_program.specs.declared.playing.TheConstants.{LOG_BYTES}

@@ -8,13 +8,13 @@ use Rattle.graph_model.specs.Graph.{Graph}
 use Rattle.graph_model.specs.History.{sealed, commits, acknowledged}
 use Rattle.graph_model.specs.Transaction.{serial, serial_replies}
 use Rattle.commit_order.specs.Heard.{replies_of_commits}
-use Rattle.commit_order.specs.SerialOrder.{HasPlainReplies}
+use Rattle.commit_order.specs.SerialOrder.{EachEntry, HasPlainReplies}
 use Rattle.script_text.specs.declared.line.Line.{Line}
 use Rattle.thread_program.specs.Together.{IsWorked}
 use Rattle.heap_program.specs.Play.{lines_text, WroteFront}
 use Rattle.heap_program.specs.declared.status.Status.{Status}
 use Rattle.heap_program.specs.declared.status.Status.TheVariants.{Done}
-use Rattle.black_box.specs.Told.{EndsScript, events_of, text_of}
+use Rattle.black_box.specs.Told.{EndsScript, Fits, HaveReplies, events_of, text_of}
 
 -- A run that ended with this status has a history that continues from a graph, and a crash left another graph of it.
 pub record TellsWorkers (begins : Graph) (tries : ℕ) (script : List Line) (status : Status) (before after : List ℕ) (left : Graph) : Type 0 where
@@ -29,14 +29,20 @@ pub record TellsWorkers (begins : Graph) (tries : ℕ) (script : List Line) (sta
   pub worked : IsWorked tries script 0 sent end
   -- the run wrote nothing but a prefix of all lines and of the graph that they lead to
   pub front : WroteFront before (lines_text history ++ text_of (serial begins (sealed history))) after
+  -- each reply fits its event
+  pub fits : EachEntry Fits history
   -- each call that was not refused had the reply of what its transaction saw, and each transaction a number that no object's name had
   pub plain : HasPlainReplies begins history
   -- each committed transaction had the replies that it has when the commits are run one after another
   pub replies : replies_of_commits history ≡ serial_replies begins (commits history)
+  -- at each time each transaction had the replies so far that it has as the next of those that were committed by then
+  pub so_far : (first rest : List Entry) → history ≡ first ++ rest → HaveReplies begins first
   -- the graph that was left is that of a commit prefix that has all that were acknowledged, up to the names of objects
   pub count : ℕ
   pub least : acknowledged history ≤ count
   pub most : count ≤ length (commits history)
   pub graph : canon left ≡ canon (serial begins (take count (commits history)))
+  -- no commit is in doubt: a seal asks nothing of the disk
+  pub certain : commits history ≡ sealed history
   -- a run that is done sent all, left all that was sealed, and wrote all lines and the graph
   pub done : status ≡ Done → IsOk end × (count ≡ length (sealed history)) × (after ≡ before ++ (lines_text history ++ text_of (serial begins (sealed history))))

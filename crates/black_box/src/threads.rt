@@ -1,15 +1,19 @@
 //! One run in threads on a new heap.
-ghost use Rattle.std.specs.Prelude.{◌≡◌, ◌⊎◌, ◌++◌, ℕ, List, Some, Ok, map, string_bytes, IsTrue};
+ghost use Rattle.std.specs.Prelude.{◌≡◌, ◌⊎◌, ◌++◌, ℕ, List, Some, Ok, Err, map, string_bytes, IsTrue};
+ghost use Rattle.black_box.specs.Ends.{EndsPlay};
 ghost use Rattle.black_box.specs.Stores.{IsSameDisk, StoresWritten};
 ghost use Rattle.black_box.specs.Told.{MakesNone, text_of};
 ghost use Rattle.black_box.specs.Workers.{TellsWorkers};
 ghost use Rattle.command_words.specs.Command.{command};
 ghost use Rattle.command_words.specs.declared.commands.Command.TheVariants as asked;
+ghost use Rattle.counts.specs.Count.{Rose};
 ghost use Rattle.disk_model.specs.Disk.{Only};
 ghost use Rattle.graph_model.specs.Graph.{Graph, new_graph};
+ghost use Rattle.heap_program.specs.Causes.{DiskRose};
 ghost use Rattle.heap_program.specs.Stored.{IsStored};
 ghost use Rattle.script_text.specs.Script.{script};
 ghost use Rattle.script_text.specs.declared.line.Line.{Line};
+ghost use Rattle.script_text.specs.declared.script.ScriptError.TheVariants.{Fault};
 
 use disk_model::Disk;
 use heap_io::{Sink, Source};
@@ -56,6 +60,10 @@ pub fn threads_then_graph<
     ensures keeps { IsTrue D.tells → Only (D.bytes disk) (D.may_leave disk) → IsTrue K.tells → IsStored (D.bytes disk)
         → (pages tries : ℕ) → command (map string_bytes threads.now) ≡ Some (asked.Threads (Some pages) tries) → command (map string_bytes graph.now) ≡ Some asked.Graph → result.1 ≡ Status.Done
         → StoresWritten D.Disk result.2 (K.written text.old) (K.written text.new) }
+    // What the run's status blames is so: the script is bad there, a stream or the disk failed, or the disk is too small.
+    ensures ends { IsTrue D.tells → Only (D.bytes disk) (D.may_leave disk) → IsTrue S.tells
+        → (pages tries : ℕ) → command (map string_bytes threads.now) ≡ Some (asked.Threads (Some pages) tries) → EndsPlay (D.extent disk) pages (λ line. script (S.left source.old) ≡ Err (Fault line)) (Rose (S.faults source.old) (S.faults source.new))
+        (Rose (K.faults lines.old) (K.faults lines.new)) (DiskRose (D.faults disk) (D.stops disk) (D.faults result.2) (D.stops result.2)) result.0 }
 {
     let (played, mut disk) = run(rt, alloc, threads, disk, source, lines, gate);
     disk.restart();

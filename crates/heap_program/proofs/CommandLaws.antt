@@ -24,8 +24,7 @@ use Rattle.command_words.specs.declared.commands.Numbers.{Numbers}
 use Rattle.heap_program.specs.Commands.{makes, IsEndOf, PrintsGraph}
 use Rattle.heap_program.specs.Headline.{IsEndOfPlay, BlamesNoImage, graph_text, starts_asked, restarts_asked}
 use Rattle.heap_program.specs.Load.{RunsLoad}
-use Rattle.heap_program.specs.Refusals.{IsToldOfEach}
-use Rattle.heap_program.specs.Causes.{IsOpenedEnd}
+use Rattle.heap_program.specs.Causes.{IsInputError, IsOpenedEnd}
 use Rattle.heap_program.proofs.RunLaws.{load_not_run}
 use Rattle.heap_program.specs.StatusOf.{command_status, format_status}
 use Rattle.heap_program.proofs.Written.{none_written}
@@ -41,6 +40,10 @@ same_load x n a y m b same = (cc, cc, cc)
 pub command_not_done : (e : CommandError) → command_status e ≡ status.Done → ⊥
 command_not_done asking.Usage is = cc
 command_not_done asking.NoMemory is = cc
+
+pub command_not_refused : (e : CommandError) → command_status e ≡ status.WriteFault → ⊥
+command_not_refused asking.Usage is = cc
+command_not_refused asking.NoMemory is = cc
 
 -- Memory ran out while the words were read: nothing was done.
 pub graph_unread : {D : Type 0} (g : Ghosts D) (disk : D) (e : CommandError) (words : Option Command) → words ≡ Some asked.Graph → (e ≡ asking.Usage → words ≡ None) → (by : Status) → by ≡ command_status e
@@ -81,19 +84,7 @@ written_format n status.NotHeap end = end
 written_format n (status.Damaged at) end = end
 written_format n (status.TooSmall size need) end = absurd end
 
--- it says nothing of an image
-pub format_told_each : (n : Numbers) (s : Status) (may_leave : List ℕ → Type 0) → IsEndOf (asked.Format n) s → IsToldOfEach s may_leave
-format_told_each n status.Done may_leave end image may = tt
-format_told_each n status.NoMemory may_leave end image may = tt
-format_told_each n status.Usage may_leave end image may = absurd end
-format_told_each n (status.Script line) may_leave end image may = absurd end
-format_told_each n status.ReadFault may_leave end image may = absurd end
-format_told_each n status.WriteFault may_leave end image may = tt
-format_told_each n status.DiskFault may_leave end image may = tt
-format_told_each n status.NotHeap may_leave end image may = absurd end
-format_told_each n (status.Damaged at) may_leave end image may = absurd end
-format_told_each n (status.TooSmall size need) may_leave end image may = tt
-
+-- it says nothing against an image
 pub format_sound : (n : Numbers) (s : Status) → IsEndOf (asked.Format n) s → BlamesNoImage s
 format_sound n status.Done end = tt
 format_sound n status.NoMemory end = tt
@@ -106,29 +97,43 @@ format_sound n status.NotHeap end = absurd end
 format_sound n (status.Damaged at) end = absurd end
 format_sound n (status.TooSmall size need) end = tt
 
+-- one that a stop asks for restarts a disk
+pub starts_some : (again : Option ℕ) → starts_asked again ≡ 0 → ⊥
+starts_some None asks = omega arith
+starts_some (Some m) asks = omega arith
+
 -- without a restart no stop was asked
 pub no_stop : (stop : Option Stop) → restarts_asked stop ≡ 0 → stop ≡ None
 no_stop None is = refl
-no_stop (Some stop) is = absurd (some stop.again is)
-  where
-    some : (again : Option ℕ) → starts_asked again ≡ 0 → ⊥
-    some None asks = omega arith
-    some (Some m) asks = omega arith
+no_stop (Some stop) is = absurd (starts_some stop.again is)
 
 -- a load that makes no heap names no pages
 pub load_made : (seed count : ℕ) (fresh : Option ℕ) → makes (asked.Load seed count fresh) ≡ None → fresh ≡ None
 load_made seed count None none = refl
 load_made seed count (Some pages) none = cc
 
+pub none_loaded : (seed count : ℕ) (fresh : Option ℕ) → fresh ≡ None → makes (asked.Load seed count fresh) ≡ None
+none_loaded seed count None none = refl
+none_loaded seed count (Some pages) none = cc
+
 -- a play that makes no heap names no pages
 pub not_made : (fresh : Option ℕ) (stop : Option Stop) → makes (asked.Play fresh stop) ≡ None → fresh ≡ None
 not_made None stop none = refl
 not_made (Some pages) stop none = cc
 
+pub none_made : (fresh : Option ℕ) (stop : Option Stop) → fresh ≡ None → makes (asked.Play fresh stop) ≡ None
+none_made None stop none = refl
+none_made (Some pages) stop none = cc
+
 pub format_ends : (n : Numbers) (e : FormatError) → IsEndOf (asked.Format n) (format_status e)
 format_ends n (format.TooSmall size need) = tt
 format_ends n format.DiskFault = tt
 format_ends n format.Stopped = tt
+
+-- nor do words of a command that were not read say anything of an image
+pub words_unread : (which : Command) (words : Option Command) (e : CommandError) → words ≡ Some which → (e ≡ asking.Usage → words ≡ None) → IsInputError (command_status e)
+words_unread which words asking.Usage is usage = let none : words ≡ None = usage refl in cc
+words_unread which words asking.NoMemory is usage = tt
 
 -- those of a play
 pub play_ends : (fresh : Option ℕ) (stop : Option Stop) (s : Status) → s ≢ status.Usage → IsEndOf (asked.Play fresh stop) s

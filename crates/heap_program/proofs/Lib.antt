@@ -1,9 +1,12 @@
+mod AgainImage
 pub mod Behind
 pub mod Causes
 mod Collections
 pub mod CommandLaws
 pub mod CoreSteps
 pub mod Counts
+pub mod FirstStop
+pub mod ImageLaws
 pub mod Lines
 pub mod Limits
 mod LoadRuns

@@ -47,6 +47,8 @@ use Rattle.heap_program.proofs.Causes.{disk_rose}
 use Rattle.heap_program.proofs.Counts.{counted-sum, counted_mono}
 use Rattle.heap_program.proofs.Limits.{limits_law}
 use Rattle.heap_program.specs.Limits.{KeepsLimits}
+use Rattle.heap_core.specs.Steps.{AreSteps}
+use Rattle.heap_program.specs.Steps.{Step}
 use Rattle.heap_core.proofs.StepsLaws.{heap_leaves}
 use Rattle.heap_program.proofs.Behind.{HasImages, played_behind}
 use Rattle.heap_program.proofs.Lines as lines
@@ -56,6 +58,11 @@ use Rattle.heap_program.proofs.PlayLaws.{ends_makes}
 use Rattle.heap_program.proofs.Reopened.{recovered_only}
 use Rattle.heap_program.proofs.Statuses.{written_end, written_sound, wrote_all}
 use Rattle.heap_program.proofs.Written.{whole_front, wrote_some}
+
+-- no step leaves the disk as it was
+steps_none : {D : Type 0} (step : Core → D → Event → Core → D → Type 0) (c d : Core) (old new : D) (made : List Event) → made ≡ [] → AreSteps step c old made d new → new ≡ old
+steps_none step c d old new [] empty steps = steps.1
+steps_none step c d old new (event ∷ events) empty steps = cc
 
 module _ {D : Type 0} {g : Ghosts D} (s : Super) (c : Core) (running : IsRunning c) (new_history : c.history ≡ []) (events : List Event) (playable : IsPlayable events)
     (old new : Heap D g) (told : Bool) (before after : List ℕ) (result : Result (Unit {0}) Halt) (plays : Plays s c events old new told before after result) where
@@ -167,8 +174,8 @@ module _ {D : Type 0} {g : Ghosts D} (s : Super) (c : Core) (running : IsRunning
         → (IsTrue told → IsOfDisk by → after ≡ before ++ lines_text core.history)
         → (Unharmed h start keeps.stopped → IsExact (stop_after stop) at_opening c made core) → StopsInPlace (stop_after stop) at_opening c made core
         → ((account core.history).failed ≡ None → Only (h.bytes keeps.stopped) (h.may_leave keeps.stopped)) → IsFollowed h stop core all keeps.stopped final by (IsTrue told → WroteFront before (lines_text core.history) after)
-        → IsPlayed h stop at_opening c events start final by told before after
-    ends_early by same is_end not_done part whole place stops unsynced follows = record {
+        → (stop ≡ None → CountsStay h start keeps.opened) → IsPlayed h stop at_opening c events start final by told before after
+    ends_early by same is_end not_done part whole place stops unsynced follows opening = record {
       run = events_made (stop_after stop) at_opening by (λ is. absurd (not_done is)) stops;
       disk = keeps;
       exact = place;
@@ -185,6 +192,7 @@ module _ {D : Type 0} {g : Ghosts D} (s : Super) (c : Core) (running : IsRunning
         behind = follows;
         written = λ t. lines.some_writes core.history before after by (end_text (stop_after stop) all (serial core.g0 (take all (commits core.history)))) after not_done (part t).0 (part t).1 (whole t);
       };
+      no_first_stop = λ none empty stops. inl (ap h.stops (same ∙ steps_none (Step h (stop_after stop) start) c core keeps.opened keeps.stopped made empty keeps.steps) ∙ (opening none).stops ∙ stops);
       faulted = λ cut. record { same = same; lines = λ t. (part t).0; early = λ is. not_done is };
       durable = λ is. absurd (not_done is);
       settled = λ other free.
@@ -199,8 +207,8 @@ module _ {D : Type 0} {g : Ghosts D} (s : Super) (c : Core) (running : IsRunning
   -- The graph of all commits was to be written.
   pub ends_whole : {B : Type 0} (h : Ghosts B) (start final : B) (at_opening : ℕ) (keeps : KeepsThroughout h None at_opening c made core start final) (output : Result (Unit {0}) WriteError) (after' : List ℕ) → plays.behind ≡ [] → MadeAll c made core
       → (IsTrue told → after ≡ before ++ lines_text core.history) → (IsTrue told → WroteText output after (graph_text (serial core.g0 (sealed core.history))) after') → final ≡ keeps.stopped
-      → h.passed keeps.stopped ≡ counted (at_opening + total_calls c made) (h.passed start) → Only (h.bytes final) (h.may_leave final) → IsPlayed h None at_opening c events start final (status_after output) told before after'
-  ends_whole h start final at_opening keeps output after' nothing reached out wrote same calls last =
+      → h.passed keeps.stopped ≡ counted (at_opening + total_calls c made) (h.passed start) → Only (h.bytes final) (h.may_leave final) → CountsStay h start keeps.opened → IsPlayed h None at_opening c events start final (status_after output) told before after'
+  ends_whole h start final at_opening keeps output after' nothing reached out wrote same calls last opening =
       let P : List ℕ → Type 0 = λ text. WroteText output after text after' in
       let full = λ (t : IsTrue told). subst P all_graph (wrote t) in
       let text = graph_text (serial core.g0 (take all (commits core.history))) in
@@ -221,20 +229,21 @@ module _ {D : Type 0} {g : Ghosts D} (s : Super) (c : Core) (running : IsRunning
           behind = same;
           written = λ t. lines.all_writes core.history before after (status_after output) text after' (written_sound output) (out t) (wrote_some output after text after' (full t)) (λ is. wrote_all output after text after' is (full t));
         };
+        no_first_stop = λ none empty stops. inl (ap h.stops (same ∙ steps_none (Step h None start) c core keeps.opened keeps.stopped made empty keeps.steps) ∙ opening.stops ∙ stops);
         faulted = λ cut. absurd (fault_not_whole c core made cut reached);
         durable = λ is. last;
         settled = λ other free. last;
         end = written_end output;
       }
 
-  -- it is about the core that was reached
+  -- it is about the core that was reached, by all events
   pub ends_whole_at : {B : Type 0} (h : Ghosts B) (start final : B) (at_opening : ℕ) (keeps : KeepsThroughout h None at_opening c made core start final) (output : Result (Unit {0}) WriteError) (after' : List ℕ) → plays.behind ≡ [] → MadeAll c made core
       → (IsTrue told → after ≡ before ++ lines_text core.history) → (IsTrue told → WroteText output after (graph_text (serial core.g0 (sealed core.history))) after') → final ≡ keeps.stopped
-      → h.passed keeps.stopped ≡ counted (at_opening + total_calls c made) (h.passed start) → Only (h.bytes final) (h.may_leave final)
-      → (played : IsPlayed h None at_opening c events start final (status_after output) told before after') × (played.run.core ≡ core)
+      → h.passed keeps.stopped ≡ counted (at_opening + total_calls c made) (h.passed start) → Only (h.bytes final) (h.may_leave final) → CountsStay h start keeps.opened
+      → (played : IsPlayed h None at_opening c events start final (status_after output) told before after') × (played.run.core ≡ core) × HasMade None c played.run.made played.run.behind played.run.core
   unfolding ends_whole
-  ends_whole_at h start final at_opening keeps output after' nothing reached out wrote same calls last =
-      (ends_whole h start final at_opening keeps output after' nothing reached out wrote same calls last, refl)
+  ends_whole_at h start final at_opening keeps output after' nothing reached out wrote same calls last opening =
+      (ends_whole h start final at_opening keeps output after' nothing reached out wrote same calls last opening, refl, (nothing, reached))
 
   -- The heap was to be opened again, and what came back to be written.
   module _ {B : Type 0} (h : Ghosts B) (start final : B) (stop : Stop) (at_opening : ℕ) (keeps : KeepsThroughout h (Some stop.after) at_opening c made core start final)
@@ -287,6 +296,7 @@ module _ {D : Type 0} {g : Ghosts D} (s : Super) (c : Core) (running : IsRunning
         most = few_calls;
         replies = replies;
         prints = ⊎_elim found_prints nothing_prints recovers.found;
+        no_first_stop = λ none. let never : Some stop ≡ None = none in absurd (cc never);
         faulted = λ cut. absurd (went_on has cut);
         durable = λ done. recovered_only h stop.again core k keeps.stopped final by told after after' recovers.found done;
         settled = λ other free. recovers.settled other;

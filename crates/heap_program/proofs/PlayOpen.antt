@@ -4,7 +4,7 @@ use Rattle.std.proofs.lemmas.Bool.{cases_lt, false≢true}
 use Rattle.std.specs.Prelude.{◌⊎◌, IsTrue}
 use Rattle.std.proofs.lemmas.List.{append-nil}
 use Rattle.disk_model.specs.declared.disk.Disk.{Ghosts}
-use Rattle.disk_model.specs.Disk.{Only}
+use Rattle.disk_model.specs.Disk.{Only, HasCause}
 use Rattle.disk_model.specs.Moments.{LeavesOnly}
 use Rattle.disk_model.proofs.MomentLaws.{begins, joined, weaker}
 use Rattle.graph_model.specs.declared.event.Event.{Event}
@@ -12,7 +12,7 @@ use Rattle.graph_model.specs.declared.reply.Refusal.TheVariants.{DiskFault, Stop
 use Rattle.graph_model.specs.declared.reply.Reply.TheVariants.{Refused}
 use Rattle.graph_model.specs.Graph.{Graph, new_graph}
 use Rattle.graph_model.specs.History.{account}
-use Rattle.heap_core.specs.Causes.{IsFromOutside}
+use Rattle.heap_core.specs.Causes.{recovery_error}
 use Rattle.heap_core.specs.declared.errors.OpenError.{OpenError}
 use Rattle.heap_core.specs.declared.errors.OpenError.TheVariants as opening
 use Rattle.heap_model.specs.Core.{Core, commits_on_disk}
@@ -29,7 +29,7 @@ use Rattle.heap_program.proofs.CoreSteps.{running_after, all_playable}
 use Rattle.heap_model.specs.CoreRuns.{after_events}
 use Rattle.heap_model.specs.Ending.{all_events}
 use Rattle.command_words.specs.declared.commands.Stop.{Stop}
-use Rattle.heap_program.specs.Headline.{lasting, IsOpened, made_super, end_text, stop_after, let_through, IsExact, StopsInPlace, CountsOpening, IsEndOfPlay, StartsAgain, Reopens, EndsUnopened, IsFollowed, Prints, IsPlayed, IsOfImage}
+use Rattle.heap_program.specs.Headline.{lasting, IsOpened, made_super, end_text, stop_after, let_through, IsExact, StopsInPlace, CountsOpening, IsEndOfPlay, StartsAgain, Reopens, EndsUnopened, IsFollowed, Prints, StopsOnlyOpening, IsPlayed, IsOfImage}
 use Rattle.heap_program.specs.Causes.{Unharmed}
 use Rattle.heap_program.specs.Output.{Recovers, WroteRecovered, WroteNothing}
 use Rattle.heap_program.proofs.Counts.{counted_mono}
@@ -60,6 +60,8 @@ use Rattle.heap_program.specs.Play.{IsRunning, PlaysCore, WroteFront}
 use Rattle.heap_program.specs.StatusOf.{open_status}
 use Rattle.heap_program.proofs.Statuses.{open_end, open_not_done}
 use Rattle.heap_program.proofs.Written.{none_written, whole_front}
+use Rattle.heap_recovery.specs.Recovered.{IsFromOutside, ErrorPasses}
+use Rattle.heap_recovery.specs.Causes.{error_device}
 
 -- A new heap, as an existing one.
 abbrev pub new_stored : (pages : ℕ) (image : List ℕ) → IsLegal (made_super pages) [] (first_pages pages) image → IsStored image
@@ -121,13 +123,25 @@ none_through None = refl
 none_through (Some n) = omega arith
 
 -- The calls of an opening that failed: none if memory ran out, and otherwise the disk failed in it.
-pub unopened_calls : (stop : Option ℕ) (at_opening before now : ℕ) (unharmed : Type 0) (e : OpenError) (by : Status) → by ≡ open_status e → IsFromOutside e → (e ≡ opening.NoMemory → now ≡ before) → (e ≢ opening.NoMemory → unharmed → ⊥)
+pub unopened_calls : (stop : Option ℕ) (at_opening before now : ℕ) (unharmed : Type 0) (e : OpenError) (by : Status) → by ≡ open_status e → IsFromOutside (recovery_error e) → (e ≡ opening.NoMemory → now ≡ before) → (e ≢ opening.NoMemory → unharmed → ⊥)
     → (counts : ℕ) × CountsOpening at_opening by [] counts × (unharmed → now ≡ counted (let_through stop (counts + 0)) before)
 unopened_calls stop at_opening before now unharmed opening.NoMemory by is outside same harm = (0, inr (is, refl, refl), λ u. same refl ∙ ap (λ (n : ℕ). counted n before) (sym (none_through stop)))
 unopened_calls stop at_opening before now unharmed opening.NotHeap by is outside same harm = absurd outside
 unopened_calls stop at_opening before now unharmed (opening.Damaged at) by is outside same harm = absurd outside
 unopened_calls stop at_opening before now unharmed opening.DiskFault by is outside same harm = (at_opening, inl refl, λ u. absurd (harm (λ other. cc) u))
 unopened_calls stop at_opening before now unharmed opening.Stopped by is outside same harm = (at_opening, inl refl, λ u. absurd (harm (λ other. cc) u))
+
+-- An opening that failed was stopped with calls left, if its disk met its first stop in it.
+pub opening_stops : {D : Type 0} (g : Ghosts D) (n : ℕ) (start final : D) (e : OpenError) → IsFromOutside (recovery_error e) → ErrorPasses n (g.passed start) (g.passed final) (recovery_error e)
+    → HasCause {T = Unit {0}} (g.faults start) (g.faults final) (g.stops start) (g.stops final) (error_device (recovery_error e)) → (n ≡ 0 → g.stops start ≡ 0 → g.stops final ≡ 0) → StopsOnlyOpening g n start final
+opening_stops g n start final opening.NoMemory outside passes cause first none = inl (cause.stops_still (λ is. cc) ∙ none)
+opening_stops g n start final opening.NotHeap outside passes cause first none = absurd outside
+opening_stops g n start final (opening.Damaged at) outside passes cause first none = absurd outside
+opening_stops g n start final opening.DiskFault outside passes cause first none = inl (cause.stops_still (λ is. cc) ∙ none)
+opening_stops g n start final opening.Stopped outside passes cause first none = ⊎_elim
+    (λ (some : 0 < n). inr (passes.stopped refl some))
+    (λ (few : n ≤ 0). inl (first (omega arith) none))
+    (cases_lt 0 n)
 
 module _ {D : Type 0} (g : Ghosts D) {bytes : List ℕ} (stored : IsStored bytes) where
   abbrev c : Core
@@ -156,13 +170,13 @@ module _ {D : Type 0} (g : Ghosts D) {bytes : List ℕ} (stored : IsStored bytes
   stored_super = record { limits = stored.legal.log.shaped.limits; pages = refl; room = refl; first = refl }
 
   -- The heap was not opened: no event was made, and nothing was written.
-  pub ends_unopened : (stop : Option Stop) (events : List Event) (e : OpenError) (by : Status) (start final : D) (told : Bool) (before : List ℕ) → by ≡ open_status e → IsFromOutside e
+  pub ends_unopened : (stop : Option Stop) (events : List Event) (e : OpenError) (by : Status) (start final : D) (told : Bool) (before : List ℕ) → by ≡ open_status e → IsFromOutside (recovery_error e)
       → LeavesOnly g.moment g.left_since start final (IsCommitPrefix c) → LeavesOnly g.moment g.left_since start final (SameBehind c (g.bytes start)) → ((image : List ℕ) → g.may_leave final image → IsCommitPrefix c image)
       → ((image : List ℕ) → g.left_since final (g.moment final) image → g.may_leave final image) → g.restarts final ≡ g.restarts start
       → (e ≡ opening.NoMemory → g.passed final ≡ g.passed start) → (e ≢ opening.NoMemory → Unharmed g start final → ⊥)
       → g.passed final ≤ counted n (g.passed start) → g.passed final ≤ counted (let_through (stop_after stop) (n + 0)) (g.passed start) → (open_status e ≡ NoMemory → Only (g.bytes final) (g.may_leave final))
-      → IsPlayed g stop n c events start final by told before before
-  ends_unopened stop events e by start final told before is outside moments behind left now restarts same harm few most only =
+      → (stop ≡ None → StopsOnlyOpening g n start final) → IsPlayed g stop n c events start final by told before before
+  ends_unopened stop events e by start final told before is outside moments behind left now restarts same harm few most only first =
       let early = λ (done : by ≡ Done). open_not_done e (sym is ∙ done) in
       let calls = unopened_calls (stop_after stop) n (g.passed start) (g.passed final) (Unharmed g start final) e by is outside same harm in
       record {
@@ -200,6 +214,7 @@ module _ {D : Type 0} (g : Ghosts D) {bytes : List ℕ} (stored : IsStored bytes
             whole = λ done. absurd (early done);
           };
         };
+        no_first_stop = λ none empty. first none;
         faulted = λ cut. absurd (none_cut (Refused DiskFault) c c cut);
         durable = λ done. absurd (early done);
         settled = λ other free. only (outside_memory e outside (λ fault. other (is ∙ fault)));
@@ -269,6 +284,7 @@ module _ {D : Type 0} (g : Ghosts D) {bytes : List ℕ} (stored : IsStored bytes
           most = subst (λ (m : ℕ). g.passed stopped ≤ counted m (g.passed start)) (sym through) most;
           replies = refl;
           prints = ⊎_elim (found_unplayed recovers.least recovers.most) (nothing_unplayed recovers.least recovers.most) recovers.found;
+          no_first_stop = λ none. let never : Some stop ≡ None = none in absurd (cc never);
           faulted = λ cut. absurd (none_cut (Refused DiskFault) c c cut);
           durable = λ done. recovered_only g stop.again c k stopped final by told before after recovers.found done;
           settled = λ other free. recovers.settled other;

@@ -22,7 +22,7 @@ use Rattle.log_records.proofs.RecordLaws.{some_spelling}
 use Rattle.log_machine.specs.Machine.{commits}
 use Rattle.log_machine.proofs.MachineLaws.{commits-append}
 use Rattle.log_machine.proofs.StateLaws.{commits-start}
-use Rattle.heap_core.specs.Causes.{IsFromOutside, ErrorPasses, error_device}
+use Rattle.heap_core.specs.Causes.{recovery_error}
 use Rattle.heap_core.specs.declared.errors.OpenError.{OpenError}
 use Rattle.heap_core.specs.declared.errors.OpenError.TheVariants as opening
 use Rattle.heap_program.specs.declared.output.WriteError.{WriteError}
@@ -48,6 +48,8 @@ use Rattle.heap_program.proofs.PlayOpen.{opening_then}
 use Rattle.heap_program.proofs.Reopened.{outside_memory}
 use Rattle.heap_program.proofs.Statuses.{written_end, written_sound, wrote_all, open_end, open_not_done}
 use Rattle.heap_program.proofs.Written.{wrote_some}
+use Rattle.heap_recovery.specs.Recovered.{IsFromOutside, ErrorPasses}
+use Rattle.heap_recovery.specs.Causes.{error_device}
 
 -- Commits take bytes of the log, so they can be counted.
 few_of_one : (r : Record) → commits (r ∷ []) ≤ 1
@@ -91,22 +93,22 @@ since_before None c n k same count most few =
 since_before (Some before) c n k same count most few = omega arith
 
 -- Why an opening of a legal image fails.
-fails_reason : (f s f' s' : ℕ) (e : OpenError) → IsFromOutside e → HasCause {T = Unit {0}} f f' s s' (error_device e) → (open_status e ≡ NoMemory) ⊎ ((open_status e ≡ DiskFault) × DiskRose f s f' s')
+fails_reason : (f s f' s' : ℕ) (e : OpenError) → IsFromOutside (recovery_error e) → HasCause {T = Unit {0}} f f' s s' (error_device (recovery_error e)) → (open_status e ≡ NoMemory) ⊎ ((open_status e ≡ DiskFault) × DiskRose f s f' s')
 fails_reason f s f' s' opening.NoMemory outside cause = inl refl
 fails_reason f s f' s' opening.NotHeap outside cause = absurd outside
 fails_reason f s f' s' (opening.Damaged at) outside cause = absurd outside
-fails_reason f s f' s' opening.DiskFault outside cause = inr (refl, disk_rose f s f' s' (error_device opening.DiskFault) device.Failed cause refl)
-fails_reason f s f' s' opening.Stopped outside cause = inr (refl, disk_rose f s f' s' (error_device opening.Stopped) device.Stopped cause refl)
+fails_reason f s f' s' opening.DiskFault outside cause = inr (refl, disk_rose f s f' s' (error_device (recovery_error opening.DiskFault)) device.Failed cause refl)
+fails_reason f s f' s' opening.Stopped outside cause = inr (refl, disk_rose f s f' s' (error_device (recovery_error opening.Stopped)) device.Stopped cause refl)
 
 -- It made no more calls than one that succeeds.
-pub fails_most : (n before now : ℕ) (e : OpenError) → ErrorPasses n before now e → (k : ℕ) × (k ≤ n) × (now ≡ counted k before)
+pub fails_most : (n before now : ℕ) (e : OpenError) → ErrorPasses n before now (recovery_error e) → (k : ℕ) × (k ≤ n) × (now ≡ counted k before)
 fails_most n before now opening.NoMemory passes = (0, omega arith, passes)
 fails_most n before now opening.NotHeap passes = passes.some
 fails_most n before now (opening.Damaged at) passes = passes.some
 fails_most n before now opening.DiskFault passes = passes.some
 fails_most n before now opening.Stopped passes = passes.some
 
-pub fails_none : (n before now : ℕ) (e : OpenError) → open_status e ≡ NoMemory → ErrorPasses n before now e → now ≡ before
+pub fails_none : (n before now : ℕ) (e : OpenError) → open_status e ≡ NoMemory → ErrorPasses n before now (recovery_error e) → now ≡ before
 fails_none n before now opening.NoMemory is passes = passes
 fails_none n before now opening.NotHeap is passes = cc
 fails_none n before now (opening.Damaged at) is passes = cc
@@ -137,8 +139,8 @@ module _ {D : Type 0} (g : Ghosts D) (c : Core) (k : ℕ) (old new : D) (first :
   }
 
 -- What an opening that failed says.
-pub fails_to_open : {D : Type 0} (g : Ghosts D) (c : Core) (k : ℕ) (old new : D) (keeps : KeepsFirst g c k old new) (e : OpenError) → IsFromOutside e
-    → HasCause {T = Unit {0}} (g.faults old) (g.faults new) (g.stops old) (g.stops new) (error_device e) → ErrorPasses (calls_to_open g keeps.first) (g.passed old) (g.passed new) e
+pub fails_to_open : {D : Type 0} (g : Ghosts D) (c : Core) (k : ℕ) (old new : D) (keeps : KeepsFirst g c k old new) (e : OpenError) → IsFromOutside (recovery_error e)
+    → HasCause {T = Unit {0}} (g.faults old) (g.faults new) (g.stops old) (g.stops new) (error_device (recovery_error e)) → ErrorPasses (calls_to_open g keeps.first) (g.passed old) (g.passed new) (recovery_error e)
     → (open_status e ≡ NoMemory → Only (g.bytes new) (g.may_leave new)) → FailsToOpen g c k (open_status e) old new
 fails_to_open g c k old new keeps e outside cause passes only = record {
   reason = fails_reason (g.faults old) (g.stops old) (g.faults new) (g.stops new) e outside cause;
@@ -150,8 +152,8 @@ fails_to_open g c k old new keeps e outside cause passes only = record {
 
 module _ {D : Type 0} (g : Ghosts D) (c : Core) (k : ℕ) (old new : D) (keeps : KeepsFirst g c k old new) where
   -- it couldn't be opened
-  pub recovers_nothing : (opens : Type 0) (e : OpenError) (s : Status) (told : Bool) (before : List ℕ) → IsFromOutside e → s ≡ open_status e
-      → HasCause {T = Unit {0}} (g.faults old) (g.faults new) (g.stops old) (g.stops new) (error_device e) → ErrorPasses (calls_to_open g keeps.first) (g.passed old) (g.passed new) e
+  pub recovers_nothing : (opens : Type 0) (e : OpenError) (s : Status) (told : Bool) (before : List ℕ) → IsFromOutside (recovery_error e) → s ≡ open_status e
+      → HasCause {T = Unit {0}} (g.faults old) (g.faults new) (g.stops old) (g.stops new) (error_device (recovery_error e)) → ErrorPasses (calls_to_open g keeps.first) (g.passed old) (g.passed new) (recovery_error e)
       → (open_status e ≡ NoMemory → Only (g.bytes new) (g.may_leave new)) → Recovers c k opens (FailsToOpen g c k s old new) (g.bytes new) (g.may_leave new) s told before before
   recovers_nothing opens e s told before outside is cause passes only = record {
     end = subst IsEndOfPlay (sym is) (open_end e outside);
@@ -232,7 +234,7 @@ pub whole_count : (n now : ℕ) → n ≤ 4 → now ≡ counted n 0 → now ≡ 
 whole_count n now few all = let same = counted-sum n 0 (omega arith) in omega (arith, same, all)
 
 -- one that fails no more
-pub fails_few : (n now : ℕ) → n ≤ 4 → (e : OpenError) → ErrorPasses n 0 now e → now ≤ n
+pub fails_few : (n now : ℕ) → n ≤ 4 → (e : OpenError) → ErrorPasses n 0 now (recovery_error e) → now ≤ n
 fails_few n now few e passes = let some = fails_most n 0 now e passes in let same = counted-sum some.0 0 (omega (arith, some.1)) in omega (arith, same, some.1, some.2)
 
 -- an opening that makes none takes nothing back
@@ -241,9 +243,9 @@ no_rollback [] none = refl
 no_rollback (r ∷ rs) none = cc
 
 -- and one that is stopped fewer
-pub stops_before : (n now : ℕ) → n ≤ 4 → (n ≡ 0 → ⊥) → (e : OpenError) → e ≡ opening.Stopped → ErrorPasses n 0 now e → now < n
+pub stops_before : (n now : ℕ) → n ≤ 4 → (n ≡ 0 → ⊥) → (e : OpenError) → e ≡ opening.Stopped → ErrorPasses n 0 now (recovery_error e) → now < n
 stops_before n now few any e is passes =
-    let stopped = subst (λ x. ErrorPasses n 0 now x) is passes in
+    let stopped = subst (λ x. ErrorPasses n 0 now (recovery_error x)) is passes in
     let some : 0 < n = omega (arith, any) in
     let short = stopped.stopped refl some in
     let same = counted-sum short.0 0 (omega (arith, short.1)) in
@@ -257,16 +259,16 @@ module _ (m n now : ℕ) (few : n ≤ 4) (within : now ≤ m) where
   few_of : (answer : Result (Unit {0}) DiskError) → Passes n 0 now answer → now ≤ n
   few_of answer passes = let some = passes.some in let same = counted-sum some.0 0 (omega (arith, some.1)) in omega (arith, same, some.1, some.2)
 
-  pub error_cut : (faults faults' stops stops' : ℕ) (e : OpenError) → (stops' ≢ 0 → now ≡ m) → HasCause {T = Unit {0}} faults faults' stops stops' (error_device e) → IsFromOutside e → (e ≢ opening.NoMemory)
-      → ErrorPasses n 0 now e → (now ≤ min m n) × ((Rose faults faults' → ⊥) → now ≡ min m n)
+  pub error_cut : (faults faults' stops stops' : ℕ) (e : OpenError) → (stops' ≢ 0 → now ≡ m) → HasCause {T = Unit {0}} faults faults' stops stops' (error_device (recovery_error e)) → IsFromOutside (recovery_error e) → (e ≢ opening.NoMemory)
+      → ErrorPasses n 0 now (recovery_error e) → (now ≤ min m n) × ((Rose faults faults' → ⊥) → now ≡ min m n)
   error_cut faults faults' stops stops' opening.NoMemory at cause outside other passes = absurd (other refl)
   error_cut faults faults' stops stops' opening.NotHeap at cause outside other passes = absurd outside
   error_cut faults faults' stops stops' (opening.Damaged at_place) at cause outside other passes = absurd outside
   error_cut faults faults' stops stops' opening.DiskFault at cause outside other passes =
-      let some = few_of (error_device opening.DiskFault) passes in
+      let some = few_of (error_device (recovery_error opening.DiskFault)) passes in
       (omega arith, λ unharmed. absurd (unharmed (cause.failed refl)))
   error_cut faults faults' stops stops' opening.Stopped at cause outside other passes =
-      let some = few_of (error_device opening.Stopped) passes in
+      let some = few_of (error_device (recovery_error opening.Stopped)) passes in
       let blown = at (rose_some stops stops' cause.stops_kept (cause.stopped refl)) in
       (omega arith, λ unharmed. omega arith)
 

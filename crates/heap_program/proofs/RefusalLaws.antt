@@ -1,5 +1,5 @@
 -- How what an opening says of an image becomes the status of a run.
-use Rattle.std.proofs.Common.{◌≡◌, ⊎_elim, ℕ, ◌+◌, ◌≤◌, List, Result, refl, subst, sym, arith}
+use Rattle.std.proofs.Common.{◌≡◌, ⊎_elim, ℕ, ◌+◌, ◌≤◌, List, Result, refl, ap, arith}
 use Rattle.std.specs.Prelude.{IsTrue}
 use Rattle.disk_model.specs.declared.disk.Disk.{Ghosts}
 use Rattle.disk_model.specs.declared.disk.DiskError.{DiskError}
@@ -14,58 +14,48 @@ use Rattle.image_plan.specs.declared.superblock.Super.{Super}
 use Rattle.image_plan.specs.Plan.{log_offset}
 use Rattle.log_records.specs.declared.Record.{Record}
 use Rattle.log_machine.specs.Machine.{State}
-use Rattle.heap_recovery.specs.Faults.{IsNoHeap, IsReadable, IsFaultAt, IsLogLeft, IsLeftOf}
+use Rattle.heap_recovery.specs.Faults as faults
+use Rattle.heap_recovery.specs.Faults.{IsNoHeap, IsReadable, IsFaultAt, IsLogLeft, IsLeftOf, IsErrorOrOutside, ComesBeforeWrites}
 use Rattle.heap_recovery.proofs.FaultLaws.{left_again, left_of_fault}
-use Rattle.heap_core.specs.Causes.{IsFromOutside, ErrorPasses}
-use Rattle.heap_core.specs.Refusals as opening_refusals
+use Rattle.heap_core.specs.Causes.{recovery_error}
+use Rattle.heap_recovery.specs.declared.error.RecoverError.TheVariants as recovery
 use Rattle.heap_core.specs.declared.errors.OpenError.{OpenError}
 use Rattle.heap_core.specs.declared.errors.OpenError.TheVariants as opening
 use Rattle.heap_program.specs.declared.status.Status.{Status}
 use Rattle.heap_program.specs.declared.status.Status.TheVariants as status
 use Rattle.heap_program.specs.Causes.{IsInputError}
-use Rattle.heap_program.specs.Headline.{IsEndOfPlay}
-use Rattle.heap_program.specs.Refusals.{IsFault, IsWordFault, CallsOfOneOpening, CallsAtMostOneOpening, fault_calls, IsToldOf, IsToldOfEach, EndsRefused, IsLeftAlone, LeavesAlone}
-use Rattle.command_words.specs.declared.commands.CommandError.{CommandError}
-use Rattle.command_words.specs.declared.commands.CommandError.TheVariants as asking
+use Rattle.heap_program.specs.Refusals.{IsFault, IsWordFault, CallsOfOneOpening, CallsAtMostOneOpening, fault_calls, IsToldOf, EndsRefused, IsLeftAlone, LeavesAlone}
 use Rattle.heap_model.specs.Opening.{opening_calls}
 use Rattle.counts.specs.Count.{counted}
 use Rattle.heap_program.proofs.Counts.{counted_mono}
-use Rattle.heap_program.specs.StatusOf.{command_status, open_status}
+use Rattle.heap_program.specs.StatusOf.{open_status}
+use Rattle.heap_recovery.specs.Recovered.{ErrorPasses}
 
 -- what the error of an opening says, its status says
-pub told_status : (e : OpenError) (image : List ℕ) → opening_refusals.IsToldOf e image → IsToldOf (open_status e) image
+pub told_status : (e : OpenError) (image : List ℕ) → faults.IsToldOf (recovery_error e) image → IsToldOf (open_status e) image
 told_status opening.NoMemory image told = tt
 told_status opening.NotHeap image told = told
 told_status (opening.Damaged at) image told = told
 told_status opening.DiskFault image told = tt
 told_status opening.Stopped image told = tt
 
--- the end of a play says nothing of the image
-pub end_told : (s : Status) (image : List ℕ) → IsEndOfPlay s → IsToldOf s image
-end_told status.Done image end = tt
-end_told status.NoMemory image end = tt
-end_told status.Usage image end = absurd end
-end_told (status.Script line) image end = absurd end
-end_told status.ReadFault image end = absurd end
-end_told status.WriteFault image end = tt
-end_told status.DiskFault image end = tt
-end_told status.NotHeap image end = absurd end
-end_told (status.Damaged at) image end = absurd end
-end_told (status.TooSmall size need) image end = absurd end
+no_heap_ends : (e : OpenError) → IsErrorOrOutside recovery.NotHeap (recovery_error e) → EndsRefused status.NotHeap (open_status e)
+no_heap_ends opening.NoMemory told = tt
+no_heap_ends opening.NotHeap told = refl
+no_heap_ends (opening.Damaged at) told = ⊎_elim (λ (other : recovery_error (opening.Damaged at) ≡ recovery.NotHeap). cc) (λ (outside : ⊥). absurd outside) told
+no_heap_ends opening.DiskFault told = tt
+no_heap_ends opening.Stopped told = tt
 
-outside_ends : (expected : Status) (e : OpenError) → IsFromOutside e → EndsRefused expected (open_status e)
-outside_ends expected opening.NoMemory outside = tt
-outside_ends expected opening.NotHeap outside = absurd outside
-outside_ends expected (opening.Damaged at) outside = absurd outside
-outside_ends expected opening.DiskFault outside = tt
-outside_ends expected opening.Stopped outside = tt
-
-either_ends : (this e : OpenError) → opening_refusals.IsErrorOrOutside this e → EndsRefused (open_status this) (open_status this) → EndsRefused (open_status this) (open_status e)
-either_ends this e is same = ⊎_elim (λ (one : e ≡ this). subst (λ (x : OpenError). EndsRefused (open_status this) (open_status x)) (sym one) same) (λ (outside : IsFromOutside e). outside_ends (open_status this) e outside) is
+damaged_ends : (at : At) (e : OpenError) → IsErrorOrOutside (recovery.Damaged at) (recovery_error e) → EndsRefused (status.Damaged at) (open_status e)
+damaged_ends at opening.NoMemory told = tt
+damaged_ends at opening.NotHeap told = ⊎_elim (λ (other : recovery_error opening.NotHeap ≡ recovery.Damaged at). cc) (λ (outside : ⊥). absurd outside) told
+damaged_ends at (opening.Damaged there) told = ⊎_elim (λ (is : recovery_error (opening.Damaged there) ≡ recovery.Damaged at). let same : there ≡ at = cc is in ap status.Damaged same) (λ (outside : ⊥). absurd outside) told
+damaged_ends at opening.DiskFault told = tt
+damaged_ends at opening.Stopped told = tt
 
 -- An opening of an image that is to be refused gives its status.
-pub refused_by : (expected : Status) (image : List ℕ) (e : OpenError) → IsFault expected image → (IsNoHeap image → opening_refusals.IsErrorOrOutside opening.NotHeap e)
-    → ((at : At) → IsFaultAt at image → opening_refusals.IsErrorOrOutside (opening.Damaged at) e) → EndsRefused expected (open_status e)
+pub refused_by : (expected : Status) (image : List ℕ) (e : OpenError) → IsFault expected image → (IsNoHeap image → IsErrorOrOutside recovery.NotHeap (recovery_error e))
+    → ((at : At) → IsFaultAt at image → IsErrorOrOutside (recovery.Damaged at) (recovery_error e)) → EndsRefused expected (open_status e)
 refused_by status.Done image e fault no_heap damaged = absurd fault
 refused_by status.NoMemory image e fault no_heap damaged = absurd fault
 refused_by status.Usage image e fault no_heap damaged = absurd fault
@@ -73,8 +63,8 @@ refused_by (status.Script line) image e fault no_heap damaged = absurd fault
 refused_by status.ReadFault image e fault no_heap damaged = absurd fault
 refused_by status.WriteFault image e fault no_heap damaged = absurd fault
 refused_by status.DiskFault image e fault no_heap damaged = absurd fault
-refused_by status.NotHeap image e fault no_heap damaged = either_ends opening.NotHeap e (no_heap fault) refl
-refused_by (status.Damaged at) image e fault no_heap damaged = either_ends (opening.Damaged at) e (damaged at fault) refl
+refused_by status.NotHeap image e fault no_heap damaged = no_heap_ends e (no_heap fault)
+refused_by (status.Damaged at) image e fault no_heap damaged = damaged_ends at e (damaged at fault)
 refused_by (status.TooSmall size need) image e fault no_heap damaged = absurd fault
 
 -- And it is not opened.
@@ -91,7 +81,7 @@ not_opened (status.Damaged at) image fault no_heap damaged = damaged at fault
 not_opened (status.TooSmall size need) image fault no_heap damaged = fault
 
 -- A status that comes before a write is that of an error that does.
-alone_early : (at : At) → IsLeftAlone (status.Damaged at) → opening_refusals.ComesBeforeWrites (opening.Damaged at)
+alone_early : (at : At) → IsLeftAlone (status.Damaged at) → ComesBeforeWrites (recovery.Damaged at)
 alone_early (place.Batch offset) alone = tt
 alone_early (place.Rec lsn) alone = tt
 alone_early place.Reserve alone = tt
@@ -101,7 +91,7 @@ alone_early (place.Address address) alone = absurd alone
 module _ {D : Type 0} (g : Ghosts D) where
   -- An opening of an image with such a fault only reads.
   pub only_read : {T : Type 0} (expected : Status) (image : List ℕ) (old new : D) (result : Result T DiskError) → IsFault expected image → IsLeftAlone expected → (IsNoHeap image → OnlyReads g old new result)
-      → ((at : At) → IsFaultAt at image → opening_refusals.ComesBeforeWrites (opening.Damaged at) → OnlyReads g old new result) → OnlyReads g old new result
+      → ((at : At) → IsFaultAt at image → ComesBeforeWrites (recovery.Damaged at) → OnlyReads g old new result) → OnlyReads g old new result
   only_read status.Done image old new result fault alone no_heap damaged = absurd fault
   only_read status.NoMemory image old new result fault alone no_heap damaged = absurd fault
   only_read status.Usage image old new result fault alone no_heap damaged = absurd fault
@@ -158,39 +148,9 @@ module _ {D : Type 0} (g : Ghosts D) where
       → (image : List ℕ) → g.may_leave new image → P image
   at_end old new P moments counts image may = moments.each image (counts (g.moment old) image moments.later may)
 
-  -- what an opening's error says of the image that it read, its status says of each image that a crash may leave afterwards
-  pub told_each : (e : OpenError) (by : Status) (old new : D) → by ≡ open_status e → opening_refusals.IsToldOf e (g.bytes old) → (IsNoHeap (g.bytes old) → LeavesOnly g.moment g.left_since old new IsNoHeap)
-      → ((at : At) → IsFaultAt at (g.bytes old) → LeavesOnly g.moment g.left_since old new (IsFaultAt at))
-      → ((t : ℕ) (image : List ℕ) → t ≤ g.moment new → g.may_leave new image → g.left_since new t image) → IsToldOfEach by (g.may_leave new)
-  told_each opening.NoMemory by old new is told no_heap damaged counts = rw is (λ image may. tt)
-  told_each opening.NotHeap by old new is told no_heap damaged counts = rw is (at_end old new IsNoHeap (no_heap told) counts)
-  told_each (opening.Damaged at) by old new is told no_heap damaged counts = rw is (at_end old new (IsFaultAt at) (damaged at told) counts)
-  told_each opening.DiskFault by old new is told no_heap damaged counts = rw is (λ image may. tt)
-  told_each opening.Stopped by old new is told no_heap damaged counts = rw is (λ image may. tt)
-
 -- An image that openings left of one that is damaged at an address is so too.
 pub left_word_fault : (old new : List ℕ) → IsWordFault old → IsLeftOf old new → IsWordFault new
 left_word_fault old new fault left = (fault.0, left_of_fault old new (place.Address fault.0) fault.1 left)
-
--- the end of a play says nothing of them
-pub end_told_each : (s : Status) (may_leave : List ℕ → Type 0) → IsEndOfPlay s → IsToldOfEach s may_leave
-end_told_each s may_leave end image may = end_told s image end
-
-pub input_told : (s : Status) (image : List ℕ) → IsInputError s → IsToldOf s image
-input_told status.Done image input = tt
-input_told status.NoMemory image input = tt
-input_told status.Usage image input = tt
-input_told (status.Script line) image input = tt
-input_told status.ReadFault image input = tt
-input_told status.WriteFault image input = tt
-input_told status.DiskFault image input = tt
-input_told status.NotHeap image input = absurd input
-input_told (status.Damaged at) image input = absurd input
-input_told (status.TooSmall size need) image input = tt
-
--- nor of those that a crash may leave
-pub input_told_each : (s : Status) (may_leave : List ℕ → Type 0) → IsInputError s → IsToldOfEach s may_leave
-input_told_each s may_leave input image may = input_told s image input
 
 -- A run that ends before it opens a heap makes no call.
 pub input_once : (n k : ℕ) (s : Status) → IsInputError s → CallsOfOneOpening n k k s
@@ -204,10 +164,6 @@ input_once n k status.DiskFault input = absurd input
 input_once n k status.NotHeap input = refl
 input_once n k (status.Damaged at) input = absurd input
 input_once n k (status.TooSmall size need) input = refl
-
-pub command_once : (n k : ℕ) (e : CommandError) → CallsOfOneOpening n k k (command_status e)
-command_once n k asking.NoMemory = refl
-command_once n k asking.Usage = refl
 
 -- The calls of one opening are no more than it makes.
 pub once_few : (n before now : ℕ) (s : Status) → CallsOfOneOpening n before now s → CallsAtMostOneOpening n before now s
@@ -223,7 +179,7 @@ once_few n before now (status.Damaged at) once = omega (arith, once)
 once_few n before now (status.TooSmall size need) once = once
 
 -- So are those of an opening that may be stopped, and it makes none if memory runs out.
-pub opens_few : (n before now : ℕ) (image : List ℕ) (e : OpenError) → IsWordFault image → opening_refusals.IsToldOf e image → (open_status e ≡ status.NoMemory → now ≡ before) → now ≤ counted n before
+pub opens_few : (n before now : ℕ) (image : List ℕ) (e : OpenError) → IsWordFault image → faults.IsToldOf (recovery_error e) image → (open_status e ≡ status.NoMemory → now ≡ before) → now ≤ counted n before
     → CallsAtMostOneOpening n before now (open_status e)
 opens_few n before now image opening.NoMemory fault told none few = none refl
 opens_few n before now image opening.NotHeap fault told none few = absurd (told fault.1.0 fault.1.3.roomy.replayed.log.super)
@@ -232,8 +188,8 @@ opens_few n before now image opening.DiskFault fault told none few = few
 opens_few n before now image opening.Stopped fault told none few = few
 
 -- What an opening of an image that is damaged at an address passed, by the status of its error.
-pub opens_once : (image : List ℕ) (before now : ℕ) (e : OpenError) (fault : IsWordFault image) → opening_refusals.IsToldOf e image
-    → ((s : Super) (batches : List (List Record)) (state : State) → IsReadable s batches state image → ErrorPasses (opening_calls s batches) before now e) → CallsOfOneOpening (fault_calls fault) before now (open_status e)
+pub opens_once : (image : List ℕ) (before now : ℕ) (e : OpenError) (fault : IsWordFault image) → faults.IsToldOf (recovery_error e) image
+    → ((s : Super) (batches : List (List Record)) (state : State) → IsReadable s batches state image → ErrorPasses (opening_calls s batches) before now (recovery_error e)) → CallsOfOneOpening (fault_calls fault) before now (open_status e)
 opens_once image before now opening.NoMemory fault told passes = passes fault.1.0 fault.1.1 fault.1.2 fault.1.3
 opens_once image before now opening.NotHeap fault told passes = absurd (told fault.1.0 fault.1.3.roomy.replayed.log.super)
 opens_once image before now (opening.Damaged at) fault told passes = (passes fault.1.0 fault.1.1 fault.1.2 fault.1.3).ok

@@ -6,17 +6,19 @@ use Rattle.heap_program.specs.declared.output.WriteError.TheVariants as writing
 use Rattle.heap_program.specs.declared.play.Halt.{Halt}
 use Rattle.heap_program.specs.declared.play.Halt.TheVariants as halt
 use Rattle.heap_program.specs.declared.status.Status.{Status}
-use Rattle.heap_program.specs.declared.status.Status.TheVariants.{Done}
+use Rattle.heap_program.specs.declared.status.Status.TheVariants.{Done, WriteFault}
 use Rattle.disk_model.specs.declared.disk.DiskError.TheVariants as device
 use Rattle.disk_model.specs.Disk.{HasCause}
 use Rattle.heap_program.specs.Causes.{DiskRose}
 use Rattle.heap_program.proofs.Causes.{disk_rose}
-use Rattle.heap_core.specs.Causes.{IsFromOutside, error_device}
+use Rattle.heap_core.specs.Causes.{recovery_error}
 use Rattle.heap_core.specs.declared.errors.OpenError.{OpenError}
 use Rattle.heap_core.specs.declared.errors.OpenError.TheVariants as opening
 use Rattle.heap_program.specs.Headline.{IsEndOfPlay, IsOfDisk}
 use Rattle.heap_program.specs.Output.{WroteText, early_end, status_after}
 use Rattle.heap_program.specs.StatusOf.{open_status, write_status, halt_status}
+use Rattle.heap_recovery.specs.Recovered.{IsFromOutside}
+use Rattle.heap_recovery.specs.Causes.{error_device}
 
 -- an output error ends a play
 write_end : (e : WriteError) → IsEndOfPlay (write_status e)
@@ -73,7 +75,7 @@ early_some (Err halt.WriteFault) s is = (halt.WriteFault, refl, (λ e. cc), cc)
 early_some (Err halt.DiskFault) s is = (halt.DiskFault, refl, (λ e. cc), cc)
 
 -- an opening that the outside hinders ends a play
-pub open_end : (e : OpenError) → IsFromOutside e → IsEndOfPlay (open_status e)
+pub open_end : (e : OpenError) → IsFromOutside (recovery_error e) → IsEndOfPlay (open_status e)
 open_end opening.NoMemory outside = tt
 open_end opening.NotHeap outside = absurd outside
 open_end (opening.Damaged at) outside = absurd outside
@@ -88,16 +90,24 @@ open_not_done (opening.Damaged at) is = cc
 open_not_done opening.DiskFault is = cc
 open_not_done opening.Stopped is = cc
 
+-- and is not refused by its output
+pub open_not_refused : (e : OpenError) → open_status e ≡ WriteFault → ⊥
+open_not_refused opening.NoMemory is = cc
+open_not_refused opening.NotHeap is = cc
+open_not_refused (opening.Damaged at) is = cc
+open_not_refused opening.DiskFault is = cc
+open_not_refused opening.Stopped is = cc
+
 -- one that was refused by the disk was so since a count of the disk rose
-pub open_harm : (f s f' s' : ℕ) (e : OpenError) → IsFromOutside e → e ≢ opening.NoMemory → HasCause {T = Unit {0}} f f' s s' (error_device e) → DiskRose f s f' s'
+pub open_harm : (f s f' s' : ℕ) (e : OpenError) → IsFromOutside (recovery_error e) → e ≢ opening.NoMemory → HasCause {T = Unit {0}} f f' s s' (error_device (recovery_error e)) → DiskRose f s f' s'
 open_harm f s f' s' opening.NoMemory outside other cause = absurd (other refl)
 open_harm f s f' s' opening.NotHeap outside other cause = absurd outside
 open_harm f s f' s' (opening.Damaged at) outside other cause = absurd outside
-open_harm f s f' s' opening.DiskFault outside other cause = disk_rose f s f' s' (error_device opening.DiskFault) device.Failed cause refl
-open_harm f s f' s' opening.Stopped outside other cause = disk_rose f s f' s' (error_device opening.Stopped) device.Stopped cause refl
+open_harm f s f' s' opening.DiskFault outside other cause = disk_rose f s f' s' (error_device (recovery_error opening.DiskFault)) device.Failed cause refl
+open_harm f s f' s' opening.Stopped outside other cause = disk_rose f s f' s' (error_device (recovery_error opening.Stopped)) device.Stopped cause refl
 
 -- and so its faults did, if it had not stopped
-pub open_fault : (f f' s s' : ℕ) (e : OpenError) → IsFromOutside e → e ≢ opening.NoMemory → e ≢ opening.Stopped → HasCause {T = Unit {0}} f f' s s' (error_device e) → Rose f f'
+pub open_fault : (f f' s s' : ℕ) (e : OpenError) → IsFromOutside (recovery_error e) → e ≢ opening.NoMemory → e ≢ opening.Stopped → HasCause {T = Unit {0}} f f' s s' (error_device (recovery_error e)) → Rose f f'
 open_fault f f' s s' opening.NoMemory outside some other cause = absurd (some refl)
 open_fault f f' s s' opening.NotHeap outside some other cause = absurd outside
 open_fault f f' s s' (opening.Damaged at) outside some other cause = absurd outside

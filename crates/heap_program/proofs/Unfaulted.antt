@@ -4,7 +4,7 @@ use Rattle.disk_model.specs.declared.disk.Disk.{Ghosts}
 use Rattle.disk_model.specs.declared.disk.DiskError.{DiskError}
 use Rattle.disk_model.specs.Disk.{HasCause}
 use Rattle.disk_model.specs.Keeps.{KeepsDisk}
-use Rattle.heap_core.specs.Causes.{error_device}
+use Rattle.heap_core.specs.Causes.{recovery_error}
 use Rattle.heap_core.specs.GivenBack.{format_device}
 use Rattle.heap_core.specs.declared.errors.FormatError.{FormatError}
 use Rattle.heap_core.specs.declared.errors.FormatError.TheVariants as format
@@ -17,6 +17,7 @@ use Rattle.heap_program.specs.declared.status.Status.TheVariants as status
 use Rattle.heap_program.specs.Causes.{CountsStay, IsFaultless, IsFaultlessLoad}
 use Rattle.heap_program.specs.Headline.{IsEndOfPlay}
 use Rattle.heap_program.specs.StatusOf.{format_status, open_status, halt_status}
+use Rattle.heap_recovery.specs.Causes.{error_device}
 
 -- a play that halts is no end without a fault
 pub halt_faulty : (h : Halt) → IsFaultless (halt_status h) → ⊥
@@ -73,7 +74,7 @@ module _ {D : Type 0} (g : Ghosts D) where
   keeps_counts old new x keeps = record { faults = keeps.cause.faults_still (λ is. cc); stops = keeps.cause.stops_still (λ is. cc) }
 
   -- an opening, or a format, of which something else is told than the disk's error
-  pub open_counts : (old new : D) (e : OpenError) → KeepsDisk g old new (error_device e) → open_status e ≢ status.DiskFault → CountsStay g old new
+  pub open_counts : (old new : D) (e : OpenError) → KeepsDisk g old new (error_device (recovery_error e)) → open_status e ≢ status.DiskFault → CountsStay g old new
   open_counts old new opening.NoMemory keeps none = keeps_counts old new tt keeps
   open_counts old new opening.NotHeap keeps none = keeps_counts old new tt keeps
   open_counts old new (opening.Damaged at) keeps none = keeps_counts old new tt keeps

@@ -316,6 +316,10 @@ module _ {D : Type 0} (g : Ghosts D) where
     pub behind : IsFollowed stop c count stopped final result (IsTrue told → WroteFront before (lines_text c.history) after)
     pub written : IsTrue told → Writes result c.history (end_text (stop_after stop) count (serial c.g0 (take count (commits c.history)))) before after
 
+  -- A disk that had met no stop has met none, or its first came in the opening: then fewer writes and syncs have passed than the opening makes.
+  abbrev pub StopsOnlyOpening : ℕ → D → D → Type 0
+  StopsOnlyOpening at_opening start final = g.stops start ≡ 0 → (g.stops final ≡ 0) ⊎ ((calls : ℕ) × (calls < at_opening) × (g.passed final ≡ counted calls (g.passed start)))
+
   -- Events were played on a disk whose heap was opened as the core c, with `at_opening` calls at the opening.
   pub record IsPlayed (stop : Option Stop) (at_opening : ℕ) (c : Core) (events : List Event) (start final : D) (result : Status) (told : Bool) (before after : List ℕ) : Type 0 where
     pub run : MakesEvents (stop_after stop) at_opening c events result
@@ -329,6 +333,8 @@ module _ {D : Type 0} (g : Ghosts D) where
     pub most : g.passed disk.stopped ≤ counted (let_through (stop_after stop) (at_opening + total_calls c run.made)) (g.passed start)
     pub replies : replies_of_commits run.core.history ≡ serial_replies run.core.g0 (commits run.core.history)
     pub prints : Prints stop run.core disk.stopped final result told before after
+    -- without a stop that was asked for, a run that made no event was not stopped by its disk in one: no line is left out for that
+    pub no_first_stop : stop ≡ None → run.made ≡ [] → StopsOnlyOpening at_opening start final
     -- a run whose last event was answered `diskfault` ends there
     pub faulted : IsCutBy (Refused DiskFault) c run.made run.core → EndsThere disk.stopped final result (IsTrue told → WroteFront before (lines_text run.core.history) after)
     -- a run that is done leaves nothing unsynced

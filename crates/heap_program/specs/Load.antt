@@ -17,7 +17,7 @@ use Rattle.heap_program.specs.declared.status.Status.{Status}
 use Rattle.heap_program.specs.declared.status.Status.TheVariants as status
 use Rattle.heap_program.specs.declared.summary.Summary.{Summary}
 use Rattle.heap_program.specs.Commands.{WritesText}
-use Rattle.heap_program.specs.Headline.{made_super, made_core, IsOfDisk, IsOpened, IsFormatted, IsNotMade, IsNotBegun, IsPlayed}
+use Rattle.heap_program.specs.Headline.{made_super, made_core, HasMade, IsOfDisk, IsOpened, IsFormatted, IsNotMade, IsNotBegun, IsPlayed}
 use Rattle.heap_program.specs.Limits.{KeepsLimits}
 use Rattle.heap_program.specs.Play.{WroteFront}
 use Rattle.heap_program.specs.Stored.{IsStored, stored_core, stored_calls}
@@ -87,9 +87,9 @@ pub record SummarizesRun (seed count : ℕ) (result : Status) (before after : Li
   pub limits : KeepsLimits first (all_events None first (events (load_lines seed count))) core
   pub written : WritesText result (summary_text (core_summary seed count core)) before after
 
--- A run that isn't done wrote nothing, or it wrote that.
+-- A run that isn't done, and whose output was not refused, wrote nothing, or it wrote that.
 abbrev pub SummarizesSome : ℕ → ℕ → Status → List ℕ → List ℕ → Type 0
-SummarizesSome seed count result before after = ((result ≢ status.Done) × (after ≡ before)) ⊎ SummarizesRun seed count result before after
+SummarizesSome seed count result before after = ((result ≢ status.Done) × (result ≢ status.WriteFault) × (after ≡ before)) ⊎ SummarizesRun seed count result before after
 
 module _ {D : Type 0} (g : Ghosts D) where
   -- Events were made on a disk whose heap was opened as the core c, with `at_opening` calls at the opening: what is said of a play without a stop,
@@ -100,6 +100,8 @@ module _ {D : Type 0} (g : Ghosts D) where
   -- The events of a load were made, and those that end a run, and the summary of their history was written.
   pub record PlaysLoad (seed count at_opening : ℕ) (c : Core) (start final : D) (result : Status) (told : Bool) (before after : List ℕ) : Type 0 where
     pub played : MakesRun at_opening c (all_events None c (events (load_lines seed count))) start final result
+    -- where the summary could not be written, all events were made
+    pub made : result ≡ status.WriteFault → HasMade None c played.run.made played.run.behind played.run.core
     pub written : IsTrue told → WritesSummary result (summary_text (core_summary seed count played.run.core)) before after
 
   -- A heap was made, and a load was played on it.

@@ -1,5 +1,5 @@
 //! A stopped disk is restarted: the heap is reopened, and what came back is printed.
-ghost use Rattle.std.specs.Prelude.{◌≡◌, ℕ, List, min, MatchResult, IsTrue};
+ghost use Rattle.std.specs.Prelude.{◌≡◌, ℕ, List, MatchResult, IsTrue};
 ghost use Rattle.counts.specs.Count.{Rose};
 ghost use Rattle.disk_model.specs.Disk.{Only};
 ghost use Rattle.disk_model.specs.Fuse.{fuse_inner};
@@ -8,9 +8,8 @@ ghost use Rattle.heap_core.specs.Refinement.{IsLeftByStep};
 ghost use Rattle.heap_model.specs.Core.{Core};
 ghost use Rattle.heap_model.specs.CoreCrash.{StandsForFirst, IsCommitPrefix};
 ghost use Rattle.heap_program.specs.Causes.{StreamCause, RunsDisk, IsOpenedEnd, either_disk};
-ghost use Rattle.heap_program.specs.Headline.{Restarts, KeepsFirst, Reopens, FailsToOpen, IsCutOff, StartsAgain, EndsUnopened, RestartsDisk, starts_asked};
-ghost use Rattle.heap_program.specs.Refusals.{IsFault, IsWordFault, IsToldOfEach, EndsRefused};
-ghost use Rattle.heap_recovery.specs.Faults.{IsLeftOf};
+ghost use Rattle.heap_program.specs.Headline.{OfTold, Restarts, KeepsFirst, Reopens, FailsToOpen, IsCutOff, StartsAgain, EndsUnopened, starts_asked};
+ghost use Rattle.heap_program.specs.Refusals.{KeepsFault, AnswersImage, AnswersLeft};
 ghost use Rattle.heap_program.specs.Output.{IsBefore, Recovers, WroteAgain};
 
 use crate::output::write_recovered;
@@ -32,18 +31,12 @@ pub fn start_again<D: Disk, K: Sink>(
     ensures end { IsOpenedEnd result.0 }
     ensures disk { RunsDisk D.Disk (fuse_inner fuse) result.1 (result.0 ≡ Status.DiskFault) }
     ensures sink { StreamCause (K.faults sink.old) (K.faults sink.new) (result.0 ≡ Status.WriteFault) }
-    ensures restarts { IsTrue D.tells → RestartsDisk (starts_asked again) result.0 (D.restarts (fuse_inner fuse)) (D.restarts result.1) }
+    ensures image { IsTrue D.tells → AnswersLeft D.Disk (starts_asked again) (fuse_inner fuse) result.1 result.0 (sink.new ≡ sink.old) }
     ensures started { IsTrue D.tells → Rose (D.restarts (fuse_inner fuse)) (D.restarts result.1) }
     ensures again { IsTrue K.tells → WroteAgain result.0 (K.written sink.old) (K.written sink.new) }
     ensures moments { IsTrue D.tells → (c : Core) (old : List ℕ) → ((image : List ℕ) → D.may_leave (fuse_inner fuse) image → IsLeftByStep c old image) → LeavesOnly D.moment D.left_since (fuse_inner fuse) result.1 (IsLeftByStep c old) }
     ensures recovers { IsTrue D.tells → (c : Core) → ((image : List ℕ) → D.may_leave (fuse_inner fuse) image → IsCommitPrefix c image) → IsBefore before c
         → (k : ℕ) × Recovers c k (StartsAgain D.Disk again c k (Reopens D.Disk c k) (fuse_inner fuse) result.1) (EndsUnopened D.Disk again c k (fuse_inner fuse) result.1 result.0) (D.bytes result.1) (D.may_leave result.1) result.0 K.tells (K.written sink.old) (K.written sink.new) }
-    // A status against an image is true of the disk that is given back.
-    ensures refused_at_end { IsTrue D.tells → IsToldOfEach result.0 (D.may_leave result.1) }
-    // An image that can't be opened gives its own status, and nothing is written then.
-    ensures refuses { IsTrue D.tells → (expected : Status) → ((image : List ℕ) → D.may_leave (fuse_inner fuse) image → IsFault expected image) → EndsRefused expected result.0 × (sink.new ≡ sink.old) }
-    ensures keeps_fault { IsTrue D.tells → (expected : Status) → ((image : List ℕ) → D.may_leave (fuse_inner fuse) image → IsFault expected image) → LeavesOnly D.moment D.left_since (fuse_inner fuse) result.1 (IsFault expected) }
-    ensures keeps_log { IsTrue D.tells → (old : List ℕ) → IsWordFault old → ((image : List ℕ) → D.may_leave (fuse_inner fuse) image → IsLeftOf old image) → LeavesOnly D.moment D.left_since (fuse_inner fuse) result.1 (IsLeftOf old) }
 {
     let disk = restart(fuse.into_inner());
     match again {
@@ -72,9 +65,7 @@ fn open_cut_off<D: Disk>(alloc: Global, disk: D, calls: u64) -> Result<D, D>
         → MatchResult result (λ new. IsCutOff D.Disk calls c k disk new) (λ new. FailsToOpen D.Disk c k Status.NoMemory disk new) }
     ensures restarts { IsTrue D.tells → D.restarts (either_disk result) ≡ D.restarts disk }
     // An image that can't be opened leaves one with the same fault.
-    ensures refuses { IsTrue D.tells → Only (D.bytes disk) (D.may_leave disk) → (expected : Status) → IsFault expected (D.bytes disk) → (image : List ℕ) → D.may_leave (either_disk result) image → IsFault expected image }
-    ensures keeps_fault { IsTrue D.tells → Only (D.bytes disk) (D.may_leave disk) → (expected : Status) → IsFault expected (D.bytes disk) → LeavesOnly D.moment D.left_since disk (either_disk result) (IsFault expected) }
-    ensures keeps_log { IsTrue D.tells → Only (D.bytes disk) (D.may_leave disk) → IsWordFault (D.bytes disk) → LeavesOnly D.moment D.left_since disk (either_disk result) (IsLeftOf (D.bytes disk)) }
+    ensures keeps { OfTold D.tells (D.bytes disk) (D.may_leave disk) (KeepsFault D.Disk disk (either_disk result)) }
 {
     match Heap::open(alloc, FuseDisk::new(disk, calls)) {
         Ok(heap) => Ok(heap.close().into_inner()),
@@ -98,15 +89,11 @@ fn print_recovered<D: Disk, K: Sink>(
     ensures end { IsOpenedEnd result.0 }
     ensures disk { RunsDisk D.Disk disk result.1 (result.0 ≡ Status.DiskFault) }
     ensures sink { StreamCause (K.faults sink.old) (K.faults sink.new) (result.0 ≡ Status.WriteFault) }
-    ensures restarts { IsTrue D.tells → D.restarts result.1 ≡ D.restarts disk }
+    ensures image { AnswersImage D.Disk (Unit {0}) 0 disk result.1 result.0 (sink.new ≡ sink.old) }
     ensures again { IsTrue K.tells → WroteAgain result.0 (K.written sink.old) (K.written sink.new) }
     ensures keeps { IsTrue D.tells → (c : Core) (k : ℕ) → StandsForFirst c k (D.bytes disk) → Only (D.bytes disk) (D.may_leave disk) → KeepsFirst D.Disk c k disk result.1 }
     ensures recovers { IsTrue D.tells → (c : Core) (k : ℕ) → StandsForFirst c k (D.bytes disk) → Only (D.bytes disk) (D.may_leave disk) → IsBefore before c
         → Recovers c k (Reopens D.Disk c k disk result.1) (FailsToOpen D.Disk c k result.0 disk result.1) (D.bytes result.1) (D.may_leave result.1) result.0 K.tells (K.written sink.old) (K.written sink.new) }
-    ensures refused_at_end { IsTrue D.tells → Only (D.bytes disk) (D.may_leave disk) → IsToldOfEach result.0 (D.may_leave result.1) }
-    ensures refuses { IsTrue D.tells → (expected : Status) → IsFault expected (D.bytes disk) → EndsRefused expected result.0 × (sink.new ≡ sink.old) }
-    ensures keeps_fault { IsTrue D.tells → Only (D.bytes disk) (D.may_leave disk) → (expected : Status) → IsFault expected (D.bytes disk) → LeavesOnly D.moment D.left_since disk result.1 (IsFault expected) }
-    ensures keeps_log { IsTrue D.tells → Only (D.bytes disk) (D.may_leave disk) → IsWordFault (D.bytes disk) → LeavesOnly D.moment D.left_since disk result.1 (IsLeftOf (D.bytes disk)) }
 {
     let heap = match Heap::open(alloc, disk) {
         Ok(heap) => heap,

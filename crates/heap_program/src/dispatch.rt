@@ -1,8 +1,6 @@
 //! All commands but `threads`: from the words of the command line and a script to the printed graph.
-ghost use Rattle.std.specs.Prelude.{◌≡◌, ◌≢◌, ◌⊎◌, ℕ, ◌<◌, ◌≤◌, [], List, Bool, None, Some, Ok, Err, Option, map, string_bytes, IsTrue};
+ghost use Rattle.std.specs.Prelude.{◌≡◌, ◌≢◌, ◌⊎◌, ℕ, ◌<◌, [], List, Bool, None, Some, Ok, Err, Option, map, string_bytes, IsTrue};
 ghost use Rattle.counts.specs.Count.{Rose};
-ghost use Rattle.disk_model.specs.Disk.{Only};
-ghost use Rattle.disk_model.specs.Moments.{LeavesOnly};
 ghost use Rattle.graph_model.specs.Graph.{Graph};
 ghost use Rattle.graph_words.specs.Places.{Places};
 ghost use Rattle.image_plan.specs.declared.superblock.Super.{Super};
@@ -21,10 +19,9 @@ ghost use Rattle.heap_program.specs.Causes.{DiskRose, StreamCause, RunsDisk, Cou
 ghost use Rattle.heap_program.specs.Commands.{makes, superblock_numbers, restarts_of, IsPlay, IsEndOf, MeetsNoFault, CanRun, RunsFormat, PrintsGraph, WritesText, formatted_line};
 ghost use Rattle.heap_program.specs.CrashSafe.{RunsSafely};
 ghost use Rattle.heap_program.specs.Load.{RunsLoad, SummarizesSome};
-ghost use Rattle.heap_program.specs.Headline.{OfTold, PrintsRun, IsOfOwnImage, Runs, IsUntouching, EndsUnread, EndsUnmade, BlamesNoImage, RestartsDisk, graph_text, stop_after};
+ghost use Rattle.heap_program.specs.Headline.{OfTold, PrintsRun, IsOfOwnImage, Runs, IsUntouching, EndsUnread, EndsUnmade, graph_text, stop_after};
 ghost use Rattle.heap_program.specs.Playable.{IsReadFrom};
-ghost use Rattle.heap_recovery.specs.Faults.{IsLeftOf};
-ghost use Rattle.heap_program.specs.Refusals.{IsFault, IsWordFault, CallsOfOneOpening, CallsAtMostOneOpening, fault_calls, IsToldOf, IsToldOfEach, EndsRefused, IsLeftAlone, LeavesAlone};
+ghost use Rattle.heap_program.specs.Refusals.{AnswersImage};
 ghost use Rattle.script_text.specs.Script.{script};
 
 use crate::loading::run_load;
@@ -103,29 +100,9 @@ pub fn run_alone<D: Disk, S: Source, K: Sink>(
 
     ensures prints_load { IsTrue K.tells → (seed count : ℕ) (fresh : Option ℕ) → command (map string_bytes words.now) ≡ Some (asked.Load seed count fresh) → SummarizesSome seed count result.0 (K.written sink.old) (K.written sink.new) }
 
-    // On any disk, without a stop a status against the image comes before anything is written.
-    ensures unwritten { (asked : Command) → command (map string_bytes words.now) ≡ Some asked → restarts_of asked ≡ 0 → ¬ BlamesNoImage result.0 → sink.new ≡ sink.old }
-
-    // Which images are no heap or damaged, and where: such an image gives its own status, with nothing written. Each status against an image is
-    // true of it, unless the disk was restarted, which only a stop asks for. A heap that the run makes is never refused.
-    ensures refuses { OfTold D.tells (D.bytes disk) (D.may_leave disk) ((asked : Command) (expected : Status) → command (map string_bytes words.now) ≡ Some asked → makes asked ≡ None
-        → IsFault expected (D.bytes disk) → EndsRefused expected result.0 × (sink.new ≡ sink.old)) }
-    // At each moment a crash leaves such an image with the same fault.
-    ensures keeps_fault { OfTold D.tells (D.bytes disk) (D.may_leave disk) ((asked : Command) (expected : Status) → command (map string_bytes words.now) ≡ Some asked → makes asked ≡ None
-        → IsFault expected (D.bytes disk) → LeavesOnly D.moment D.left_since disk result.1 (IsFault expected)) }
-    // One that is damaged at an address keeps its log, or has that log rolled back, and each byte outside of the log is as it was.
-    ensures keeps_log { OfTold D.tells (D.bytes disk) (D.may_leave disk) ((asked : Command) → command (map string_bytes words.now) ≡ Some asked → makes asked ≡ None
-        → IsWordFault (D.bytes disk) → LeavesOnly D.moment D.left_since disk result.1 (IsLeftOf (D.bytes disk))) }
-    // Where no stop was asked, a run makes the writes and syncs of one opening of it: all if it reports the damage, and no more if the disk fails.
-    ensures opens_once { IsTrue D.tells → (asked : Command) → command (map string_bytes words.now) ≡ Some asked → makes asked ≡ None → restarts_of asked ≡ 0 → (fault : IsWordFault (D.bytes disk)) → CallsOfOneOpening (fault_calls fault) (D.passed disk) (D.passed result.1) result.0 }
-    // With a stop too it makes no more of them, unless the disk was restarted, and none if memory runs out.
-    ensures opens_few { IsTrue D.tells → (asked : Command) → command (map string_bytes words.now) ≡ Some asked → makes asked ≡ None → (Rose (D.restarts disk) (D.restarts result.1) → restarts_of asked ≡ 0) → (fault : IsWordFault (D.bytes disk)) → CallsAtMostOneOpening (fault_calls fault) (D.passed disk) (D.passed result.1) result.0 }
-    ensures refused { IsTrue D.tells → (asked : Command) → command (map string_bytes words.now) ≡ Some asked → makes asked ≡ None → (Rose (D.restarts disk) (D.restarts result.1) → restarts_of asked ≡ 0) → IsToldOf result.0 (D.bytes disk) }
-    // With a stop too, such a status is true of the disk that is given back: of what it reads as, and of each image that a crash may leave.
-    ensures refused_at_end { OfTold D.tells (D.bytes disk) (D.may_leave disk) (IsToldOfEach result.0 (D.may_leave result.1)) }
-    // An image that is no heap, or is damaged but not at an address, is left as it was, whatever the end: no stop that is asked for comes in its opening.
-    ensures left_alone { IsTrue D.tells → (asked : Command) → command (map string_bytes words.now) ≡ Some asked → makes asked ≡ None → (expected : Status) → IsFault expected (D.bytes disk) → IsLeftAlone expected → LeavesAlone D.Disk disk result.1 }
-    ensures sound { OfTold D.tells (D.bytes disk) (D.may_leave disk) ((asked : Command) (s : Super) → command (map string_bytes words.now) ≡ Some asked → makes asked ≡ Some s → BlamesNoImage result.0) }
+    // Which images can't be opened, and what becomes of them: such an image gives its own status, with nothing written, and stays as it is or keeps its fault
+    // at each moment; and each such status is true of the image. How often the disk was restarted.
+    ensures image { (asked : Command) → command (map string_bytes words.now) ≡ Some asked → AnswersImage D.Disk (makes asked ≡ None) (restarts_of asked) disk result.1 result.0 (sink.new ≡ sink.old) }
 
     // Which statuses each command has.
     ensures ends { (asked : Command) → command (map string_bytes words.now) ≡ Some asked → IsEndOf asked result.0 }
@@ -135,8 +112,6 @@ pub fn run_alone<D: Disk, S: Source, K: Sink>(
         → (IsPlay asked → IsTrue S.tells × ((lines : List Line) × (script (S.left source.old) ≡ Ok lines)))
         → ¬ Rose (S.faults source.old) (S.faults source.new) → ¬ Rose (K.faults sink.old) (K.faults sink.new) → ¬ DiskRose (D.faults disk) (D.stops disk) (D.faults result.1) (D.stops result.1)
         → (result.0 ≡ Status.Done) ⊎ (result.0 ≡ Status.NoMemory)) }
-    // How often the disk was restarted, however it ends.
-    ensures restarts { IsTrue D.tells → (asked : Command) → command (map string_bytes words.now) ≡ Some asked → RestartsDisk (restarts_of asked) result.0 (D.restarts disk) (D.restarts result.1) }
 {
     let command = match read_command(alloc, words) {
         Ok(command) => command,

@@ -1,17 +1,15 @@
 //! The command that plays a script, on a new heap or on the existing one.
-ghost use Rattle.std.specs.Prelude.{◌≡◌, ◌≢◌, ◌⊎◌, ℕ, ◌<◌, ◌≤◌, List, [], None, Some, Ok, Err, IfOk, IfErr, IfSome, IsTrue, OnOk};
+ghost use Rattle.std.specs.Prelude.{◌≡◌, ◌≢◌, ◌⊎◌, ℕ, ◌<◌, List, [], None, Some, Ok, Err, IfOk, IfErr, IfSome, IsTrue, OnOk};
 ghost use Rattle.counts.specs.Count.{Rose};
 ghost use Rattle.disk_model.specs.Disk.{Only};
-ghost use Rattle.disk_model.specs.Moments.{LeavesOnly};
 ghost use Rattle.image_plan.specs.Plan.{image_size};
 ghost use Rattle.script_text.specs.declared.line.Line.{Line};
 ghost use Rattle.script_text.specs.declared.script.ScriptError.TheVariants.{Fault};
 ghost use Rattle.command_words.specs.Limits.{IsPages};
 ghost use Rattle.heap_program.specs.Causes.{StreamCause, RunsDisk, CountsStay, IsFaultless, IsInputError, IsOpenedEnd, FailsByScript};
-ghost use Rattle.heap_program.specs.Headline.{OfTold, IsPlayed, IsEndOfPlay, PrintsRun, PrintsSome, IsOfImage, IsOfOwnImage, Runs, CanPlay, IsUntouching, EndsUnread, EndsUnmade, BlamesNoImage, RestartsDisk, restarts_asked, starts_asked, stop_after};
+ghost use Rattle.heap_program.specs.Headline.{OfTold, IsPlayed, IsEndOfPlay, PrintsRun, PrintsSome, IsOfImage, IsOfOwnImage, Runs, CanPlay, IsUntouching, EndsUnread, EndsUnmade, restarts_asked, starts_asked, stop_after};
 ghost use Rattle.heap_program.specs.Playable.{IsScript, IsReadFrom};
-ghost use Rattle.heap_recovery.specs.Faults.{IsLeftOf};
-ghost use Rattle.heap_program.specs.Refusals.{IsFault, IsWordFault, CallsOfOneOpening, CallsAtMostOneOpening, fault_calls, IsToldOf, IsToldOfEach, EndsRefused, IsLeftAlone, LeavesAlone};
+ghost use Rattle.heap_program.specs.Refusals.{AnswersImage};
 ghost use Rattle.heap_program.specs.Stored.{IsStored, stored_core, stored_calls};
 ghost use Rattle.heap_model.specs.Ending.{all_events};
 ghost use Rattle.heap_program.specs.Output.{early_end};
@@ -62,23 +60,11 @@ pub fn run_play<D: Disk, S: Source, K: Sink>(
         (Runs D.Disk fresh stop (IsReadFrom S.tells (S.left source.old)) disk result.1 result.0 K.tells (K.written sink.old) (K.written sink.new)) }
     ensures prints { IsTrue K.tells
         → ((result.0 ≢ Status.Done) × (K.written sink.new ≡ K.written sink.old)) ⊎ ((lines : List Line) × IsReadFrom S.tells (S.left source.old) lines × PrintsRun (IsOfOwnImage fresh D.tells (D.bytes disk)) (stop_after stop) lines result.0 (K.written sink.old) (K.written sink.new)) }
-    ensures unwritten { stop ≡ None → ¬ BlamesNoImage result.0 → sink.new ≡ sink.old }
-    ensures restarts { IsTrue D.tells → RestartsDisk (restarts_asked stop) result.0 (D.restarts disk) (D.restarts result.1) }
+    // What is said against an image that can't be opened, and becomes of it.
+    ensures image { AnswersImage D.Disk (fresh ≡ None) (restarts_asked stop) disk result.1 result.0 (sink.new ≡ sink.old) }
     // If there is a heap, or one was to be made on a disk that is large enough, and the script is good, the run ends as a play.
     ensures complete { OfTold D.tells (D.bytes disk) (D.may_leave disk) (CanPlay fresh (D.extent disk) (D.bytes disk)
         → IsTrue S.tells → (lines : List Line) → script (S.left source.old) ≡ Ok lines → ¬ Rose (S.faults source.old) (S.faults source.new) → IsEndOfPlay result.0) }
-    // An image that can't be opened gives its own status, and nothing is written then; each status against it is true of it, unless the disk was restarted.
-    ensures refused { IsTrue D.tells → fresh ≡ None → (Rose (D.restarts disk) (D.restarts result.1) → stop ≡ None) → IsToldOf result.0 (D.bytes disk) }
-    ensures refused_at_end { OfTold D.tells (D.bytes disk) (D.may_leave disk) (IsToldOfEach result.0 (D.may_leave result.1)) }
-    ensures refuses { OfTold D.tells (D.bytes disk) (D.may_leave disk) (fresh ≡ None → (expected : Status) → IsFault expected (D.bytes disk) → EndsRefused expected result.0 × (sink.new ≡ sink.old)) }
-    ensures left_alone { IsTrue D.tells → fresh ≡ None → (expected : Status) → IsFault expected (D.bytes disk) → IsLeftAlone expected → LeavesAlone D.Disk disk result.1 }
-    // A heap that it made is never refused.
-    ensures sound { OfTold D.tells (D.bytes disk) (D.may_leave disk) ((pages : ℕ) → fresh ≡ Some pages → BlamesNoImage result.0) }
-    ensures keeps_fault { OfTold D.tells (D.bytes disk) (D.may_leave disk) (fresh ≡ None → (expected : Status) → IsFault expected (D.bytes disk) → LeavesOnly D.moment D.left_since disk result.1 (IsFault expected)) }
-    ensures keeps_log { OfTold D.tells (D.bytes disk) (D.may_leave disk) (fresh ≡ None → IsWordFault (D.bytes disk) → LeavesOnly D.moment D.left_since disk result.1 (IsLeftOf (D.bytes disk))) }
-    // If no stop was asked, the writes and syncs are those of one opening of such an image; with a stop they are no more, unless the disk was restarted.
-    ensures opens_once { IsTrue D.tells → fresh ≡ None → stop ≡ None → (fault : IsWordFault (D.bytes disk)) → CallsOfOneOpening (fault_calls fault) (D.passed disk) (D.passed result.1) result.0 }
-    ensures opens_few { IsTrue D.tells → fresh ≡ None → (Rose (D.restarts disk) (D.restarts result.1) → stop ≡ None) → (fault : IsWordFault (D.bytes disk)) → CallsAtMostOneOpening (fault_calls fault) (D.passed disk) (D.passed result.1) result.0 }
 {
     let script = match read_input(alloc, source) {
         Ok(script) => script,
@@ -107,21 +93,10 @@ fn play_script<D: Disk, K: Sink>(
     ensures disk { RunsDisk D.Disk disk result.1 (result.0 ≡ Status.DiskFault) }
     ensures unfaulted { stop ≡ None → IsFaultless result.0 → CountsStay D.Disk disk result.1 }
     ensures sink { StreamCause (K.faults sink.old) (K.faults sink.new) (result.0 ≡ Status.WriteFault) }
-    ensures restarts { IsTrue D.tells → RestartsDisk (restarts_asked stop) result.0 (D.restarts disk) (D.restarts result.1) }
-    ensures unwritten { stop ≡ None → ¬ BlamesNoImage result.0 → sink.new ≡ sink.old }
+    ensures image { AnswersImage D.Disk (Unit {0}) (restarts_asked stop) disk result.1 result.0 (sink.new ≡ sink.old) }
     ensures prints { IsTrue K.tells → PrintsSome (IsOfImage D.tells (D.bytes disk)) (stop_after stop) script.now result.0 (K.written sink.old) (K.written sink.new) }
     ensures played { IsTrue D.tells → (stored : IsStored (D.bytes disk)) → Only (D.bytes disk) (D.may_leave disk)
         → IsPlayed D.Disk stop (stored_calls stored) (stored_core stored) (all_events (stop_after stop) (stored_core stored) (events script.now)) disk result.1 result.0 K.tells (K.written sink.old) (K.written sink.new) }
-    // An image that can't be opened gives its own status, and nothing is written then; each status against it is true of it, unless the disk was restarted.
-    ensures refused { IsTrue D.tells → (Rose (D.restarts disk) (D.restarts result.1) → stop ≡ None) → IsToldOf result.0 (D.bytes disk) }
-    ensures refused_at_end { IsTrue D.tells → Only (D.bytes disk) (D.may_leave disk) → IsToldOfEach result.0 (D.may_leave result.1) }
-    ensures refuses { IsTrue D.tells → Only (D.bytes disk) (D.may_leave disk) → (expected : Status) → IsFault expected (D.bytes disk) → EndsRefused expected result.0 × (sink.new ≡ sink.old) }
-    ensures left_alone { IsTrue D.tells → (expected : Status) → IsFault expected (D.bytes disk) → IsLeftAlone expected → LeavesAlone D.Disk disk result.1 }
-    // At each moment a crash leaves an image with the same fault.
-    ensures keeps_fault { IsTrue D.tells → Only (D.bytes disk) (D.may_leave disk) → (expected : Status) → IsFault expected (D.bytes disk) → LeavesOnly D.moment D.left_since disk result.1 (IsFault expected) }
-    ensures keeps_log { IsTrue D.tells → Only (D.bytes disk) (D.may_leave disk) → IsWordFault (D.bytes disk) → LeavesOnly D.moment D.left_since disk result.1 (IsLeftOf (D.bytes disk)) }
-    ensures opens_once { IsTrue D.tells → stop ≡ None → (fault : IsWordFault (D.bytes disk)) → CallsOfOneOpening (fault_calls fault) (D.passed disk) (D.passed result.1) result.0 }
-    ensures opens_few { IsTrue D.tells → (Rose (D.restarts disk) (D.restarts result.1) → stop ≡ None) → (fault : IsWordFault (D.bytes disk)) → CallsAtMostOneOpening (fault_calls fault) (D.passed disk) (D.passed result.1) result.0 }
 {
     match stop {
         None => play_whole(alloc, disk, script, sink),
@@ -154,18 +129,10 @@ fn play_whole<D: Disk, K: Sink>(
     ensures disk { RunsDisk D.Disk disk result.1 (result.0 ≡ Status.DiskFault) }
     ensures unfaulted { IsFaultless result.0 → CountsStay D.Disk disk result.1 }
     ensures sink { StreamCause (K.faults sink.old) (K.faults sink.new) (result.0 ≡ Status.WriteFault) }
-    ensures restarts { IsTrue D.tells → D.restarts result.1 ≡ D.restarts disk }
-    ensures unwritten { ¬ BlamesNoImage result.0 → sink.new ≡ sink.old }
+    ensures image { AnswersImage D.Disk (Unit {0}) 0 disk result.1 result.0 (sink.new ≡ sink.old) }
     ensures prints { IsTrue K.tells → PrintsSome (IsOfImage D.tells (D.bytes disk)) None script.now result.0 (K.written sink.old) (K.written sink.new) }
     ensures played { IsTrue D.tells → (stored : IsStored (D.bytes disk)) → Only (D.bytes disk) (D.may_leave disk)
         → IsPlayed D.Disk None (stored_calls stored) (stored_core stored) (all_events None (stored_core stored) (events script.now)) disk result.1 result.0 K.tells (K.written sink.old) (K.written sink.new) }
-    ensures refused { IsTrue D.tells → IsToldOf result.0 (D.bytes disk) }
-    ensures refused_at_end { IsTrue D.tells → Only (D.bytes disk) (D.may_leave disk) → IsToldOfEach result.0 (D.may_leave result.1) }
-    ensures refuses { IsTrue D.tells → (expected : Status) → IsFault expected (D.bytes disk) → EndsRefused expected result.0 × (sink.new ≡ sink.old) }
-    ensures left_alone { IsTrue D.tells → (expected : Status) → IsFault expected (D.bytes disk) → IsLeftAlone expected → LeavesAlone D.Disk disk result.1 }
-    ensures keeps_fault { IsTrue D.tells → Only (D.bytes disk) (D.may_leave disk) → (expected : Status) → IsFault expected (D.bytes disk) → LeavesOnly D.moment D.left_since disk result.1 (IsFault expected) }
-    ensures keeps_log { IsTrue D.tells → Only (D.bytes disk) (D.may_leave disk) → IsWordFault (D.bytes disk) → LeavesOnly D.moment D.left_since disk result.1 (IsLeftOf (D.bytes disk)) }
-    ensures opens_once { IsTrue D.tells → (fault : IsWordFault (D.bytes disk)) → CallsOfOneOpening (fault_calls fault) (D.passed disk) (D.passed result.1) result.0 }
 {
     let mut heap = match Heap::open(alloc, disk) {
         Ok(heap) => heap,
@@ -193,17 +160,10 @@ fn play_stopped<D: Disk, K: Sink>(
     ensures end { IsOpenedEnd result.0 }
     ensures disk { RunsDisk D.Disk disk result.1 (result.0 ≡ Status.DiskFault) }
     ensures sink { StreamCause (K.faults sink.old) (K.faults sink.new) (result.0 ≡ Status.WriteFault) }
-    ensures restarts { IsTrue D.tells → RestartsDisk (starts_asked stop.again) result.0 (D.restarts disk) (D.restarts result.1) }
+    ensures image { AnswersImage D.Disk (Unit {0}) (starts_asked stop.again) disk result.1 result.0 (sink.new ≡ sink.old) }
     ensures prints { IsTrue K.tells → PrintsSome (IsOfImage D.tells (D.bytes disk)) (Some stop.after) script.now result.0 (K.written sink.old) (K.written sink.new) }
     ensures played { IsTrue D.tells → (stored : IsStored (D.bytes disk)) → Only (D.bytes disk) (D.may_leave disk)
         → IsPlayed D.Disk (Some stop) (stored_calls stored) (stored_core stored) (events script.now) disk result.1 result.0 K.tells (K.written sink.old) (K.written sink.new) }
-    ensures refused { IsTrue D.tells → ¬ Rose (D.restarts disk) (D.restarts result.1) → IsToldOf result.0 (D.bytes disk) }
-    ensures refused_at_end { IsTrue D.tells → Only (D.bytes disk) (D.may_leave disk) → IsToldOfEach result.0 (D.may_leave result.1) }
-    ensures refuses { IsTrue D.tells → Only (D.bytes disk) (D.may_leave disk) → (expected : Status) → IsFault expected (D.bytes disk) → EndsRefused expected result.0 × (sink.new ≡ sink.old) }
-    ensures left_alone { IsTrue D.tells → (expected : Status) → IsFault expected (D.bytes disk) → IsLeftAlone expected → LeavesAlone D.Disk disk result.1 }
-    ensures keeps_fault { IsTrue D.tells → Only (D.bytes disk) (D.may_leave disk) → (expected : Status) → IsFault expected (D.bytes disk) → LeavesOnly D.moment D.left_since disk result.1 (IsFault expected) }
-    ensures keeps_log { IsTrue D.tells → Only (D.bytes disk) (D.may_leave disk) → IsWordFault (D.bytes disk) → LeavesOnly D.moment D.left_since disk result.1 (IsLeftOf (D.bytes disk)) }
-    ensures opens_few { IsTrue D.tells → ¬ Rose (D.restarts disk) (D.restarts result.1) → (fault : IsWordFault (D.bytes disk)) → CallsAtMostOneOpening (fault_calls fault) (D.passed disk) (D.passed result.1) result.0 }
 {
     let mut heap = match Heap::open(alloc, FuseDisk::new(disk, stop.after)) {
         Ok(heap) => heap,

@@ -1,7 +1,5 @@
 //! The commands that play no script: a heap is made, or its graph is printed.
-ghost use Rattle.std.specs.Prelude.{◌≡◌, ◌≢◌, ◌⊎◌, ℕ, ◌<◌, ◌≤◌, List, Bool, Some, IsTrue};
-ghost use Rattle.disk_model.specs.Disk.{Only};
-ghost use Rattle.disk_model.specs.Moments.{LeavesOnly};
+ghost use Rattle.std.specs.Prelude.{◌≡◌, ◌≢◌, ◌⊎◌, ℕ, ◌<◌, ◌≤◌, List, Bool, IsTrue};
 ghost use Rattle.graph_model.specs.Graph.{Graph};
 ghost use Rattle.graph_words.specs.Places.{Places};
 ghost use Rattle.image_plan.specs.declared.superblock.Super.{Super};
@@ -15,10 +13,9 @@ ghost use Rattle.command_words.specs.Limits.{AreNumbers};
 ghost use Rattle.command_words.specs.declared.commands.Command.TheVariants as asked;
 ghost use Rattle.heap_program.specs.Causes.{StreamCause, RunsDisk, CountsStay, IsOpenedEnd};
 ghost use Rattle.heap_program.specs.Commands.{IsEndOf, RunsFormat, PrintsGraph, WritesText, formatted_line};
-ghost use Rattle.heap_program.specs.Headline.{OfTold, IsEndOfPlay, BlamesNoImage, graph_text};
+ghost use Rattle.heap_program.specs.Headline.{OfTold, IsEndOfPlay, graph_text};
 ghost use Rattle.heap_program.specs.Output.{WroteText};
-ghost use Rattle.heap_recovery.specs.Faults.{IsLeftOf};
-ghost use Rattle.heap_program.specs.Refusals.{IsFault, IsWordFault, CallsOfOneOpening, fault_calls, IsToldOf, IsToldOfEach, EndsRefused, IsLeftAlone, LeavesAlone};
+ghost use Rattle.heap_program.specs.Refusals.{AnswersImage};
 
 use crate::output::{WriteError, write_graph};
 use crate::status::{Status, status_after};
@@ -76,17 +73,7 @@ pub fn run_graph<D: Disk, K: Sink>(alloc: Global, disk: D, sink: &mut K) -> (Sta
     ensures graph { OfTold D.tells (D.bytes disk) (D.may_leave disk) ((s : Super) (batches : List (List Record)) (stored : Pages) → (shaped : IsShaped s batches stored (D.bytes disk)) → (born : Bool) (places : Places) (g : Graph) → IsFound s batches stored shaped.log born places g
         → PrintsGraph D.Disk s batches stored g disk result.1 result.0 K.tells (K.written sink.old) (K.written sink.new)) }
     ensures prints { IsTrue K.tells → ((result.0 ≢ Status.Done) × (K.written sink.new ≡ K.written sink.old)) ⊎ ((g : Graph) × WritesText result.0 (graph_text g) (K.written sink.old) (K.written sink.new)) }
-    ensures unwritten { ¬ BlamesNoImage result.0 → sink.new ≡ sink.old }
-    ensures restarts { IsTrue D.tells → D.restarts result.1 ≡ D.restarts disk }
-    // A status against the image is true of it, and an image that can't be opened gives its own; nothing is written then.
-    ensures refused { IsTrue D.tells → IsToldOf result.0 (D.bytes disk) }
-    ensures refused_at_end { IsTrue D.tells → Only (D.bytes disk) (D.may_leave disk) → IsToldOfEach result.0 (D.may_leave result.1) }
-    ensures refuses { IsTrue D.tells → (expected : Status) → IsFault expected (D.bytes disk) → EndsRefused expected result.0 × (sink.new ≡ sink.old) }
-    ensures left_alone { IsTrue D.tells → (expected : Status) → IsFault expected (D.bytes disk) → IsLeftAlone expected → LeavesAlone D.Disk disk result.1 }
-    // At each moment a crash leaves an image with the same fault.
-    ensures keeps_fault { IsTrue D.tells → Only (D.bytes disk) (D.may_leave disk) → (expected : Status) → IsFault expected (D.bytes disk) → LeavesOnly D.moment D.left_since disk result.1 (IsFault expected) }
-    ensures keeps_log { IsTrue D.tells → Only (D.bytes disk) (D.may_leave disk) → IsWordFault (D.bytes disk) → LeavesOnly D.moment D.left_since disk result.1 (IsLeftOf (D.bytes disk)) }
-    ensures opens_once { IsTrue D.tells → (fault : IsWordFault (D.bytes disk)) → CallsOfOneOpening (fault_calls fault) (D.passed disk) (D.passed result.1) result.0 }
+    ensures image { AnswersImage D.Disk (Unit {0}) 0 disk result.1 result.0 (sink.new ≡ sink.old) }
 {
     match Heap::open(alloc, disk) {
         Ok(heap) => {

@@ -16,7 +16,7 @@ use Rattle.graph_model.specs.declared.reply.Reply.{Reply}
 use Rattle.graph_model.specs.declared.reply.Reply.TheVariants.{Refused}
 use Rattle.graph_model.specs.History.{IsOfSession, account}
 use Rattle.image_plan.specs.declared.superblock.Super.{Super}
-use Rattle.heap_core.specs.Causes.{IsFromOutside, reply_device}
+use Rattle.heap_core.specs.Causes.{reply_device, recovery_error}
 use Rattle.heap_core.specs.declared.errors.OpenError.{OpenError}
 use Rattle.heap_core.specs.declared.errors.OpenError.TheVariants as opening
 use Rattle.heap_core.specs.declared.heap.Heap.{Heap}
@@ -37,7 +37,7 @@ use Rattle.heap_program.specs.declared.play.Halt.TheVariants as halt
 use Rattle.heap_program.specs.declared.status.Status.{Status}
 use Rattle.heap_program.specs.declared.status.Status.TheVariants as status
 use Rattle.heap_program.specs.Causes.{DiskRose, CountsStay, Unharmed}
-use Rattle.heap_program.specs.Headline.{KeepsThroughout, CountsOpening}
+use Rattle.heap_program.specs.Headline.{KeepsThroughout, CountsOpening, BlamesNoImage}
 use Rattle.heap_program.specs.Play.{IsRunning, MadeAll, IsCutBy, MakesAll, MakesShort, Makes, Plays}
 use Rattle.heap_program.specs.StatusOf.{open_status, halt_status}
 use Rattle.heap_program.specs.Stored.{IsStored, stored_core, stored_calls}
@@ -52,7 +52,8 @@ use Rattle.heap_program.proofs.PlayOpen.{stored_running, unopened_calls}
 use Rattle.heap_program.proofs.PlayLaws.{ends_makes, plays_none}
 use Rattle.heap_program.proofs.Ready.{AreReady}
 use Rattle.heap_program.proofs.Reopened.{outside_memory}
-use Rattle.heap_program.proofs.Statuses.{halt_not_done, open_not_done}
+use Rattle.heap_program.proofs.RunLaws.{end_sound}
+use Rattle.heap_program.proofs.Statuses.{halt_not_done, open_not_done, halt_end}
 use Rattle.heap_program.specs.Causes.{IsFaultless}
 use Rattle.heap_program.proofs.Unfaulted.{halt_faulty}
 use Rattle.session_program.specs.declared.ending.Break.{Break}
@@ -67,6 +68,7 @@ use Rattle.session_program.proofs.Answering.{asked_sessions}
 use Rattle.session_program.proofs.OnDisk.{makes_last, plays_core}
 use Rattle.session_program.proofs.PlayedLines.{makes_behind}
 use Rattle.session_program.proofs.Whole.{ended_as, widen, session_early, session_ended, still}
+use Rattle.heap_recovery.specs.Recovered.{IsFromOutside}
 
 module _ {D : Type 0} {g : Ghosts D} (s : Super) (tells : Bool) (left rest : List ℕ) (c : Core) (told : Bool) (before : List ℕ) where
   -- it ended at a line
@@ -227,7 +229,7 @@ module _ {D : Type 0} {g : Ghosts D} {bytes : List ℕ} (stored : IsStored bytes
 
 -- The heap was not opened: no event was made, and nothing was written.
 module _ {D : Type 0} (g : Ghosts D) {bytes : List ℕ} (stored : IsStored bytes) where
-  pub served_none : (tells : Bool) (left rest : List ℕ) (start final : D) (e : OpenError) (told : Bool) (before : List ℕ) → IsFromOutside e
+  pub served_none : (tells : Bool) (left rest : List ℕ) (start final : D) (e : OpenError) (told : Bool) (before : List ℕ) → IsFromOutside (recovery_error e)
       → LeavesOnly g.moment g.left_since start final (IsCommitPrefix (stored_core stored)) → LeavesOnly g.moment g.left_since start final (SameBehind (stored_core stored) (g.bytes start)) → ((image : List ℕ) → g.may_leave final image → IsCommitPrefix (stored_core stored) image)
       → ((image : List ℕ) → g.left_since final (g.moment final) image → g.may_leave final image) → g.restarts final ≡ g.restarts start
       → (e ≡ opening.NoMemory → g.passed final ≡ g.passed start) → (e ≢ opening.NoMemory → Unharmed g start final → ⊥)
@@ -271,6 +273,11 @@ module _ {D : Type 0} (g : Ghosts D) {bytes : List ℕ} (stored : IsStored bytes
 pub broken_uncut : (b : Break) → IsFaultless (break_status b) → IsUncut (Err b)
 broken_uncut (Halted h) none = halt_faulty h none
 broken_uncut ReadFault none = tt
+
+-- one that ended in the midst says nothing against the image
+pub broken_sound : (b : Break) → BlamesNoImage (break_status b)
+broken_sound (Halted h) = end_sound (halt_status h) (halt_end h)
+broken_sound ReadFault = tt
 
 -- Without a fault a session is done, or memory ran out.
 pub broken_memory : (b : Break) → (b ≡ ReadFault → ⊥) → (b ≡ Halted halt.WriteFault → ⊥) → (session_device (Err b) ≡ Err device.Failed → ⊥) → (session_device (Err b) ≡ Err device.Stopped → ⊥)

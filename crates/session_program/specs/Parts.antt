@@ -3,18 +3,15 @@ use Rattle.std.specs.Prelude.{◌≡◌, ◌≢◌, ◌⊎◌, ℕ, ◌≤◌, L
 use Rattle.std.proofs.Common.{zero, suc}
 use Rattle.counts.specs.Count.{Rose}
 use Rattle.disk_model.specs.declared.disk.Disk.{Ghosts}
-use Rattle.disk_model.specs.Disk.{Only}
-use Rattle.disk_model.specs.Moments.{LeavesOnly}
 use Rattle.heap_io.specs.declared.sink.Sink as sinks
 use Rattle.heap_io.specs.declared.source.Source as sources
 use Rattle.heap_program.specs.declared.status.Status.{Status}
 use Rattle.heap_program.specs.declared.status.Status.TheVariants as status
 use Rattle.heap_program.specs.Causes.{DiskRose, StreamCause, RunsDisk, CountsStay, IsFaultless}
-use Rattle.heap_program.specs.Headline.{OfTold, BlamesNoImage, IsOfImage}
+use Rattle.heap_program.specs.Headline.{OfTold, IsOfImage}
 use Rattle.heap_program.specs.Play.{WroteFront}
-use Rattle.heap_program.specs.Refusals.{IsFault, IsWordFault, CallsOfOneOpening, fault_calls, IsToldOf, IsToldOfEach, EndsRefused, IsLeftAlone, LeavesAlone}
+use Rattle.heap_program.specs.Refusals.{AnswersImage}
 use Rattle.heap_program.specs.Stored.{IsStored, stored_core, stored_calls}
-use Rattle.heap_recovery.specs.Faults.{IsLeftOf}
 use Rattle.session_program.specs.declared.parts.Next.{Next}
 use Rattle.session_program.specs.declared.parts.Next.TheVariants as next
 use Rattle.session_program.specs.Ending.{IsSessionEnd}
@@ -51,22 +48,11 @@ module _ {D S K : Type 0} (g : Ghosts D) (s : sources.Ghosts S) (k : sinks.Ghost
     -- On a modelled disk, with the existing heap: nothing was done to the disk but in the opening and in events, and each moment of it is described.
     pub served : OfTold g.tells (g.bytes old.disk) (g.may_leave old.disk) ((stored : IsStored (g.bytes old.disk)) → OfInput s.tells n (stream old) (stream new) (s.left new.source)
         (λ part rest. IsServed g (stored_calls stored) s.tells part rest (stored_core stored) old.disk new.disk by n k.tells (k.written old.sink) (k.written new.sink)))
-    pub restarts : IsTrue g.tells → g.restarts new.disk ≡ g.restarts old.disk
     -- Without a fault it is done, if memory suffices.
     pub complete : OfTold g.tells (g.bytes old.disk) (g.may_leave old.disk) (IsStored (g.bytes old.disk) → ¬ Rose (s.faults old.source) (s.faults new.source) → ¬ Rose (k.faults old.sink) (k.faults new.sink)
         → ¬ DiskRose (g.faults old.disk) (g.stops old.disk) (g.faults new.disk) (g.stops new.disk) → (by ≡ status.Done) ⊎ (by ≡ status.NoMemory))
-    -- A status against the image is true of it, and an image that can't be opened gives its own; nothing is read or written then.
-    pub unwritten : ¬ BlamesNoImage by → (new.source ≡ old.source) × (new.sink ≡ old.sink)
-    pub refused : IsTrue g.tells → IsToldOf by (g.bytes old.disk)
-    pub refused_at_end : IsTrue g.tells → Only (g.bytes old.disk) (g.may_leave old.disk) → IsToldOfEach by (g.may_leave new.disk)
-    pub refuses : IsTrue g.tells → (expected : Status) → IsFault expected (g.bytes old.disk) → EndsRefused expected by × (new.sink ≡ old.sink)
-    pub left_alone : IsTrue g.tells → (expected : Status) → IsFault expected (g.bytes old.disk) → IsLeftAlone expected → LeavesAlone g old.disk new.disk
-    -- At each moment a crash leaves an image with the same fault.
-    pub keeps_fault : IsTrue g.tells → Only (g.bytes old.disk) (g.may_leave old.disk) → (expected : Status) → IsFault expected (g.bytes old.disk) → LeavesOnly g.moment g.left_since old.disk new.disk (IsFault expected)
-    -- One that is damaged at an address keeps its log, or has that log rolled back, and each byte outside of the log is as it was.
-    pub keeps_log : OfTold g.tells (g.bytes old.disk) (g.may_leave old.disk) (IsWordFault (g.bytes old.disk) → LeavesOnly g.moment g.left_since old.disk new.disk (IsLeftOf (g.bytes old.disk)))
-    -- It makes the writes and syncs of one opening of it: all where it tells the damage, and no more where the disk fails.
-    pub opens_once : IsTrue g.tells → (fault : IsWordFault (g.bytes old.disk)) → CallsOfOneOpening (fault_calls fault) (g.passed old.disk) (g.passed new.disk) by
+    -- A status against the image is true of it, and an image that can't be opened gives its own; nothing is read or written then. What becomes of it.
+    pub image : AnswersImage g (Unit {0}) 0 old.disk new.disk by ((new.source ≡ old.source) × (new.sink ≡ old.sink))
 
   -- A part was served up to a line `reopen`, and it was reported that the heap was closed.
   pub record Reopens (old new : Place D S K) : Type 0 where

@@ -1,19 +1,16 @@
 //! A session from its opening to its end.
-ghost use Rattle.std.specs.Prelude.{◌≡◌, ◌≢◌, ◌⊎◌, ℕ, ◌<◌, ◌≤◌, List, [], ◌++◌, Ok, Err, IsTrue, IsFalse};
+ghost use Rattle.std.specs.Prelude.{◌≡◌, ◌≢◌, ◌⊎◌, ℕ, ◌<◌, List, [], ◌++◌, Ok, Err, IsTrue, IsFalse};
 ghost use Rattle.counts.specs.Count.{Rose};
-ghost use Rattle.disk_model.specs.Disk.{Only};
-ghost use Rattle.disk_model.specs.Moments.{LeavesOnly};
 ghost use Rattle.heap_core.specs.HeapState.{heap_disk};
 ghost use Rattle.heap_core.specs.Refinement.{IsCore, IsHeap};
 ghost use Rattle.heap_model.specs.Core.{Core};
 ghost use Rattle.image_plan.specs.declared.superblock.Super.{Super};
 ghost use Rattle.heap_program.specs.declared.play.Halt.TheVariants as halt;
 ghost use Rattle.heap_program.specs.Causes.{DiskRose, StreamCause, RunsDisk, CountsStay, IsFaultless, PlaysDisk};
-ghost use Rattle.heap_program.specs.Headline.{OfTold, BlamesNoImage, IsOfImage};
+ghost use Rattle.heap_program.specs.Headline.{OfTold, IsOfImage};
 ghost use Rattle.heap_program.specs.Play.{IsRunning};
 ghost use Rattle.heap_program.specs.Stored.{IsStored, stored_core, stored_calls};
-ghost use Rattle.heap_recovery.specs.Faults.{IsLeftOf};
-ghost use Rattle.heap_program.specs.Refusals.{IsFault, IsWordFault, CallsOfOneOpening, fault_calls, IsToldOf, IsToldOfEach, EndsRefused, IsLeftAlone, LeavesAlone};
+ghost use Rattle.heap_program.specs.Refusals.{AnswersImage};
 ghost use Rattle.session_program.specs.Ending.{IsSessionEnd, session_device, IsUncut, next_of};
 ghost use Rattle.session_program.specs.Session.{OfInput, ServesLines, ServesLinesOn, Serves, ServesOn, ServesHeap};
 ghost use Rattle.session_program.specs.Parts.{ServesParts};
@@ -98,23 +95,11 @@ fn serve_part<D: Disk, S: Source, K: Sink>(
 
     // On a modelled disk, with the existing heap: nothing was done to the disk but in the opening and in events, and each moment of it is described.
     ensures served { OfTold D.tells (D.bytes disk) (D.may_leave disk) ((stored : IsStored (D.bytes disk)) → OfInput S.tells result.2 (reader.old.held ++ S.left source.old) (reader.new.held ++ S.left source.new) (S.left source.new) (λ part rest. IsServed D.Disk (stored_calls stored) S.tells part rest (stored_core stored) disk result.1 result.0 result.2 K.tells (K.written sink.old) (K.written sink.new))) }
-    ensures restarts { IsTrue D.tells → D.restarts result.1 ≡ D.restarts disk }
+    // A status against the image is true of it, and an image that can't be opened gives its own; nothing is read or written then. What becomes of it.
+    ensures image { AnswersImage D.Disk (Unit {0}) 0 disk result.1 result.0 ((source.new ≡ source.old) × (sink.new ≡ sink.old)) }
     // Without a fault it is done, if memory suffices.
     ensures complete { OfTold D.tells (D.bytes disk) (D.may_leave disk) (IsStored (D.bytes disk) → ¬ Rose (S.faults source.old) (S.faults source.new) → ¬ Rose (K.faults sink.old) (K.faults sink.new)
         → ¬ DiskRose (D.faults disk) (D.stops disk) (D.faults result.1) (D.stops result.1) → (result.0 ≡ Status.Done) ⊎ (result.0 ≡ Status.NoMemory)) }
-
-    // A status against the image is true of it, and an image that can't be opened gives its own; nothing is read or written then.
-    ensures unwritten { ¬ BlamesNoImage result.0 → (source.new ≡ source.old) × (sink.new ≡ sink.old) }
-    ensures refused { IsTrue D.tells → IsToldOf result.0 (D.bytes disk) }
-    ensures refused_at_end { IsTrue D.tells → Only (D.bytes disk) (D.may_leave disk) → IsToldOfEach result.0 (D.may_leave result.1) }
-    ensures refuses { IsTrue D.tells → (expected : Status) → IsFault expected (D.bytes disk) → EndsRefused expected result.0 × (sink.new ≡ sink.old) }
-    ensures left_alone { IsTrue D.tells → (expected : Status) → IsFault expected (D.bytes disk) → IsLeftAlone expected → LeavesAlone D.Disk disk result.1 }
-    // At each moment a crash leaves an image with the same fault.
-    ensures keeps_fault { IsTrue D.tells → Only (D.bytes disk) (D.may_leave disk) → (expected : Status) → IsFault expected (D.bytes disk) → LeavesOnly D.moment D.left_since disk result.1 (IsFault expected) }
-    // One that is damaged at an address keeps its log, or has that log rolled back, and each byte outside of the log is as it was.
-    ensures keeps_log { OfTold D.tells (D.bytes disk) (D.may_leave disk) (IsWordFault (D.bytes disk) → LeavesOnly D.moment D.left_since disk result.1 (IsLeftOf (D.bytes disk))) }
-    // It makes the writes and syncs of one opening of it: all where it tells the damage, and no more where the disk fails.
-    ensures opens_once { IsTrue D.tells → (fault : IsWordFault (D.bytes disk)) → CallsOfOneOpening (fault_calls fault) (D.passed disk) (D.passed result.1) result.0 }
 {
     let mut heap = match Heap::open(alloc, disk) {
         Ok(heap) => heap,

@@ -46,7 +46,6 @@ pub record OpenedOn {D : Type 0} (g : Ghosts D) (at_opening : ℕ) (c : Core) (s
   pub faults : g.faults start ≤ g.faults opened
   pub stops : g.stops start ≤ g.stops opened
   pub counts : CountsStay g start opened
-  pub no_first_stop : at_opening ≡ 0 → g.stops start ≡ 0 → g.stops opened ≡ 0
 
 module _ {D : Type 0} {g : Ghosts D} (tells : IsTrue g.tells) (s : Super) (c : Core) (running : IsRunning c) (at_opening : ℕ) (start : D) (old new : Heap D g) (opened : OpenedOn g at_opening c start old.disk)
     (tries : ℕ) (lines : List Line) (result : Status) (told : Bool) (before after : List ℕ) (made_by : StepsTogether tries lines s c old new result told before after) where
@@ -112,7 +111,7 @@ module _ {D : Type 0} {g : Ghosts D} (tells : IsTrue g.tells) (s : Super) (c : C
         disk = keeps;
         still = refl;
         steps = made_by.steps;
-        no_first_stop = λ none empty stops. ap g.stops (steps_none g c core old.disk new.disk made empty made_by.steps) ∙ opened.no_first_stop none stops;
+        no_first_stop = λ empty stops. inl (ap g.stops (steps_none g c core old.disk new.disk made empty made_by.steps) ∙ opened.counts.stops ∙ stops);
         exact = λ u. ⊎_elim (λ (all : Whole g c made core old.disk new.disk). all.0) (λ (cut : Short g c made core old.disk new.disk). absurd (harmed u cut.2)) ends;
         counts = at_opening;
         opens = inl refl;

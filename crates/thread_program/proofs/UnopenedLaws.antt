@@ -9,7 +9,7 @@ use Rattle.disk_model.specs.Moments.{LeavesOnly}
 use Rattle.disk_model.proofs.MomentLaws.{begins}
 use Rattle.graph_model.specs.History.{sealed}
 use Rattle.graph_model.specs.Transaction.{serial}
-use Rattle.heap_core.specs.Causes.{IsFromOutside}
+use Rattle.heap_core.specs.Causes.{recovery_error}
 use Rattle.heap_core.specs.Refinement.{SameBehind}
 use Rattle.heap_core.specs.declared.errors.OpenError.{OpenError}
 use Rattle.heap_core.specs.declared.errors.OpenError.TheVariants as opening
@@ -21,31 +21,24 @@ use Rattle.thread_play.proofs.Working.{nothing_worked}
 use Rattle.heap_program.specs.declared.status.Status.{Status}
 use Rattle.heap_program.specs.declared.status.Status.TheVariants as status
 use Rattle.heap_program.specs.Causes.{Unharmed}
-use Rattle.heap_program.specs.Headline.{graph_text, IsEndOfPlay}
+use Rattle.heap_program.specs.Headline.{graph_text, StopsOnlyOpening, IsEndOfPlay}
 use Rattle.heap_program.specs.StatusOf.{open_status}
 use Rattle.heap_program.specs.Stored.{IsStored, stored_core, stored_calls}
 use Rattle.heap_program.proofs.Limits.{limits_law}
 use Rattle.heap_program.proofs.PlayOpen.{stored_running, unopened_calls}
 use Rattle.heap_program.proofs.Reopened.{outside_memory}
-use Rattle.heap_program.proofs.Statuses.{open_end, open_not_done}
+use Rattle.heap_program.proofs.Statuses.{open_end, open_not_done, open_not_refused}
 use Rattle.heap_program.proofs.Written.{none_written}
 use Rattle.thread_program.specs.Together.{MakesTogether, IsPlayedTogether}
+use Rattle.heap_recovery.specs.Recovered.{IsFromOutside}
 
 -- An opening that the outside hinders gives one of two statuses.
-open_refused : (e : OpenError) → IsFromOutside e → (open_status e ≡ status.NoMemory) ⊎ (open_status e ≡ status.DiskFault)
+open_refused : (e : OpenError) → IsFromOutside (recovery_error e) → (open_status e ≡ status.NoMemory) ⊎ (open_status e ≡ status.DiskFault)
 open_refused opening.NoMemory outside = inl refl
 open_refused opening.NotHeap outside = absurd outside
 open_refused (opening.Damaged at) outside = absurd outside
 open_refused opening.DiskFault outside = inr refl
 open_refused opening.Stopped outside = inr refl
-
--- no opening has the status of a sink that refused
-pub open_not_refused : (e : OpenError) → open_status e ≡ status.WriteFault → ⊥
-open_not_refused opening.NoMemory is = cc
-open_not_refused opening.NotHeap is = cc
-open_not_refused (opening.Damaged at) is = cc
-open_not_refused opening.DiskFault is = cc
-open_not_refused opening.Stopped is = cc
 
 module _ {D : Type 0} (g : Ghosts D) {bytes : List ℕ} (stored : IsStored bytes) where
   abbrev c : Core
@@ -54,7 +47,7 @@ module _ {D : Type 0} (g : Ghosts D) {bytes : List ℕ} (stored : IsStored bytes
   abbrev n : ℕ
   n = stored_calls stored
 
-  abbrev none_made : (tries : ℕ) (lines : List Line) (e : OpenError) (by : Status) → 0 < tries → by ≡ open_status e → IsFromOutside e → MakesTogether tries lines c [] c by
+  abbrev none_made : (tries : ℕ) (lines : List Line) (e : OpenError) (by : Status) → 0 < tries → by ≡ open_status e → IsFromOutside (recovery_error e) → MakesTogether tries lines c [] c by
   none_made tries lines e by some is outside =
       let failed : AllocError = record {} in
       record {
@@ -74,11 +67,11 @@ module _ {D : Type 0} (g : Ghosts D) {bytes : List ℕ} (stored : IsStored bytes
       }
 
   -- No event was made, and nothing was written.
-  pub unopened_together : (tries : ℕ) (lines : List Line) (e : OpenError) (by : Status) (start final : D) (told : Bool) (before : List ℕ) → 0 < tries → by ≡ open_status e → IsFromOutside e
+  pub unopened_together : (tries : ℕ) (lines : List Line) (e : OpenError) (by : Status) (start final : D) (told : Bool) (before : List ℕ) → 0 < tries → by ≡ open_status e → IsFromOutside (recovery_error e)
       → LeavesOnly g.moment g.left_since start final (IsCommitPrefix c) → LeavesOnly g.moment g.left_since start final (SameBehind c (g.bytes start)) → ((image : List ℕ) → g.may_leave final image → IsCommitPrefix c image)
       → ((image : List ℕ) → g.left_since final (g.moment final) image → g.may_leave final image) → g.restarts final ≡ g.restarts start
       → (e ≡ opening.NoMemory → g.passed final ≡ g.passed start) → (e ≢ opening.NoMemory → Unharmed g start final → ⊥)
-      → g.passed final ≤ counted n (g.passed start) → g.passed final ≤ counted (n + 0) (g.passed start) → (open_status e ≡ status.NoMemory → Only (g.bytes final) (g.may_leave final)) → (n ≡ 0 → g.stops start ≡ 0 → g.stops final ≡ 0)
+      → g.passed final ≤ counted n (g.passed start) → g.passed final ≤ counted (n + 0) (g.passed start) → (open_status e ≡ status.NoMemory → Only (g.bytes final) (g.may_leave final)) → StopsOnlyOpening g n start final
       → IsPlayedTogether g tries lines n c start final by told before before
   unopened_together tries lines e by start final told before some is outside moments behind left now restarts same harm few most only first =
       let early = λ (done : by ≡ status.Done). open_not_done e (sym is ∙ done) in
@@ -118,7 +111,7 @@ module _ {D : Type 0} (g : Ghosts D) {bytes : List ℕ} (stored : IsStored bytes
         };
         still = refl;
         steps = (refl, refl);
-        no_first_stop = λ none empty. first none;
+        no_first_stop = λ empty. first;
         exact = λ u. refl;
         counts = calls.0;
         opens = calls.1;

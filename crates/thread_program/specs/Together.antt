@@ -30,7 +30,7 @@ use Rattle.heap_program.specs.declared.status.Status.{Status}
 use Rattle.heap_program.specs.declared.status.Status.TheVariants as status
 use Rattle.heap_program.specs.Causes.{Unharmed}
 use Rattle.heap_program.specs.CrashSafe.{LastingStep}
-use Rattle.heap_program.specs.Headline.{lasting, made_super, made_core, graph_text, CountsOpening, IsOpened, IsEndOfPlay, IsFormatted, IsNotMade, IsNotBegun, KeepsThroughout}
+use Rattle.heap_program.specs.Headline.{lasting, made_super, made_core, graph_text, CountsOpening, IsOpened, IsEndOfPlay, IsFormatted, IsNotMade, IsNotBegun, KeepsThroughout, StopsOnlyOpening}
 use Rattle.heap_program.specs.Limits.{KeepsLimits}
 use Rattle.heap_program.specs.Play.{lines_text, WroteFront, MadeAll}
 use Rattle.heap_program.specs.Stored.{IsStored, stored_core, stored_calls}
@@ -130,8 +130,8 @@ module _ {D : Type 0} (g : Ghosts D) where
     pub still : final ≡ disk.stopped
     -- each event makes the calls that it is said to make, even after a failure
     pub steps : AreSteps (HeapStep g) c disk.opened runs.made runs.core final
-    -- no stop came first if no event was made and the opening writes nothing, on a disk that had met none
-    pub no_first_stop : at_opening ≡ 0 → runs.made ≡ [] → g.stops start ≡ 0 → g.stops final ≡ 0
+    -- a run that made no event was not stopped by its disk in one
+    pub no_first_stop : runs.made ≡ [] → StopsOnlyOpening g at_opening start final
     -- without a fault the disk did all that it was asked
     pub exact : Unharmed g start final → MadeAll c runs.made runs.core
     -- the disk has counted the writes and syncs of the opening and of these events, or no more than those up to the one in which it failed or stopped

@@ -1,8 +1,7 @@
 //! The command that plays a script by its workers, on a new heap or on the existing one.
-ghost use Rattle.std.specs.Prelude.{◌≡◌, ◌≢◌, ◌⊎◌, ℕ, ◌<◌, ◌≤◌, List, [], None, Some, Ok, Err, IfSome, IsTrue};
+ghost use Rattle.std.specs.Prelude.{◌≡◌, ◌≢◌, ◌⊎◌, ℕ, ◌<◌, List, [], None, Some, Ok, Err, IfSome, IsTrue};
 ghost use Rattle.counts.specs.Count.{Rose};
 ghost use Rattle.disk_model.specs.Disk.{Only};
-ghost use Rattle.disk_model.specs.Moments.{LeavesOnly};
 ghost use Rattle.image_plan.specs.declared.superblock.Super.{Super};
 ghost use Rattle.image_plan.specs.Plan.{image_size};
 ghost use Rattle.command_words.specs.Limits.{IsPages};
@@ -10,12 +9,11 @@ ghost use Rattle.heap_core.specs.HeapState.{failed_at, heap_disk};
 ghost use Rattle.heap_core.specs.Refinement.{IsCore, IsHeap};
 ghost use Rattle.heap_model.specs.Core.{Core};
 ghost use Rattle.heap_program.specs.Causes.{DiskRose, StreamCause, RunsDisk, CountsStay, IsFaultless, IsOpenedEnd};
-ghost use Rattle.heap_program.specs.Headline.{OfTold, IsEndOfPlay, IsOfImage, IsOfOwnImage, CanPlay, IsUntouching, EndsUnread, EndsUnmade, BlamesNoImage};
+ghost use Rattle.heap_program.specs.Headline.{OfTold, IsEndOfPlay, IsOfImage, IsOfOwnImage, CanPlay, IsUntouching, EndsUnread, EndsUnmade};
 ghost use Rattle.heap_program.specs.Play.{IsRunning};
 ghost use Rattle.heap_program.specs.Playable.{IsScript, IsReadFrom};
-ghost use Rattle.heap_program.specs.Refusals.{IsFault, IsWordFault, CallsOfOneOpening, fault_calls, IsToldOf, IsToldOfEach, EndsRefused, IsLeftAlone, LeavesAlone};
+ghost use Rattle.heap_program.specs.Refusals.{AnswersImage};
 ghost use Rattle.heap_program.specs.Stored.{IsStored, stored_core, stored_calls};
-ghost use Rattle.heap_recovery.specs.Faults.{IsLeftOf};
 ghost use Rattle.script_text.specs.declared.line.Line.{Line};
 ghost use Rattle.script_text.specs.declared.script.ScriptError.TheVariants.{Fault};
 ghost use Rattle.script_text.specs.Script.{script};
@@ -66,18 +64,10 @@ pub fn run_threads<D: Disk + Send, S: Source, K: Sink, G: Gate + Sync, R: Thread
         (RunsTogether D.Disk fresh tries (IsReadFrom S.tells (S.left source.old)) disk result.1 result.0 K.tells (K.written sink.old) (K.written sink.new)) }
     ensures prints { EndsUnwritten result.0 K.tells (K.written sink.old) (K.written sink.new)
         ⊎ ((lines : List Line) × IsReadFrom S.tells (S.left source.old) lines × PrintsTogether (IsOfOwnImage fresh D.tells (D.bytes disk)) (DiskRose (D.faults disk) (D.stops disk) (D.faults result.1) (D.stops result.1)) tries lines result.0 K.tells (K.written sink.old) (K.written sink.new)) }
-    ensures unwritten { ¬ BlamesNoImage result.0 → sink.new ≡ sink.old }
-    ensures restarts { IsTrue D.tells → D.restarts result.1 ≡ D.restarts disk }
+    // What is said against an image that can't be opened, and becomes of it.
+    ensures image { AnswersImage D.Disk (fresh ≡ None) 0 disk result.1 result.0 (sink.new ≡ sink.old) }
     ensures complete { OfTold D.tells (D.bytes disk) (D.may_leave disk) (CanPlay fresh (D.extent disk) (D.bytes disk)
         → IsTrue S.tells → (lines : List Line) → script (S.left source.old) ≡ Ok lines → ¬ Rose (S.faults source.old) (S.faults source.new) → IsEndOfPlay result.0) }
-    ensures refused { IsTrue D.tells → fresh ≡ None → IsToldOf result.0 (D.bytes disk) }
-    ensures refused_at_end { OfTold D.tells (D.bytes disk) (D.may_leave disk) (IsToldOfEach result.0 (D.may_leave result.1)) }
-    ensures refuses { OfTold D.tells (D.bytes disk) (D.may_leave disk) (fresh ≡ None → (expected : Status) → IsFault expected (D.bytes disk) → EndsRefused expected result.0 × (sink.new ≡ sink.old)) }
-    ensures left_alone { IsTrue D.tells → fresh ≡ None → (expected : Status) → IsFault expected (D.bytes disk) → IsLeftAlone expected → LeavesAlone D.Disk disk result.1 }
-    ensures sound { OfTold D.tells (D.bytes disk) (D.may_leave disk) ((pages : ℕ) → fresh ≡ Some pages → BlamesNoImage result.0) }
-    ensures keeps_fault { OfTold D.tells (D.bytes disk) (D.may_leave disk) (fresh ≡ None → (expected : Status) → IsFault expected (D.bytes disk) → LeavesOnly D.moment D.left_since disk result.1 (IsFault expected)) }
-    ensures keeps_log { OfTold D.tells (D.bytes disk) (D.may_leave disk) (fresh ≡ None → IsWordFault (D.bytes disk) → LeavesOnly D.moment D.left_since disk result.1 (IsLeftOf (D.bytes disk))) }
-    ensures opens_once { IsTrue D.tells → fresh ≡ None → (fault : IsWordFault (D.bytes disk)) → CallsOfOneOpening (fault_calls fault) (D.passed disk) (D.passed result.1) result.0 }
 {
     let script = match read_input(alloc, source) {
         Ok(script) => script,
@@ -109,18 +99,10 @@ fn play_by_workers<D: Disk + Send, K: Sink, G: Gate + Sync, R: Threads + Wait + 
     ensures disk { RunsDisk D.Disk disk result.1 (result.0 ≡ Status.DiskFault) }
     ensures unfaulted { IsFaultless result.0 → CountsStay D.Disk disk result.1 }
     ensures sink { StreamCause (K.faults sink.old) (K.faults sink.new) (result.0 ≡ Status.WriteFault) }
-    ensures restarts { IsTrue D.tells → D.restarts result.1 ≡ D.restarts disk }
-    ensures unwritten { ¬ BlamesNoImage result.0 → sink.new ≡ sink.old }
+    ensures image { AnswersImage D.Disk (Unit {0}) 0 disk result.1 result.0 (sink.new ≡ sink.old) }
     ensures prints { PrintsSomeTogether (IsOfImage D.tells (D.bytes disk)) (DiskRose (D.faults disk) (D.stops disk) (D.faults result.1) (D.stops result.1)) tries script.now result.0 K.tells (K.written sink.old) (K.written sink.new) }
     ensures played { IsTrue D.tells → (stored : IsStored (D.bytes disk)) → Only (D.bytes disk) (D.may_leave disk)
         → IsPlayedTogether D.Disk tries script.now (stored_calls stored) (stored_core stored) disk result.1 result.0 K.tells (K.written sink.old) (K.written sink.new) }
-    ensures refused { IsTrue D.tells → IsToldOf result.0 (D.bytes disk) }
-    ensures refused_at_end { IsTrue D.tells → Only (D.bytes disk) (D.may_leave disk) → IsToldOfEach result.0 (D.may_leave result.1) }
-    ensures refuses { IsTrue D.tells → (expected : Status) → IsFault expected (D.bytes disk) → EndsRefused expected result.0 × (sink.new ≡ sink.old) }
-    ensures left_alone { IsTrue D.tells → (expected : Status) → IsFault expected (D.bytes disk) → IsLeftAlone expected → LeavesAlone D.Disk disk result.1 }
-    ensures keeps_fault { IsTrue D.tells → Only (D.bytes disk) (D.may_leave disk) → (expected : Status) → IsFault expected (D.bytes disk) → LeavesOnly D.moment D.left_since disk result.1 (IsFault expected) }
-    ensures keeps_log { IsTrue D.tells → Only (D.bytes disk) (D.may_leave disk) → IsWordFault (D.bytes disk) → LeavesOnly D.moment D.left_since disk result.1 (IsLeftOf (D.bytes disk)) }
-    ensures opens_once { IsTrue D.tells → (fault : IsWordFault (D.bytes disk)) → CallsOfOneOpening (fault_calls fault) (D.passed disk) (D.passed result.1) result.0 }
 {
     match Heap::open(alloc, disk) {
         Ok(heap) => {

@@ -7,7 +7,7 @@ pub returns : goal.returns
 returns g c = record {
   same_disk = λ play.
       let d = g.D.Disk in
-      let run = same_run d c.args.disk c.run-status.result.1 c.run-status.result.0 _ c.run-status.ensures.disk_fault (λ tells. c.run-status.ensures.restarts tells _ play) in
+      let run = same_run d c.args.disk c.run-status.result.1 c.run-status.result.0 _ c.run-status.ensures.disk_fault (λ tells. (c.run-status.ensures.image _ play).restarts tells) in
       let restart = same_again d c.run-status.result.1 c.restart.new.self c.restart.ensures.extent c.restart.ensures.origin c.restart.ensures.restarts in
       same_after d 1 0 c.args.disk c.run-status.result.1 c.restart.new.self run restart;
   tells = λ tells source sink play begins stores.

@@ -1,10 +1,8 @@
 use Rattle.std.proofs.Common.{◌≡◌, ◌≢◌, ◌≤◌, inl, ℕ, min, rules, refl, sym, ap, ◌∙◌, subst, arith}
 use Rattle.counts.specs.Count.{counted}
 use Rattle.disk_model.specs.Disk.{Only}
-use Rattle.disk_model.specs.Moments.{LeavesOnly}
 use Rattle.disk_model.specs.Fuse.{fuse_inner, fuse_passed}
-use Rattle.heap_core.specs.Causes.{ErrorPasses}
-use Rattle.heap_core.specs.Refusals.{ComesBeforeWrites}
+use Rattle.heap_core.specs.Causes.{recovery_error}
 use Rattle.heap_core.specs.declared.errors.OpenError.TheVariants as opening
 use Rattle.heap_program.specs.declared.status.Status.TheVariants.{NoMemory}
 use Rattle.heap_model.specs.CoreCrash.{StandsForFirst}
@@ -14,11 +12,11 @@ use Rattle.heap_model.specs.Opening.{opening_calls, rollback_of}
 use Rattle.heap_program.specs.Headline.{IsCutOff, FailsToOpen}
 use Rattle.heap_program.proofs.PlayFuse.{same_disk, same_limit, fuse_since, fuse_passes, fuse_none, fuse_most}
 use Rattle.heap_program.proofs.PrintRecovered.{keeps_first, few_to_open, whole_passes, error_cut}
-use Rattle.heap_recovery.specs.declared.at.At.TheVariants.{Address}
-use Rattle.heap_recovery.specs.Faults.{IsNoHeap, IsFaultAt, IsLogLeft, IsLeftOf}
+use Rattle.heap_recovery.specs.Faults.{IsLeftOf, ComesBeforeWrites}
 use Rattle.heap_recovery.proofs.FaultLaws.{shaped_readable}
-use Rattle.heap_program.specs.Refusals.{IsFault, IsWordFault}
-use Rattle.heap_program.proofs.RefusalLaws.{fault_moments, left_moments, at_end}
+use Rattle.heap_program.specs.Refusals.{IsFault, KeepsFault}
+use Rattle.heap_program.proofs.ImageLaws.{keeps_opening}
+use Rattle.heap_recovery.specs.Recovered.{ErrorPasses}
 use Rattle.heap_program.proofs.again.open_cut_off.Goals as goal
 
 -- the whole opening passed
@@ -34,15 +32,15 @@ returns-in-Ok-clause-cut g c tells core k at_first at_only =
     let stands = first.stands in
     let legal : IsLegal stands.super stands.batches stands.stored (d.bytes start) = record { log = stands.says.legal; held = stands.held } in
     let n = opening_calls stands.super stands.batches in
-    let origin = e.disk.origin ∙ c.new.ensures.origin in
+    let origin = e.image.disk.origin ∙ c.new.ensures.origin in
     let began = same_disk _ _ origin ∙ sym inner in
     let within = subst (λ (m : ℕ). fuse_passed fuse ≤ m) (same_limit _ _ origin) fuse.within in
     let shaped = shaped_image legal in
-    let log = e.moments_readable tells only stands.super stands.batches shaped.log.state (shaped_readable stands.super stands.batches stands.stored (d.bytes start) shaped) in
-    let keeps = keeps_first d core k start (fuse_inner fuse) first (fuse_since c.new.result fuse _ (e.moments tells only stands.super stands.batches stands.stored shaped)) (fuse_since c.new.result fuse _ log)
-    (λ left may. e.crash tells only stands.super stands.batches stands.stored shaped left may) (e.disk.restarts tells) in
+    let log = (e.image.readable tells stands.super stands.batches shaped.log.state (shaped_readable stands.super stands.batches stands.stored (d.bytes start) shaped)).moments only in
+    let keeps = keeps_first d core k start (fuse_inner fuse) first (fuse_since c.new.result fuse _ ((e.image.shaped tells stands.super stands.batches stands.stored shaped).moments only)) (fuse_since c.new.result fuse _ log)
+    (λ left may. (e.image.shaped tells stands.super stands.batches stands.stored shaped).crash only left may) (e.image.disk.restarts tells) in
     let through = min c.args.calls n in
-    let all : fuse_passed fuse ≡ through = whole_passes c.args.calls n (fuse_passed fuse) (few_to_open (rollback_of stands.super stands.batches)) within ((e.passes tells stands.super stands.batches stands.stored (shaped_image legal)).ok ∙ ap (counted n) c.new.ensures.passed) in
+    let all : fuse_passed fuse ≡ through = whole_passes c.args.calls n (fuse_passed fuse) (few_to_open (rollback_of stands.super stands.batches)) within ((e.image.shaped tells stands.super stands.batches stands.stored (shaped_image legal)).passes.ok ∙ ap (counted n) c.new.ensures.passed) in
     let cut : IsCutOff d c.args.calls core k start (fuse_inner fuse) = record {
       keeps = keeps;
       passed = λ u. fuse_passes fuse start through tells began u all;
@@ -64,16 +62,16 @@ returns-else-eq-clause-cut g c tells core k at_first at_only =
     let stands = first.stands in
     let legal : IsLegal stands.super stands.batches stands.stored (d.bytes start) = record { log = stands.says.legal; held = stands.held } in
     let n = opening_calls stands.super stands.batches in
-    let origin = e.disk.origin ∙ c.new.ensures.origin in
+    let origin = e.image.disk.origin ∙ c.new.ensures.origin in
     let limit = same_limit _ _ origin in
     let began = same_disk _ _ origin ∙ sym inner in
     let within = subst (λ (m : ℕ). fuse_passed fuse ≤ m) limit fuse.within in
     let shaped = shaped_image legal in
-    let log = e.moments_readable tells only stands.super stands.batches shaped.log.state (shaped_readable stands.super stands.batches stands.stored (d.bytes start) shaped) in
-    let keeps = keeps_first d core k start (fuse_inner fuse) first (fuse_since c.new.result fuse _ (e.moments tells only stands.super stands.batches stands.stored shaped)) (fuse_since c.new.result fuse _ log)
-    (λ left may. e.crash tells only stands.super stands.batches stands.stored shaped left may) (e.disk.restarts tells) in
-    let passes = subst (λ (p : ℕ). ErrorPasses n p (fuse_passed fuse) c.in-Err.e) c.new.ensures.passed (e.passes tells stands.super stands.batches stands.stored (shaped_image legal)) in
-    let all = error_cut c.args.calls n (fuse_passed fuse) (few_to_open (rollback_of stands.super stands.batches)) within _ _ _ _ c.in-Err.e (λ blown. fuse.blown blown ∙ limit) e.disk.cause (e.shaped tells stands.super stands.batches stands.stored (shaped_image legal)) other passes in
+    let log = (e.image.readable tells stands.super stands.batches shaped.log.state (shaped_readable stands.super stands.batches stands.stored (d.bytes start) shaped)).moments only in
+    let keeps = keeps_first d core k start (fuse_inner fuse) first (fuse_since c.new.result fuse _ ((e.image.shaped tells stands.super stands.batches stands.stored shaped).moments only)) (fuse_since c.new.result fuse _ log)
+    (λ left may. (e.image.shaped tells stands.super stands.batches stands.stored shaped).crash only left may) (e.image.disk.restarts tells) in
+    let passes = subst (λ (p : ℕ). ErrorPasses n p (fuse_passed fuse) (recovery_error c.in-Err.e)) c.new.ensures.passed ((e.image.shaped tells stands.super stands.batches stands.stored (shaped_image legal)).passes) in
+    let all = error_cut c.args.calls n (fuse_passed fuse) (few_to_open (rollback_of stands.super stands.batches)) within _ _ _ _ c.in-Err.e (λ blown. fuse.blown blown ∙ limit) e.image.disk.cause ((e.image.shaped tells stands.super stands.batches stands.stored (shaped_image legal)).error) other passes in
     let cut : IsCutOff d c.args.calls core k start (fuse_inner fuse) = record {
       keeps = keeps;
       passed = λ u. fuse_passes fuse start _ tells began u (all.1 u);
@@ -95,14 +93,14 @@ returns-then-eq-clause-cut g c tells core k at_first at_only =
     let stands = first.stands in
     let legal : IsLegal stands.super stands.batches stands.stored (d.bytes start) = record { log = stands.says.legal; held = stands.held } in
     let n = opening_calls stands.super stands.batches in
-    let began = same_disk _ _ (e.disk.origin ∙ c.new.ensures.origin) ∙ sym inner in
+    let began = same_disk _ _ (e.image.disk.origin ∙ c.new.ensures.origin) ∙ sym inner in
     let shaped = shaped_image legal in
-    let log = e.moments_readable tells only stands.super stands.batches shaped.log.state (shaped_readable stands.super stands.batches stands.stored (d.bytes start) shaped) in
-    let keeps = keeps_first d core k start (fuse_inner fuse) first (fuse_since c.new.result fuse _ (e.moments tells only stands.super stands.batches stands.stored shaped)) (fuse_since c.new.result fuse _ log)
-    (λ left may. e.crash tells only stands.super stands.batches stands.stored shaped left may) (e.disk.restarts tells) in
-    let passes = subst (λ error. ErrorPasses n (fuse_passed c.new.result) (fuse_passed fuse) error) is (e.passes tells stands.super stands.batches stands.stored (shaped_image legal)) in
+    let log = (e.image.readable tells stands.super stands.batches shaped.log.state (shaped_readable stands.super stands.batches stands.stored (d.bytes start) shaped)).moments only in
+    let keeps = keeps_first d core k start (fuse_inner fuse) first (fuse_since c.new.result fuse _ ((e.image.shaped tells stands.super stands.batches stands.stored shaped).moments only)) (fuse_since c.new.result fuse _ log)
+    (λ left may. (e.image.shaped tells stands.super stands.batches stands.stored shaped).crash only left may) (e.image.disk.restarts tells) in
+    let passes = subst (λ error. ErrorPasses n (fuse_passed c.new.result) (fuse_passed fuse) (recovery_error error)) is ((e.image.shaped tells stands.super stands.batches stands.stored (shaped_image legal)).passes) in
     let same = fuse_none fuse start tells began (passes ∙ c.new.ensures.passed) in
-    let reads = (e.left_alone (subst ComesBeforeWrites (sym is) tt)).contents tells in
+    let reads = (e.image.left_alone (subst (λ error. ComesBeforeWrites (recovery_error error)) (sym is) tt)).contents tells in
     let fails : FailsToOpen d core k NoMemory start (fuse_inner fuse) = record {
       reason = inl refl;
       keeps = keeps;
@@ -113,114 +111,47 @@ returns-then-eq-clause-cut g c tells core k at_first at_only =
     rw (c.into_inner-disk.ensures, sym inner) fails
 
 -- at each moment of such an opening the fault stays
-pub returns-in-Ok-clause-refuses : goal.returns-in-Ok-clause-refuses
-returns-in-Ok-clause-refuses g c tells only expected fault =
+pub returns-in-Ok-clause-keeps : goal.returns-in-Ok-clause-keeps
+returns-in-Ok-clause-keeps g c tells only =
     let d = g.D.Disk in
     let inner = c.new.ensures.inner in
     let first = fuse_inner c.new.result in
     let cut = fuse_inner c.in-Ok.heap.disk in
-    let at = subst (λ x. IsFault expected (d.bytes x)) (sym inner) fault in
+    let e = c.in-Ok.ensures in
     let only_f = subst (λ x. Only (d.bytes x) (d.may_leave x)) (sym inner) only in
-    let moments = fault_moments d expected (d.bytes first) first cut at
-    (λ none. fuse_since c.new.result c.in-Ok.heap.disk IsNoHeap (c.in-Ok.ensures.moments_not_heap tells only_f none))
-    (λ place damage. fuse_since c.new.result c.in-Ok.heap.disk (IsFaultAt place) (c.in-Ok.ensures.moments_damaged tells only_f place damage)) in
-    let left = at_end d first cut (IsFault expected) moments (λ t image le may. g.met.D.Disk.counts_now tells cut t image le may) in
-    rw (c.into_inner.ensures, c.close.ensures) left
+    let keeps = keeps_opening _ c.new.result c.in-Ok.heap.disk _ e.image tells only_f in
+    let inside : KeepsFault d first cut = record {
+      keeps_fault = λ expected fault. fuse_since c.new.result c.in-Ok.heap.disk (IsFault expected) (keeps.keeps_fault expected fault);
+      keeps_log = λ fault. fuse_since c.new.result c.in-Ok.heap.disk (IsLeftOf (d.bytes first)) (keeps.keeps_log fault);
+    } in
+    rw (c.into_inner.ensures, c.close.ensures) (subst (λ x. KeepsFault d x cut) inner inside)
 
-pub returns-else-eq-clause-refuses : goal.returns-else-eq-clause-refuses
-returns-else-eq-clause-refuses g c tells only expected fault =
+pub returns-else-eq-clause-keeps : goal.returns-else-eq-clause-keeps
+returns-else-eq-clause-keeps g c tells only =
     let d = g.D.Disk in
     let inner = c.new.ensures.inner in
     let first = fuse_inner c.new.result in
     let cut = fuse_inner c.in-Err.fuse in
-    let at = subst (λ x. IsFault expected (d.bytes x)) (sym inner) fault in
+    let e = c.in-Err.ensures in
     let only_f = subst (λ x. Only (d.bytes x) (d.may_leave x)) (sym inner) only in
-    let moments = fault_moments d expected (d.bytes first) first cut at
-    (λ none. fuse_since c.new.result c.in-Err.fuse IsNoHeap (c.in-Err.ensures.moments_not_heap tells only_f none))
-    (λ place damage. fuse_since c.new.result c.in-Err.fuse (IsFaultAt place) (c.in-Err.ensures.moments_damaged tells only_f place damage)) in
-    let left = at_end d first cut (IsFault expected) moments (λ t image le may. g.met.D.Disk.counts_now tells cut t image le may) in
-    rw c.into_inner-disk.ensures left
+    let keeps = keeps_opening _ c.new.result c.in-Err.fuse _ e.image tells only_f in
+    let inside : KeepsFault d first cut = record {
+      keeps_fault = λ expected fault. fuse_since c.new.result c.in-Err.fuse (IsFault expected) (keeps.keeps_fault expected fault);
+      keeps_log = λ fault. fuse_since c.new.result c.in-Err.fuse (IsLeftOf (d.bytes first)) (keeps.keeps_log fault);
+    } in
+    rw c.into_inner-disk.ensures (subst (λ x. KeepsFault d x cut) inner inside)
 
-pub returns-then-eq-clause-refuses : goal.returns-then-eq-clause-refuses
-returns-then-eq-clause-refuses g c tells only expected fault =
+pub returns-then-eq-clause-keeps : goal.returns-then-eq-clause-keeps
+returns-then-eq-clause-keeps g c tells only =
     let d = g.D.Disk in
     let inner = c.new.ensures.inner in
     let first = fuse_inner c.new.result in
     let cut = fuse_inner c.in-Err.fuse in
-    let at = subst (λ x. IsFault expected (d.bytes x)) (sym inner) fault in
+    let e = c.in-Err.ensures in
     let only_f = subst (λ x. Only (d.bytes x) (d.may_leave x)) (sym inner) only in
-    let moments = fault_moments d expected (d.bytes first) first cut at
-    (λ none. fuse_since c.new.result c.in-Err.fuse IsNoHeap (c.in-Err.ensures.moments_not_heap tells only_f none))
-    (λ place damage. fuse_since c.new.result c.in-Err.fuse (IsFaultAt place) (c.in-Err.ensures.moments_damaged tells only_f place damage)) in
-    let left = at_end d first cut (IsFault expected) moments (λ t image le may. g.met.D.Disk.counts_now tells cut t image le may) in
-    rw c.into_inner-disk.ensures left
-
-pub returns-in-Ok-clause-keeps_fault : goal.returns-in-Ok-clause-keeps_fault
-returns-in-Ok-clause-keeps_fault g c tells only expected fault =
-    let d = g.D.Disk in
-    let inner = c.new.ensures.inner in
-    let first = fuse_inner c.new.result in
-    let cut = fuse_inner c.in-Ok.heap.disk in
-    let at = subst (λ x. IsFault expected (d.bytes x)) (sym inner) fault in
-    let only_f = subst (λ x. Only (d.bytes x) (d.may_leave x)) (sym inner) only in
-    let moments = fault_moments d expected (d.bytes first) first cut at
-    (λ none. fuse_since c.new.result c.in-Ok.heap.disk IsNoHeap (c.in-Ok.ensures.moments_not_heap tells only_f none))
-    (λ place damage. fuse_since c.new.result c.in-Ok.heap.disk (IsFaultAt place) (c.in-Ok.ensures.moments_damaged tells only_f place damage)) in
-    rw (c.into_inner.ensures, c.close.ensures) (subst (λ x. LeavesOnly d.moment d.left_since x cut (IsFault expected)) inner moments)
-
-pub returns-else-eq-clause-keeps_fault : goal.returns-else-eq-clause-keeps_fault
-returns-else-eq-clause-keeps_fault g c tells only expected fault =
-    let d = g.D.Disk in
-    let inner = c.new.ensures.inner in
-    let first = fuse_inner c.new.result in
-    let cut = fuse_inner c.in-Err.fuse in
-    let at = subst (λ x. IsFault expected (d.bytes x)) (sym inner) fault in
-    let only_f = subst (λ x. Only (d.bytes x) (d.may_leave x)) (sym inner) only in
-    let moments = fault_moments d expected (d.bytes first) first cut at
-    (λ none. fuse_since c.new.result c.in-Err.fuse IsNoHeap (c.in-Err.ensures.moments_not_heap tells only_f none))
-    (λ place damage. fuse_since c.new.result c.in-Err.fuse (IsFaultAt place) (c.in-Err.ensures.moments_damaged tells only_f place damage)) in
-    rw c.into_inner-disk.ensures (subst (λ x. LeavesOnly d.moment d.left_since x cut (IsFault expected)) inner moments)
-
-pub returns-then-eq-clause-keeps_fault : goal.returns-then-eq-clause-keeps_fault
-returns-then-eq-clause-keeps_fault g c tells only expected fault =
-    let d = g.D.Disk in
-    let inner = c.new.ensures.inner in
-    let first = fuse_inner c.new.result in
-    let cut = fuse_inner c.in-Err.fuse in
-    let at = subst (λ x. IsFault expected (d.bytes x)) (sym inner) fault in
-    let only_f = subst (λ x. Only (d.bytes x) (d.may_leave x)) (sym inner) only in
-    let moments = fault_moments d expected (d.bytes first) first cut at
-    (λ none. fuse_since c.new.result c.in-Err.fuse IsNoHeap (c.in-Err.ensures.moments_not_heap tells only_f none))
-    (λ place damage. fuse_since c.new.result c.in-Err.fuse (IsFaultAt place) (c.in-Err.ensures.moments_damaged tells only_f place damage)) in
-    rw c.into_inner-disk.ensures (subst (λ x. LeavesOnly d.moment d.left_since x cut (IsFault expected)) inner moments)
-
--- and the log, rolled back or not, and all else
-pub returns-in-Ok-clause-keeps_log : goal.returns-in-Ok-clause-keeps_log
-returns-in-Ok-clause-keeps_log g c tells only fault =
-    let d = g.D.Disk in
-    let at = subst (λ x. IsWordFault (d.bytes x)) (sym c.new.ensures.inner) fault in
-    absurd (c.in-Ok.ensures.damaged tells (Address at.0) at.1)
-
-pub returns-else-eq-clause-keeps_log : goal.returns-else-eq-clause-keeps_log
-returns-else-eq-clause-keeps_log g c tells only fault =
-    let d = g.D.Disk in
-    let inner = c.new.ensures.inner in
-    let first = fuse_inner c.new.result in
-    let cut = fuse_inner c.in-Err.fuse in
-    let at = subst (λ x. IsWordFault (d.bytes x)) (sym inner) fault in
-    let only_f = subst (λ x. Only (d.bytes x) (d.may_leave x)) (sym inner) only in
-    let moments = left_moments d (d.bytes first) first cut at
-    (λ s batches state readable. fuse_since c.new.result c.in-Err.fuse (IsLogLeft s batches (d.bytes first)) (c.in-Err.ensures.moments_readable tells only_f s batches state readable)) in
-    rw c.into_inner-disk.ensures (subst (λ x. LeavesOnly d.moment d.left_since x cut (IsLeftOf (d.bytes x))) inner moments)
-
-pub returns-then-eq-clause-keeps_log : goal.returns-then-eq-clause-keeps_log
-returns-then-eq-clause-keeps_log g c tells only fault =
-    let d = g.D.Disk in
-    let inner = c.new.ensures.inner in
-    let first = fuse_inner c.new.result in
-    let cut = fuse_inner c.in-Err.fuse in
-    let at = subst (λ x. IsWordFault (d.bytes x)) (sym inner) fault in
-    let only_f = subst (λ x. Only (d.bytes x) (d.may_leave x)) (sym inner) only in
-    let moments = left_moments d (d.bytes first) first cut at
-    (λ s batches state readable. fuse_since c.new.result c.in-Err.fuse (IsLogLeft s batches (d.bytes first)) (c.in-Err.ensures.moments_readable tells only_f s batches state readable)) in
-    rw c.into_inner-disk.ensures (subst (λ x. LeavesOnly d.moment d.left_since x cut (IsLeftOf (d.bytes x))) inner moments)
+    let keeps = keeps_opening _ c.new.result c.in-Err.fuse _ e.image tells only_f in
+    let inside : KeepsFault d first cut = record {
+      keeps_fault = λ expected fault. fuse_since c.new.result c.in-Err.fuse (IsFault expected) (keeps.keeps_fault expected fault);
+      keeps_log = λ fault. fuse_since c.new.result c.in-Err.fuse (IsLeftOf (d.bytes first)) (keeps.keeps_log fault);
+    } in
+    rw c.into_inner-disk.ensures (subst (λ x. KeepsFault d x cut) inner inside)

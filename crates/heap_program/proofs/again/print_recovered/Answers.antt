@@ -16,11 +16,11 @@ use Rattle.heap_program.proofs.PlayOpen.{opened_core, opened_unfailed}
 use Rattle.heap_program.proofs.PlayPrints.{wrote_again}
 use Rattle.heap_program.proofs.Statuses.{open_not_done, written_end}
 use Rattle.heap_program.proofs.PrintRecovered.{legal_of, keeps_first, few_commits, since_before, recovers_nothing, recovers_first}
-use Rattle.heap_recovery.specs.declared.at.At.TheVariants.{Address}
 use Rattle.heap_recovery.specs.Faults.{IsLogLeft}
 use Rattle.heap_recovery.proofs.FaultLaws.{shaped_readable}
-use Rattle.heap_program.proofs.RefusalLaws.{told_each, end_told_each, refused_by, not_opened, fault_moments, left_moments}
 use Rattle.heap_program.proofs.Reopened.{reads_only, refused_memory}
+use Rattle.heap_program.proofs.ImageLaws.{answers_failed, answers_opened}
+use Rattle.heap_program.proofs.RunLaws.{end_sound, restarts_none}
 use Rattle.heap_program.proofs.again.print_recovered.Goals as goal
 
 -- an opening leaves the same commits at each moment
@@ -32,8 +32,8 @@ returns-in-Err-clause-keeps g c tells core k first only =
     let stored = first.stands.stored in
     let shaped = shaped_image (legal_of first) in
     let e = c.in-Err.ensures in
-    keeps_first d core k c.args.disk c.in-Err.disk first (e.moments tells only s batches stored shaped) (e.moments_readable tells only s batches shaped.log.state (shaped_readable s batches stored (d.bytes c.args.disk) shaped))
-    (e.crash tells only s batches stored shaped) (e.disk.restarts tells)
+    keeps_first d core k c.args.disk c.in-Err.disk first ((e.image.shaped tells s batches stored shaped).moments only) ((e.image.readable tells s batches shaped.log.state (shaped_readable s batches stored (d.bytes c.args.disk) shaped)).moments only)
+    ((e.image.shaped tells s batches stored shaped).crash only) (e.image.disk.restarts tells)
 
 -- a legal image is refused by the outside alone
 pub returns-in-Err-clause-recovers : goal.returns-in-Err-clause-recovers
@@ -44,11 +44,11 @@ returns-in-Err-clause-recovers g c = λ tells core k first only none.
     let stored = first.stands.stored in
     let legal = legal_of first in
     let shaped = shaped_image legal in
-    let keeps = keeps_first d core k c.args.disk c.in-Err.disk first (c.in-Err.ensures.moments tells only s batches stored shaped)
-    (c.in-Err.ensures.moments_readable tells only s batches shaped.log.state (shaped_readable s batches stored (d.bytes c.args.disk) shaped)) (c.in-Err.ensures.crash tells only s batches stored shaped) (c.in-Err.ensures.disk.restarts tells) in
-    recovers_nothing d core k c.args.disk c.in-Err.disk keeps (Reopens d core k c.args.disk c.in-Err.disk) c.in-Err.e c.from.result _ _ (c.in-Err.ensures.shaped tells s batches stored (shaped_image legal)) c.from.ensures
-    c.in-Err.ensures.disk.cause (c.in-Err.ensures.passes tells s batches stored (shaped_image legal))
-    (λ refused. reads_only d c.args.disk c.in-Err.disk ((c.in-Err.ensures.left_alone (refused_memory c.in-Err.e refused)).contents tells) only)
+    let keeps = keeps_first d core k c.args.disk c.in-Err.disk first ((c.in-Err.ensures.image.shaped tells s batches stored shaped).moments only)
+    ((c.in-Err.ensures.image.readable tells s batches shaped.log.state (shaped_readable s batches stored (d.bytes c.args.disk) shaped)).moments only) ((c.in-Err.ensures.image.shaped tells s batches stored shaped).crash only) (c.in-Err.ensures.image.disk.restarts tells) in
+    recovers_nothing d core k c.args.disk c.in-Err.disk keeps (Reopens d core k c.args.disk c.in-Err.disk) c.in-Err.e c.from.result _ _ ((c.in-Err.ensures.image.shaped tells s batches stored (shaped_image legal)).error) c.from.ensures
+    c.in-Err.ensures.image.disk.cause ((c.in-Err.ensures.image.shaped tells s batches stored (shaped_image legal)).passes)
+    (λ refused. reads_only d c.args.disk c.in-Err.disk ((c.in-Err.ensures.image.left_alone (refused_memory c.in-Err.e refused)).contents tells) only)
 
 pub returns-clause-keeps : goal.returns-clause-keeps
 returns-clause-keeps g c tells core k first only =
@@ -58,8 +58,8 @@ returns-clause-keeps g c tells core k first only =
     let stored = first.stands.stored in
     let shaped = shaped_image (legal_of first) in
     let e = c.in-Ok.ensures in
-    let keeps = keeps_first d core k c.args.disk c.in-Ok.heap.disk first (e.moments tells only s batches stored shaped) (e.moments_readable tells only s batches shaped.log.state (shaped_readable s batches stored (d.bytes c.args.disk) shaped))
-    (e.crash tells only s batches stored shaped) (e.disk.restarts tells) in
+    let keeps = keeps_first d core k c.args.disk c.in-Ok.heap.disk first ((e.image.shaped tells s batches stored shaped).moments only) ((e.image.readable tells s batches shaped.log.state (shaped_readable s batches stored (d.bytes c.args.disk) shaped)).moments only)
+    ((e.image.shaped tells s batches stored shaped).crash only) (e.image.disk.restarts tells) in
     subst (KeepsFirst d core k c.args.disk) (sym c.close.ensures) keeps
 
 -- the heap that was opened is the core that the image stands for
@@ -83,13 +83,13 @@ returns-clause-recovers g c = λ tells core k first only same.
     let shaped = shaped_image legal in
     let e = c.in-Ok.ensures in
     let on = λ (P : List ℕ → Type 0). subst (λ x. LeavesOnly d.moment d.left_since c.args.disk x P) (sym c.close.ensures) in
-    let moments = on (IsLeftByOpening s batches stored) (e.moments tells only s batches stored shaped) in
-    let log = on (IsLogLeft s batches (d.bytes c.args.disk)) (e.moments_readable tells only s batches shaped.log.state (shaped_readable s batches stored (d.bytes c.args.disk) shaped)) in
-    let leaves = λ (left : List ℕ) (may : d.may_leave final left). e.crash tells only s batches stored shaped left (subst (λ x. d.may_leave x left) c.close.ensures may) in
-    let keeps = keeps_first d core k c.args.disk final first moments log leaves (ap d.restarts c.close.ensures ∙ e.disk.restarts tells) in
+    let moments = on (IsLeftByOpening s batches stored) ((e.image.shaped tells s batches stored shaped).moments only) in
+    let log = on (IsLogLeft s batches (d.bytes c.args.disk)) ((e.image.readable tells s batches shaped.log.state (shaped_readable s batches stored (d.bytes c.args.disk) shaped)).moments only) in
+    let leaves = λ (left : List ℕ) (may : d.may_leave final left). (e.image.shaped tells s batches stored shaped).crash only left (subst (λ x. d.may_leave x left) c.close.ensures may) in
+    let keeps = keeps_first d core k c.args.disk final first moments log leaves (ap d.restarts c.close.ensures ∙ e.image.disk.restarts tells) in
     let calls : d.passed final ≡ counted (opening_calls s batches) (d.passed c.args.disk) =
-    ap d.passed c.close.ensures ∙ (c.in-Ok.ensures.passes tells s batches stored (shaped_image legal)).ok in
-    let last = subst (λ x. Only (d.bytes x) (d.may_leave x)) (sym c.close.ensures) (c.in-Ok.ensures.durable tells only) in
+    ap d.passed c.close.ensures ∙ (c.in-Ok.ensures.image.shaped tells s batches stored (shaped_image legal)).passes.ok in
+    let last = subst (λ x. Only (d.bytes x) (d.may_leave x)) (sym c.close.ensures) (c.in-Ok.ensures.image.durable tells only) in
     let wrote = λ (told : IsTrue sink.tells). c.write_recovered.ensures.wrote told (opened s batches stored gates true found.0 found.1) heap.core reached in
     recovers_first d core k c.args.disk final keeps (FailsToOpen d core k c.status_after-status.result c.args.disk final) c.write_recovered.result c.status_after-status.result _ _ _ c.status_after-status.ensures calls last
     (λ told. subst (λ (t : List ℕ). WroteText c.write_recovered.result (sink.written c.args.sink.now) (recovered_line k ++ t) (sink.written c.write_recovered.new.sink)) (ap canon_text (found.3 ∙ says.graph))
@@ -109,32 +109,12 @@ returns-clause-again g c tells =
     let some = opened_core g.D.Disk.tells (g.D.Disk.bytes c.args.disk) c.in-Ok.heap c.in-Ok.ensures.opens c.in-Ok.ensures.sound in
     wrote_again c.write_recovered.result _ _ c.status_after-status.result (k.written c.args.sink.now) (k.written c.write_recovered.new.sink) c.status_after-status.ensures (c.write_recovered.ensures.wrote tells some.0 some.2 some.1.running.reached)
 
-pub returns-in-Err-clause-refuses : goal.returns-in-Err-clause-refuses
-returns-in-Err-clause-refuses g c tells expected fault = (rw c.from.ensures (refused_by expected (g.D.Disk.bytes c.args.disk) c.in-Err.e fault (c.in-Err.ensures.not_heap tells) (c.in-Err.ensures.damaged tells)), refl)
+-- the image was not opened
+pub returns-in-Err-clause-image : goal.returns-in-Err-clause-image
+returns-in-Err-clause-image g c =
+    rw c.from.ensures (answers_failed g.D.Disk c.args.disk c.in-Err.disk _ c.in-Err.e refl c.in-Err.ensures.image (λ tells t image le may. g.met.D.Disk.counts_now tells c.in-Err.disk t image le may))
 
--- what can't be opened is not printed
-pub returns-clause-refuses : goal.returns-clause-refuses
-returns-clause-refuses g c tells expected fault = absurd (not_opened expected (g.D.Disk.bytes c.args.disk) fault (c.in-Ok.ensures.not_heap tells) (c.in-Ok.ensures.damaged tells))
-
-pub returns-in-Err-clause-keeps_fault : goal.returns-in-Err-clause-keeps_fault
-returns-in-Err-clause-keeps_fault g c tells only expected fault =
-    fault_moments g.D.Disk expected (g.D.Disk.bytes c.args.disk) c.args.disk c.in-Err.disk fault (c.in-Err.ensures.moments_not_heap tells only) (c.in-Err.ensures.moments_damaged tells only)
-
-pub returns-clause-keeps_fault : goal.returns-clause-keeps_fault
-returns-clause-keeps_fault g c tells only expected fault = absurd (not_opened expected (g.D.Disk.bytes c.args.disk) fault (c.in-Ok.ensures.not_heap tells) (c.in-Ok.ensures.damaged tells))
-
--- a status against the image is true of what a crash may leave now
-pub returns-in-Err-clause-refused_at_end : goal.returns-in-Err-clause-refused_at_end
-returns-in-Err-clause-refused_at_end g c tells only =
-    told_each g.D.Disk c.in-Err.e c.from.result c.args.disk c.in-Err.disk c.from.ensures (c.in-Err.ensures.refused tells) (c.in-Err.ensures.moments_not_heap tells only) (c.in-Err.ensures.moments_damaged tells only)
-    (λ t image le may. g.met.D.Disk.counts_now tells c.in-Err.disk t image le may)
-
-pub returns-clause-refused_at_end : goal.returns-clause-refused_at_end
-returns-clause-refused_at_end g c tells only = rw c.status_after-status.ensures (end_told_each _ _ (written_end c.write_recovered.result))
-
--- of an image that is damaged at an address a crash leaves the log, rolled back or not, and all else
-pub returns-in-Err-clause-keeps_log : goal.returns-in-Err-clause-keeps_log
-returns-in-Err-clause-keeps_log g c tells only fault = left_moments g.D.Disk (g.D.Disk.bytes c.args.disk) c.args.disk c.in-Err.disk fault (c.in-Err.ensures.moments_readable tells only)
-
-pub returns-clause-keeps_log : goal.returns-clause-keeps_log
-returns-clause-keeps_log g c tells only fault = absurd (c.in-Ok.ensures.damaged tells (Address fault.0) fault.1)
+pub returns-clause-image : goal.returns-clause-image
+returns-clause-image g c =
+    rw (c.close.ensures, c.status_after-status.ensures) (answers_opened g.D.Disk 0 c.args.disk _ _ _ (end_sound _ (written_end c.write_recovered.result)) (λ tells none. (c.in-Ok.ensures.image.not_heap tells none).told) (λ tells at damage. (c.in-Ok.ensures.image.damaged tells at damage).told)
+    (λ tells. restarts_none 0 _ _ _ (λ done. refl) (c.in-Ok.ensures.image.disk.restarts tells)))

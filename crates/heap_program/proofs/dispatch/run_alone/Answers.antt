@@ -1,4 +1,4 @@
-use Rattle.std.proofs.Common.{◌≡◌, inl, ℕ, Option, Some, None, Err, refl, sym, ap, ◌∙◌, subst, arith}
+use Rattle.std.proofs.Common.{◌≡◌, inl, ℕ, Option, Some, None, Err, refl, sym, ap, ◌∙◌, subst}
 use Rattle.std.specs.Prelude.{IfSome}
 use Rattle.command_words.specs.declared.commands.Command.TheVariants as asked
 use Rattle.command_words.specs.declared.commands.CommandError.{CommandError}
@@ -8,12 +8,10 @@ use Rattle.command_words.specs.Limits.{IsPages, IsWithin}
 use Rattle.heap_core.specs.Format.{heap_of}
 use Rattle.heap_model.proofs.Opening.Opened.{address_found}
 use Rattle.heap_program.specs.Commands.{makes, restarts_of, MeetsNoFault, CanRun}
-use Rattle.heap_program.specs.Headline.{made_super}
-use Rattle.heap_program.proofs.CommandLaws.{same_play, same_load, command_not_done, graph_unread, load_unread, play_ends, unread_ends, format_told_each, format_sound, no_stop, not_made, load_made}
-use Rattle.heap_program.specs.Refusals.{fault_calls}
-use Rattle.heap_program.proofs.RefusalLaws.{alone_untouched, command_once, once_few}
-use Rattle.heap_program.proofs.RunLaws.{runs_safely, end_done}
-use Rattle.heap_program.proofs.WordFaults.{untouched_log}
+use Rattle.heap_program.specs.Headline.{made_super, restarts_asked}
+use Rattle.heap_program.proofs.CommandLaws.{same_play, same_load, command_not_done, command_not_refused, graph_unread, load_unread, play_ends, unread_ends, format_sound, no_stop, not_made, load_made, words_unread, none_made, none_loaded}
+use Rattle.heap_program.proofs.RunLaws.{runs_safely, end_done, restarts_none}
+use Rattle.heap_program.proofs.ImageLaws.{answers_own, answers_made, answers_unread}
 use Rattle.heap_program.proofs.dispatch.run_alone.Goals as goal
 
 pub returns-in-Err-clause-graph : goal.returns-in-Err-clause-graph
@@ -76,38 +74,6 @@ returns-in-Graph-clause-ends g c which is =
     let same : which ≡ asked.Graph = cc (is, c.in-Ok.ensures.read, c.in-Graph.is) in
     rw same c.run_graph.ensures.end
 
-pub returns-in-Format-clause-refused_at_end : goal.returns-in-Format-clause-refused_at_end
-returns-in-Format-clause-refused_at_end g c tells only = format_told_each c.in-Format.numbers c.run_format.result.0 _ c.run_format.ensures.ends
-
-pub returns-in-Format-clause-unwritten : goal.returns-in-Format-clause-unwritten
-returns-in-Format-clause-unwritten g c which is none against = absurd (against (format_sound c.in-Format.numbers c.run_format.result.0 c.run_format.ensures.ends))
-
-pub returns-in-Play-clause-unwritten : goal.returns-in-Play-clause-unwritten
-returns-in-Play-clause-unwritten g c which is none against =
-    let same : which ≡ asked.Play c.in-Play.fresh c.in-Play.stop = cc (is, c.in-Ok.ensures.read, c.in-Play.is) in
-    c.run_play.ensures.unwritten (no_stop c.in-Play.stop (subst (λ (x : Command). restarts_of x ≡ 0) same none)) against
-
--- nothing is said of a disk that was restarted if a stop was asked
-pub returns-in-Play-clause-refused : goal.returns-in-Play-clause-refused
-returns-in-Play-clause-refused g c tells which is none unstarted =
-    let same : which ≡ asked.Play c.in-Play.fresh c.in-Play.stop = cc (is, c.in-Ok.ensures.read, c.in-Play.is) in
-    c.run_play.ensures.refused tells (not_made c.in-Play.fresh c.in-Play.stop (subst (λ (x : Command). makes x ≡ None) same none))
-    (λ rose. no_stop c.in-Play.stop (subst (λ (x : Command). restarts_of x ≡ 0) same (unstarted rose)))
-
-pub returns-in-Play-clause-left_alone : goal.returns-in-Play-clause-left_alone
-returns-in-Play-clause-left_alone g c tells which is none expected fault alone =
-    let same : which ≡ asked.Play c.in-Play.fresh c.in-Play.stop = cc (is, c.in-Ok.ensures.read, c.in-Play.is) in
-    c.run_play.ensures.left_alone tells (not_made c.in-Play.fresh c.in-Play.stop (subst (λ (x : Command). makes x ≡ None) same none)) expected fault alone
-
--- a run that did not reach the disk left it alone
-pub returns-in-Err-clause-left_alone : goal.returns-in-Err-clause-left_alone
-returns-in-Err-clause-left_alone g c tells which is none expected fault alone = alone_untouched g.D.Disk c.args.disk (λ image since. g.met.D.Disk.only_now tells c.args.disk image since)
-
--- an image that is damaged at an address was left alone
-pub returns-in-Err-clause-keeps_log : goal.returns-in-Err-clause-keeps_log
-returns-in-Err-clause-keeps_log g c tells only asked is none fault =
-    untouched_log g.D.Disk c.args.disk only (λ image since. g.met.D.Disk.only_now tells c.args.disk image since) fault
-
 -- ---- a load
 
 pub returns-in-Err-clause-loads : goal.returns-in-Err-clause-loads
@@ -117,7 +83,7 @@ returns-in-Err-clause-loads g c tells only seed count fresh is =
     g.K.Sink.tells (g.K.Sink.written c.args.sink.now)
 
 pub returns-in-Err-clause-prints_load : goal.returns-in-Err-clause-prints_load
-returns-in-Err-clause-prints_load g c tells seed count fresh is = inl ((λ done. command_not_done c.in-Err.e (sym c.from.ensures ∙ done)), refl)
+returns-in-Err-clause-prints_load g c tells seed count fresh is = inl ((λ done. command_not_done c.in-Err.e (sym c.from.ensures ∙ done)), (λ refused. command_not_refused c.in-Err.e (sym c.from.ensures ∙ refused)), refl)
 
 pub run_load-requires : goal.run_load-requires
 run_load-requires g c = let within = subst IsWithin c.in-Load.is c.in-Ok.ensures.limits in record { seeded = within.0; few = within.1; paged = within.2 }
@@ -146,16 +112,6 @@ returns-in-Load-clause-ends g c which is =
     let same : which ≡ asked.Load c.in-Load.seed c.in-Load.count c.in-Load.fresh = cc (is, c.in-Ok.ensures.read, c.in-Load.is) in
     rw same c.run_load.ensures.ends
 
-pub returns-in-Load-clause-refused : goal.returns-in-Load-clause-refused
-returns-in-Load-clause-refused g c tells which is none unstarted =
-    let same : which ≡ asked.Load c.in-Load.seed c.in-Load.count c.in-Load.fresh = cc (is, c.in-Ok.ensures.read, c.in-Load.is) in
-    c.run_load.ensures.refused tells (load_made c.in-Load.seed c.in-Load.count c.in-Load.fresh (subst (λ (x : Command). makes x ≡ None) same none))
-
-pub returns-in-Load-clause-left_alone : goal.returns-in-Load-clause-left_alone
-returns-in-Load-clause-left_alone g c tells which is none expected fault alone =
-    let same : which ≡ asked.Load c.in-Load.seed c.in-Load.count c.in-Load.fresh = cc (is, c.in-Ok.ensures.read, c.in-Load.is) in
-    c.run_load.ensures.left_alone tells (load_made c.in-Load.seed c.in-Load.count c.in-Load.fresh (subst (λ (x : Command). makes x ≡ None) same none)) expected fault alone
-
 pub returns-in-Load-clause-complete : goal.returns-in-Load-clause-complete
 returns-in-Load-clause-complete g c tells only which is can script no_source no_sink no_disk =
     let same : which ≡ asked.Load c.in-Load.seed c.in-Load.count c.in-Load.fresh = cc (is, c.in-Ok.ensures.read, c.in-Load.is) in
@@ -163,47 +119,6 @@ returns-in-Load-clause-complete g c tells only which is can script no_source no_
     end_done _ _ c.run_load.result.0 (c.run_load.ensures.complete tells only able) c.run_load.ensures.disk_fault.cause c.run_load.ensures.write_fault.cause no_disk no_sink
 
 -- ---- on an image that is damaged at an address it makes the writes and syncs of one opening
-
-pub returns-in-Err-clause-opens_once : goal.returns-in-Err-clause-opens_once
-returns-in-Err-clause-opens_once g c tells which is none unstopped fault = rw c.from.ensures (command_once (fault_calls fault) (g.D.Disk.passed c.args.disk) c.in-Err.e)
-
-pub returns-in-Play-clause-opens_once : goal.returns-in-Play-clause-opens_once
-returns-in-Play-clause-opens_once g c tells which is none unstopped fault =
-    let same : which ≡ asked.Play c.in-Play.fresh c.in-Play.stop = cc (is, c.in-Ok.ensures.read, c.in-Play.is) in
-    c.run_play.ensures.opens_once tells (not_made c.in-Play.fresh c.in-Play.stop (subst (λ (x : Command). makes x ≡ None) same none))
-    (no_stop c.in-Play.stop (subst (λ (x : Command). restarts_of x ≡ 0) same unstopped)) fault
-
-pub returns-in-Load-clause-opens_once : goal.returns-in-Load-clause-opens_once
-returns-in-Load-clause-opens_once g c tells which is none unstopped fault =
-    let same : which ≡ asked.Load c.in-Load.seed c.in-Load.count c.in-Load.fresh = cc (is, c.in-Ok.ensures.read, c.in-Load.is) in
-    c.run_load.ensures.opens_once tells (load_made c.in-Load.seed c.in-Load.count c.in-Load.fresh (subst (λ (x : Command). makes x ≡ None) same none)) fault
-
-pub returns-in-Graph-clause-opens_once : goal.returns-in-Graph-clause-opens_once
-returns-in-Graph-clause-opens_once g c tells which is none unstopped fault = c.run_graph.ensures.opens_once tells fault
-
--- with a stop they are no more
-
-pub returns-in-Err-clause-opens_few : goal.returns-in-Err-clause-opens_few
-returns-in-Err-clause-opens_few g c tells which is none unstarted fault =
-    let n = fault_calls fault in
-    let k = g.D.Disk.passed c.args.disk in
-    rw c.from.ensures (once_few n k k _ (command_once n k c.in-Err.e))
-
-pub returns-in-Play-clause-opens_few : goal.returns-in-Play-clause-opens_few
-returns-in-Play-clause-opens_few g c tells which is none unstarted fault =
-    let same : which ≡ asked.Play c.in-Play.fresh c.in-Play.stop = cc (is, c.in-Ok.ensures.read, c.in-Play.is) in
-    c.run_play.ensures.opens_few tells (not_made c.in-Play.fresh c.in-Play.stop (subst (λ (x : Command). makes x ≡ None) same none))
-    (λ rose. no_stop c.in-Play.stop (subst (λ (x : Command). restarts_of x ≡ 0) same (unstarted rose))) fault
-
-pub returns-in-Load-clause-opens_few : goal.returns-in-Load-clause-opens_few
-returns-in-Load-clause-opens_few g c tells which is none unstarted fault =
-    let same : which ≡ asked.Load c.in-Load.seed c.in-Load.count c.in-Load.fresh = cc (is, c.in-Ok.ensures.read, c.in-Load.is) in
-    once_few (fault_calls fault) _ _ c.run_load.result.0 (c.run_load.ensures.opens_once tells (load_made c.in-Load.seed c.in-Load.count c.in-Load.fresh (subst (λ (x : Command). makes x ≡ None) same none)) fault)
-
-pub returns-in-Graph-clause-opens_few : goal.returns-in-Graph-clause-opens_few
-returns-in-Graph-clause-opens_few g c tells which is none unstarted fault = once_few (fault_calls fault) _ _ c.run_graph.result.0 (c.run_graph.ensures.opens_once tells fault)
-
--- no fault of the disk is ignored
 
 pub returns-in-Play-clause-unfaulted : goal.returns-in-Play-clause-unfaulted
 returns-in-Play-clause-unfaulted g c which is unstopped none =
@@ -224,3 +139,32 @@ pub returns-in-Load-clause-unfaulted : goal.returns-in-Load-clause-unfaulted
 returns-in-Load-clause-unfaulted g c which is unstopped none =
     let same : which ≡ asked.Load c.in-Load.seed c.in-Load.count c.in-Load.fresh = cc (is, c.in-Ok.ensures.read, c.in-Load.is) in
     c.run_load.ensures.unfaulted (subst (λ (x : Command). MeetsNoFault x c.run_load.result.0) same none)
+
+-- ---- on an image that can't be opened
+
+pub returns-in-Err-clause-image : goal.returns-in-Err-clause-image
+returns-in-Err-clause-image g c which is =
+    let input = words_unread which _ c.in-Err.e is (λ (same : c.in-Err.e ≡ asking.Usage). c.in-Err.ensures.usage (ap (λ (x : CommandError). Err x) same)) in
+    rw c.from.ensures (answers_unread g.D.Disk (makes which ≡ None) (restarts_of which) c.args.disk _ _ input refl (λ tells image since. g.met.D.Disk.only_now tells c.args.disk image since))
+
+pub returns-in-Format-clause-image : goal.returns-in-Format-clause-image
+returns-in-Format-clause-image g c which is =
+    let same : which ≡ asked.Format c.in-Format.numbers = cc (is, c.in-Ok.ensures.read, c.in-Format.is) in
+    let sound = format_sound c.in-Format.numbers c.run_format.result.0 c.run_format.ensures.ends in
+    rw same (answers_made g.D.Disk 0 c.args.disk _ _ _ _ (λ none. cc none) (λ tells only. sound) (λ unstopped against. absurd (against sound))
+    (λ tells. restarts_none 0 _ _ _ (λ done. refl) (c.run_format.ensures.restarts tells)))
+
+pub returns-in-Play-clause-image : goal.returns-in-Play-clause-image
+returns-in-Play-clause-image g c which is =
+    let same : which ≡ asked.Play c.in-Play.fresh c.in-Play.stop = cc (is, c.in-Ok.ensures.read, c.in-Play.is) in
+    rw same (answers_own g.D.Disk (restarts_asked c.in-Play.stop) c.args.disk _ _ _ _ _ (none_made c.in-Play.fresh c.in-Play.stop) (not_made c.in-Play.fresh c.in-Play.stop) c.run_play.ensures.image)
+
+pub returns-in-Graph-clause-image : goal.returns-in-Graph-clause-image
+returns-in-Graph-clause-image g c which is =
+    let same : which ≡ asked.Graph = cc (is, c.in-Ok.ensures.read, c.in-Graph.is) in
+    rw same (answers_own g.D.Disk 0 c.args.disk _ _ _ _ _ (λ here. refl) (λ none. tt) c.run_graph.ensures.image)
+
+pub returns-in-Load-clause-image : goal.returns-in-Load-clause-image
+returns-in-Load-clause-image g c which is =
+    let same : which ≡ asked.Load c.in-Load.seed c.in-Load.count c.in-Load.fresh = cc (is, c.in-Ok.ensures.read, c.in-Load.is) in
+    rw same (answers_own g.D.Disk 0 c.args.disk _ _ _ _ _ (none_loaded c.in-Load.seed c.in-Load.count c.in-Load.fresh) (load_made c.in-Load.seed c.in-Load.count c.in-Load.fresh) c.run_load.ensures.image)

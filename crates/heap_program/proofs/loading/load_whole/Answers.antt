@@ -4,6 +4,7 @@ use Rattle.counts.specs.Count.{counted}
 use Rattle.heap_model.proofs.Shaped.{shaped_image}
 use Rattle.heap_program.specs.declared.play.Halt.{Halt}
 use Rattle.heap_model.specs.CoreRuns.{total_calls}
+use Rattle.heap_model.specs.Opening.{rollback_of}
 use Rattle.heap_model.specs.Ending.{all_events}
 use Rattle.heap_program.proofs.CoreSteps.{all_playable}
 use Rattle.heap_program.specs.Stored.{stored_core, stored_calls}
@@ -18,18 +19,17 @@ use Rattle.heap_program.proofs.Causes.{disk_rose_since}
 use Rattle.gate_slot.proofs.PassingLaws.{counted-add}
 use Rattle.heap_program.proofs.Counts.{counted_mono}
 use Rattle.heap_program.proofs.PlayEnds.{run_reached, unfailed_only, lines_wrote, halt_part, halt_lines, keeps_own, ends_early, ends_whole_at, exact_none, exact_passes, passes_most}
-use Rattle.heap_program.proofs.PlayOpen.{stored_running, stored_keeps, stored_moments, stored_super, ends_unopened, opened_core, played_unfailed}
+use Rattle.heap_program.proofs.PlayOpen.{opening_stops, stored_running, stored_keeps, stored_moments, stored_super, ends_unopened, opened_core, played_unfailed}
 use Rattle.heap_program.proofs.Behind.{HasImages, opening_behind}
-use Rattle.heap_program.proofs.PrintRecovered.{fails_most, fails_none}
-use Rattle.heap_recovery.specs.declared.at.At.TheVariants.{Address}
+use Rattle.heap_program.proofs.PrintRecovered.{fails_most, fails_none, no_rollback}
 use Rattle.heap_recovery.proofs.FaultLaws.{shaped_readable}
-use Rattle.heap_program.proofs.RefusalLaws.{told_status, told_each, end_told, end_told_each, refused_by, not_opened, only_read, alone_read, fault_moments, left_moments, opens_once}
-use Rattle.heap_program.proofs.Statuses.{written_end, halt_end, halt_not_done, open_not_done, open_harm}
+use Rattle.heap_program.proofs.Statuses.{written_end, halt_end, halt_not_done, open_not_done, open_not_refused, open_harm}
 use Rattle.heap_program.proofs.LoadRuns.{load_is, load_reached, unwritten_summary, wrote_summary, summarizes, no_line_failed}
 use Rattle.heap_program.proofs.Reopened.{reads_only, refused_memory}
-use Rattle.heap_program.proofs.RunLaws.{end_sound}
+use Rattle.heap_program.proofs.RunLaws.{end_sound, restarts_none}
 use Rattle.heap_program.proofs.Unfaulted.{counts_on, keeps_counts, open_counts, load_halt, load_not_disk}
 use Rattle.heap_program.specs.Causes.{IsFaultlessLoad}
+use Rattle.heap_program.proofs.ImageLaws.{answers_failed, answers_opened}
 use Rattle.heap_program.proofs.loading.load_whole.Goals as goal
 
 pub returns-in-Err-clause-played : goal.returns-in-Err-clause-played
@@ -37,22 +37,25 @@ returns-in-Err-clause-played g c tells stored only =
     let d = g.D.Disk in
     let e = c.in-Err.ensures in
     let shaped = shaped_image stored.legal in
-    let passes = e.passes tells stored.super stored.batches stored.pages shaped in
-    let outside = e.shaped tells stored.super stored.batches stored.pages shaped in
+    let passes = (e.image.shaped tells stored.super stored.batches stored.pages shaped).passes in
+    let outside = (e.image.shaped tells stored.super stored.batches stored.pages shaped).error in
     let few = fails_most (stored_calls stored) (d.passed c.args.disk) (d.passed c.in-Err.disk) c.in-Err.e passes in
     let most = counted_mono few.0 (stored_calls stored) (d.passed c.args.disk) few.1 in
     let total = counted_mono few.0 (stored_calls stored + 0) (d.passed c.args.disk) (omega (arith, few.1)) in
     record {
       played = ends_unopened d stored None (all_events None (stored_core stored) (events (load_lines c.args.seed c.args.count))) c.in-Err.e c.from.result c.args.disk c.in-Err.disk false [] c.from.ensures outside
-          (stored_moments d stored c.args.disk c.in-Err.disk (e.moments tells only stored.super stored.batches stored.pages shaped))
+          (stored_moments d stored c.args.disk c.in-Err.disk ((e.image.shaped tells stored.super stored.batches stored.pages shaped).moments only))
           (opening_behind d (stored_core stored) stored.super stored.batches (d.bytes c.args.disk) c.args.disk c.in-Err.disk (stored_super d stored)
-          (e.moments_readable tells only stored.super stored.batches shaped.log.state (shaped_readable stored.super stored.batches stored.pages (d.bytes c.args.disk) shaped)))
-          (λ image left. stored_keeps d stored image (e.crash tells only stored.super stored.batches stored.pages shaped image left))
-          (λ image since. g.met.D.Disk.only_now tells c.in-Err.disk image since) (e.disk.restarts tells)
+          ((e.image.readable tells stored.super stored.batches shaped.log.state (shaped_readable stored.super stored.batches stored.pages (d.bytes c.args.disk) shaped)).moments only))
+          (λ image left. stored_keeps d stored image ((e.image.shaped tells stored.super stored.batches stored.pages shaped).crash only image left))
+          (λ image since. g.met.D.Disk.only_now tells c.in-Err.disk image since) (e.image.disk.restarts tells)
           (λ none. fails_none (stored_calls stored) (d.passed c.args.disk) (d.passed c.in-Err.disk) c.in-Err.e (ap open_status none) passes)
-          (λ other u. u (open_harm _ _ _ _ c.in-Err.e outside other e.disk.cause))
+          (λ other u. u (open_harm _ _ _ _ c.in-Err.e outside other e.image.disk.cause))
           (omega (arith, few.2, most)) (omega (arith, few.2, total))
-          (λ refused. reads_only d c.args.disk c.in-Err.disk ((e.left_alone (refused_memory c.in-Err.e refused)).contents tells) only);
+          (λ refused. reads_only d c.args.disk c.in-Err.disk ((e.image.left_alone (refused_memory c.in-Err.e refused)).contents tells) only)
+          (λ stop. opening_stops d (stored_calls stored) c.args.disk c.in-Err.disk c.in-Err.e outside passes e.image.disk.cause
+          (λ none. (e.image.shaped tells stored.super stored.batches stored.pages shaped).no_first_stop (no_rollback (rollback_of stored.super stored.batches) none)));
+      made = λ refused. absurd (open_not_refused c.in-Err.e (sym c.from.ensures ∙ refused));
       written = λ t. unwritten_summary c.from.result _ (g.K.Sink.written c.args.sink.now) (λ done. open_not_done c.in-Err.e (sym c.from.ensures ∙ done));
     }
 
@@ -71,12 +74,12 @@ returns-in-Ok-play_load-clause-played g c tells stored only =
     let e = c.in-Ok.ensures in
     let plays = c.in-Ok-play_load.ensures.plays tells s first (e.holds tells s stored.batches stored.pages stored.legal only stored.places stored.graph stored.found) running in
     let whole = plays.ends in
-    let passed : d.passed old.disk ≡ counted n (d.passed c.args.disk) = (e.passes tells s stored.batches stored.pages shaped).ok in
+    let passed : d.passed old.disk ≡ counted n (d.passed c.args.disk) = (e.image.shaped tells s stored.batches stored.pages shaped).passes.ok in
     let images : HasImages d = record { counts = λ disk t image le may. g.met.D.Disk.counts_now tells disk t image le may; now = λ disk image since. g.met.D.Disk.only_now tells disk image since; reads = λ disk. g.met.D.Disk.reads_an_image tells disk } in
     let keeps = keeps_own s first running refl es playable old new false [] [] (Ok tt) plays tells n c.args.disk images
-    (stored_moments d stored c.args.disk old.disk (e.moments tells only s stored.batches stored.pages shaped))
-    (opening_behind d first s stored.batches (d.bytes c.args.disk) c.args.disk old.disk (stored_super d stored) (e.moments_readable tells only s stored.batches shaped.log.state (shaped_readable s stored.batches stored.pages (d.bytes c.args.disk) shaped)))
-    (λ image left. stored_keeps d stored image (e.crash tells only s stored.batches stored.pages shaped image left)) passed (e.disk.restarts tells) (keeps_counts d c.args.disk old.disk tt e.disk) in
+    (stored_moments d stored c.args.disk old.disk ((e.image.shaped tells s stored.batches stored.pages shaped).moments only))
+    (opening_behind d first s stored.batches (d.bytes c.args.disk) c.args.disk old.disk (stored_super d stored) ((e.image.readable tells s stored.batches shaped.log.state (shaped_readable s stored.batches stored.pages (d.bytes c.args.disk) shaped)).moments only))
+    (λ image left. stored_keeps d stored image ((e.image.shaped tells s stored.batches stored.pages shaped).crash only image left)) passed (e.image.disk.restarts tells) (keeps_counts d c.args.disk old.disk tt e.image.disk) in
     let all = total_calls first plays.made in
     let calls : d.passed new.disk ≡ counted (n + all) (d.passed c.args.disk) = whole.1.passes ∙ ap (counted all) passed ∙ counted-add all n (d.passed c.args.disk) in
     let reached = (run_reached s first running refl es playable old new false [] [] (Ok tt) plays).1 in
@@ -84,9 +87,11 @@ returns-in-Ok-play_load-clause-played g c tells stored only =
     c.write_summary.result [] whole.0 whole.1.reached
     (lines_wrote s first running refl es playable old new false [] [] (Ok tt) plays (Ok tt) refl)
     (λ t. absurd (false≢true t)) refl calls
-    (unfailed_only s first running refl es playable old new false [] [] (Ok tt) plays (sym plays.heap.core.memory.failure ∙ played_unfailed first (load_lines c.args.seed c.args.count) new false [] [] running (load_is c.args.seed c.args.count c.requires.few) (c.in-Ok-play_load.ensures.core first (e.holds tells s stored.batches stored.pages stored.legal only stored.places stored.graph stored.found).core running))) in
+    (unfailed_only s first running refl es playable old new false [] [] (Ok tt) plays (sym plays.heap.core.memory.failure ∙ played_unfailed first (load_lines c.args.seed c.args.count) new false [] [] running (load_is c.args.seed c.args.count c.requires.few) (c.in-Ok-play_load.ensures.core first (e.holds tells s stored.batches stored.pages stored.legal only stored.places stored.graph stored.found).core running)))
+    (keeps_counts d c.args.disk old.disk tt e.image.disk) in
     rw (c.close.ensures, c.status_after-status.ensures) (record {
       played = whole_at.0;
+      made = λ refused. whole_at.2;
       written = λ t. subst (λ (x : Core). WritesSummary (status_after c.write_summary.result) (summary_text (core_summary c.args.seed c.args.count x)) (g.K.Sink.written c.args.sink.now) (g.K.Sink.written c.write_summary.new.sink)) (sym whole_at.1)
           (wrote_summary c.write_summary.result _ _ _ (c.write_summary.ensures.wrote t plays.core plays.heap.core reached));
     })
@@ -107,14 +112,14 @@ returns-in-Err-play_load-clause-played g c tells stored only =
     let h : Halt = c.in-Err-play_load.halt in
     let e = c.in-Ok.ensures in
     let unharmed = λ (u : Unharmed d c.args.disk new.disk) (rose : DiskRose (d.faults old.disk) (d.stops old.disk) (d.faults new.disk) (d.stops new.disk)).
-    u (disk_rose_since _ _ _ _ _ _ e.disk.cause.faults_kept e.disk.cause.stops_kept c.play_load.ensures.disk.cause.faults_kept c.play_load.ensures.disk.cause.stops_kept rose) in
+    u (disk_rose_since _ _ _ _ _ _ e.image.disk.cause.faults_kept e.image.disk.cause.stops_kept c.play_load.ensures.disk.cause.faults_kept c.play_load.ensures.disk.cause.stops_kept rose) in
     let plays = c.in-Err-play_load.ensures.plays tells s first (e.holds tells s stored.batches stored.pages stored.legal only stored.places stored.graph stored.found) running in
-    let passed : d.passed old.disk ≡ counted n (d.passed c.args.disk) = (e.passes tells s stored.batches stored.pages shaped).ok in
+    let passed : d.passed old.disk ≡ counted n (d.passed c.args.disk) = (e.image.shaped tells s stored.batches stored.pages shaped).passes.ok in
     let images : HasImages d = record { counts = λ disk t image le may. g.met.D.Disk.counts_now tells disk t image le may; now = λ disk image since. g.met.D.Disk.only_now tells disk image since; reads = λ disk. g.met.D.Disk.reads_an_image tells disk } in
     let keeps = keeps_own s first running refl es playable old new false [] [] (Err h) plays tells n c.args.disk images
-    (stored_moments d stored c.args.disk old.disk (e.moments tells only s stored.batches stored.pages shaped))
-    (opening_behind d first s stored.batches (d.bytes c.args.disk) c.args.disk old.disk (stored_super d stored) (e.moments_readable tells only s stored.batches shaped.log.state (shaped_readable s stored.batches stored.pages (d.bytes c.args.disk) shaped)))
-    (λ image left. stored_keeps d stored image (e.crash tells only s stored.batches stored.pages shaped image left)) passed (e.disk.restarts tells) (keeps_counts d c.args.disk old.disk tt e.disk) in
+    (stored_moments d stored c.args.disk old.disk ((e.image.shaped tells s stored.batches stored.pages shaped).moments only))
+    (opening_behind d first s stored.batches (d.bytes c.args.disk) c.args.disk old.disk (stored_super d stored) ((e.image.readable tells s stored.batches shaped.log.state (shaped_readable s stored.batches stored.pages (d.bytes c.args.disk) shaped)).moments only))
+    (λ image left. stored_keeps d stored image ((e.image.shaped tells s stored.batches stored.pages shaped).crash only image left)) passed (e.image.disk.restarts tells) (keeps_counts d c.args.disk old.disk tt e.image.disk) in
     let all = total_calls first plays.made in
     let sum = counted-add all n (d.passed c.args.disk) in
     let whole = λ (u : Unharmed d c.args.disk new.disk). exact_passes s first running refl es playable old new false [] [] (Err h) plays (unharmed u) ∙ ap (counted all) passed ∙ sum in
@@ -126,7 +131,8 @@ returns-in-Err-play_load-clause-played g c tells stored only =
           (halt_lines s first running refl es playable old new false [] [] (Err h) plays h refl)
           (λ u. exact_none s first running refl es playable old new false [] [] (Err h) plays (unharmed u)) tt
           (unfailed_only s first running refl es playable old new false [] [] (Err h) plays)
-          refl;
+          refl (λ none. keeps_counts d c.args.disk old.disk tt e.image.disk);
+      made = λ refused. absurd (no_line_failed h refused c.in-Err-play_load.ensures.sink.cause);
       written = λ t. unwritten_summary (halt_status h) _ (k.written c.args.sink.now) (halt_not_done h);
     })
 
@@ -138,7 +144,7 @@ write_summary-requires g c =
     record { unfailed = played_unfailed some.0 (load_lines c.args.seed c.args.count) c.play_load.new.heap false [] [] running (load_is c.args.seed c.args.count c.requires.few) plays }
 
 pub returns-in-Err-clause-prints : goal.returns-in-Err-clause-prints
-returns-in-Err-clause-prints g c tells = inl ((λ done. open_not_done c.in-Err.e (sym c.from.ensures ∙ done)), refl)
+returns-in-Err-clause-prints g c tells = inl ((λ done. open_not_done c.in-Err.e (sym c.from.ensures ∙ done)), (λ refused. open_not_refused c.in-Err.e (sym c.from.ensures ∙ refused)), refl)
 
 pub returns-in-Ok-play_load-clause-prints : goal.returns-in-Ok-play_load-clause-prints
 returns-in-Ok-play_load-clause-prints g c tells =
@@ -149,7 +155,7 @@ returns-in-Ok-play_load-clause-prints g c tells =
     rw c.status_after-status.ensures (summarizes some.0 some.1.running some.1.nothing some.1.opened c.args.seed c.args.count c.requires.few c.play_load.new.heap false [] [] plays c.write_summary.result (k.written c.args.sink.now) (k.written c.write_summary.new.sink) (c.write_summary.ensures.wrote tells plays.core plays.is reached))
 
 pub returns-in-Err-play_load-clause-prints : goal.returns-in-Err-play_load-clause-prints
-returns-in-Err-play_load-clause-prints g c tells = rw c.from-in-Err-play_load.ensures (inl (halt_not_done c.in-Err-play_load.halt, refl))
+returns-in-Err-play_load-clause-prints g c tells = rw c.from-in-Err-play_load.ensures (inl (halt_not_done c.in-Err-play_load.halt, (λ refused. no_line_failed c.in-Err-play_load.halt refused c.in-Err-play_load.ensures.sink.cause), refl))
 
 -- the sink that takes the lines does not fail
 pub returns-in-Err-play_load-clause-sink : goal.returns-in-Err-play_load-clause-sink
@@ -158,95 +164,30 @@ returns-in-Err-play_load-clause-sink g c = record {
   cause = λ is. absurd (no_line_failed c.in-Err-play_load.halt (sym c.from-in-Err-play_load.ensures ∙ is) c.in-Err-play_load.ensures.sink.cause);
 }
 
-pub returns-in-Err-clause-refused : goal.returns-in-Err-clause-refused
-returns-in-Err-clause-refused g c tells = rw c.from.ensures (told_status c.in-Err.e (g.D.Disk.bytes c.args.disk) (c.in-Err.ensures.refused tells))
-
-pub returns-in-Ok-play_load-clause-refused : goal.returns-in-Ok-play_load-clause-refused
-returns-in-Ok-play_load-clause-refused g c tells = rw c.status_after-status.ensures (end_told _ (g.D.Disk.bytes c.args.disk) (written_end c.write_summary.result))
-
-pub returns-in-Err-play_load-clause-refused : goal.returns-in-Err-play_load-clause-refused
-returns-in-Err-play_load-clause-refused g c tells = rw c.from-in-Err-play_load.ensures (end_told _ (g.D.Disk.bytes c.args.disk) (halt_end c.in-Err-play_load.halt))
-
-pub returns-in-Err-clause-refuses : goal.returns-in-Err-clause-refuses
-returns-in-Err-clause-refuses g c tells expected fault = (rw c.from.ensures (refused_by expected (g.D.Disk.bytes c.args.disk) c.in-Err.e fault (c.in-Err.ensures.not_heap tells) (c.in-Err.ensures.damaged tells)), refl)
-
--- what can't be opened is not played on
-pub returns-in-Ok-play_load-clause-refuses : goal.returns-in-Ok-play_load-clause-refuses
-returns-in-Ok-play_load-clause-refuses g c tells expected fault = absurd (not_opened expected (g.D.Disk.bytes c.args.disk) fault (c.in-Ok.ensures.not_heap tells) (c.in-Ok.ensures.damaged tells))
-
-pub returns-in-Err-play_load-clause-refuses : goal.returns-in-Err-play_load-clause-refuses
-returns-in-Err-play_load-clause-refuses g c tells expected fault = absurd (not_opened expected (g.D.Disk.bytes c.args.disk) fault (c.in-Ok.ensures.not_heap tells) (c.in-Ok.ensures.damaged tells))
-
-pub returns-in-Err-clause-left_alone : goal.returns-in-Err-clause-left_alone
-returns-in-Err-clause-left_alone g c tells expected fault alone =
-    let d = g.D.Disk in
-    alone_read d c.args.disk c.in-Err.disk _ tells (only_read d expected (d.bytes c.args.disk) c.args.disk c.in-Err.disk _ fault alone (c.in-Err.ensures.reads_not_heap tells) (c.in-Err.ensures.reads_damaged tells))
-
-pub returns-in-Ok-play_load-clause-left_alone : goal.returns-in-Ok-play_load-clause-left_alone
-returns-in-Ok-play_load-clause-left_alone g c tells expected fault alone = absurd (not_opened expected (g.D.Disk.bytes c.args.disk) fault (c.in-Ok.ensures.not_heap tells) (c.in-Ok.ensures.damaged tells))
-
-pub returns-in-Err-play_load-clause-left_alone : goal.returns-in-Err-play_load-clause-left_alone
-returns-in-Err-play_load-clause-left_alone g c tells expected fault alone = absurd (not_opened expected (g.D.Disk.bytes c.args.disk) fault (c.in-Ok.ensures.not_heap tells) (c.in-Ok.ensures.damaged tells))
-
-pub returns-in-Err-clause-keeps_fault : goal.returns-in-Err-clause-keeps_fault
-returns-in-Err-clause-keeps_fault g c tells only expected fault =
-    fault_moments g.D.Disk expected (g.D.Disk.bytes c.args.disk) c.args.disk c.in-Err.disk fault (c.in-Err.ensures.moments_not_heap tells only) (c.in-Err.ensures.moments_damaged tells only)
-
-pub returns-in-Ok-play_load-clause-keeps_fault : goal.returns-in-Ok-play_load-clause-keeps_fault
-returns-in-Ok-play_load-clause-keeps_fault g c tells only expected fault = absurd (not_opened expected (g.D.Disk.bytes c.args.disk) fault (c.in-Ok.ensures.not_heap tells) (c.in-Ok.ensures.damaged tells))
-
-pub returns-in-Err-play_load-clause-keeps_fault : goal.returns-in-Err-play_load-clause-keeps_fault
-returns-in-Err-play_load-clause-keeps_fault g c tells only expected fault = absurd (not_opened expected (g.D.Disk.bytes c.args.disk) fault (c.in-Ok.ensures.not_heap tells) (c.in-Ok.ensures.damaged tells))
-
--- a status against the image is true of what a crash may leave now
-pub returns-in-Err-clause-refused_at_end : goal.returns-in-Err-clause-refused_at_end
-returns-in-Err-clause-refused_at_end g c tells only =
-    told_each g.D.Disk c.in-Err.e c.from.result c.args.disk c.in-Err.disk c.from.ensures (c.in-Err.ensures.refused tells) (c.in-Err.ensures.moments_not_heap tells only) (c.in-Err.ensures.moments_damaged tells only)
-    (λ t image le may. g.met.D.Disk.counts_now tells c.in-Err.disk t image le may)
-
-pub returns-in-Ok-play_load-clause-refused_at_end : goal.returns-in-Ok-play_load-clause-refused_at_end
-returns-in-Ok-play_load-clause-refused_at_end g c tells only = rw c.status_after-status.ensures (end_told_each _ _ (written_end c.write_summary.result))
-
-pub returns-in-Err-play_load-clause-refused_at_end : goal.returns-in-Err-play_load-clause-refused_at_end
-returns-in-Err-play_load-clause-refused_at_end g c tells only = rw c.from-in-Err-play_load.ensures (end_told_each _ _ (halt_end c.in-Err-play_load.halt))
-
-pub returns-in-Ok-play_load-clause-unwritten : goal.returns-in-Ok-play_load-clause-unwritten
-returns-in-Ok-play_load-clause-unwritten g c against = absurd (against (rw c.status_after-status.ensures (end_sound _ (written_end c.write_summary.result))))
-
-pub returns-in-Err-play_load-clause-unwritten : goal.returns-in-Err-play_load-clause-unwritten
-returns-in-Err-play_load-clause-unwritten g c against = absurd (against (rw c.from-in-Err-play_load.ensures (end_sound _ (halt_end c.in-Err-play_load.halt))))
-
--- of an image that is damaged at an address a crash leaves the log, rolled back or not, and all else
-pub returns-in-Err-clause-keeps_log : goal.returns-in-Err-clause-keeps_log
-returns-in-Err-clause-keeps_log g c tells only fault = left_moments g.D.Disk (g.D.Disk.bytes c.args.disk) c.args.disk c.in-Err.disk fault (c.in-Err.ensures.moments_readable tells only)
-
-pub returns-in-Ok-play_load-clause-keeps_log : goal.returns-in-Ok-play_load-clause-keeps_log
-returns-in-Ok-play_load-clause-keeps_log g c tells only fault = absurd (c.in-Ok.ensures.damaged tells (Address fault.0) fault.1)
-
-pub returns-in-Err-play_load-clause-keeps_log : goal.returns-in-Err-play_load-clause-keeps_log
-returns-in-Err-play_load-clause-keeps_log g c tells only fault = absurd (c.in-Ok.ensures.damaged tells (Address fault.0) fault.1)
-
--- it made the writes and syncs of one opening
-pub returns-in-Err-clause-opens_once : goal.returns-in-Err-clause-opens_once
-returns-in-Err-clause-opens_once g c tells fault =
-    let d = g.D.Disk in
-    rw c.from.ensures (opens_once (d.bytes c.args.disk) (d.passed c.args.disk) (d.passed c.in-Err.disk) c.in-Err.e fault (c.in-Err.ensures.refused tells) (c.in-Err.ensures.passes_readable tells))
-
-pub returns-in-Ok-play_load-clause-opens_once : goal.returns-in-Ok-play_load-clause-opens_once
-returns-in-Ok-play_load-clause-opens_once g c tells fault = absurd (c.in-Ok.ensures.damaged tells (Address fault.0) fault.1)
-
-pub returns-in-Err-play_load-clause-opens_once : goal.returns-in-Err-play_load-clause-opens_once
-returns-in-Err-play_load-clause-opens_once g c tells fault = absurd (c.in-Ok.ensures.damaged tells (Address fault.0) fault.1)
-
 -- no fault of the disk was ignored
 pub returns-in-Err-clause-unfaulted : goal.returns-in-Err-clause-unfaulted
-returns-in-Err-clause-unfaulted g c none = open_counts g.D.Disk c.args.disk c.in-Err.disk c.in-Err.e c.in-Err.ensures.disk (load_not_disk _ (subst IsFaultlessLoad c.from.ensures none))
+returns-in-Err-clause-unfaulted g c none = open_counts g.D.Disk c.args.disk c.in-Err.disk c.in-Err.e c.in-Err.ensures.image.disk (load_not_disk _ (subst IsFaultlessLoad c.from.ensures none))
 
 pub returns-in-Ok-play_load-clause-unfaulted : goal.returns-in-Ok-play_load-clause-unfaulted
 returns-in-Ok-play_load-clause-unfaulted g c none =
     let d = g.D.Disk in
-    rw c.close.ensures (counts_on d _ _ _ (keeps_counts d c.args.disk c.in-Ok.heap.disk tt c.in-Ok.ensures.disk) (c.in-Ok-play_load.ensures.disk.still refl))
+    rw c.close.ensures (counts_on d _ _ _ (keeps_counts d c.args.disk c.in-Ok.heap.disk tt c.in-Ok.ensures.image.disk) (c.in-Ok-play_load.ensures.disk.still refl))
 
 pub returns-in-Err-play_load-clause-unfaulted : goal.returns-in-Err-play_load-clause-unfaulted
 returns-in-Err-play_load-clause-unfaulted g c none =
     absurd (no_line_failed c.in-Err-play_load.halt (load_halt c.in-Err-play_load.halt (subst IsFaultlessLoad c.from-in-Err-play_load.ensures none)) c.in-Err-play_load.ensures.sink.cause)
+
+-- the image was not opened
+pub returns-in-Err-clause-image : goal.returns-in-Err-clause-image
+returns-in-Err-clause-image g c =
+    rw c.from.ensures (answers_failed g.D.Disk c.args.disk c.in-Err.disk _ c.in-Err.e refl c.in-Err.ensures.image (λ tells t image le may. g.met.D.Disk.counts_now tells c.in-Err.disk t image le may))
+
+pub returns-in-Ok-play_load-clause-image : goal.returns-in-Ok-play_load-clause-image
+returns-in-Ok-play_load-clause-image g c =
+    rw (c.close.ensures, c.status_after-status.ensures) (answers_opened g.D.Disk 0 c.args.disk _ _ _ (end_sound _ (written_end c.write_summary.result)) (λ tells none. (c.in-Ok.ensures.image.not_heap tells none).told) (λ tells at damage. (c.in-Ok.ensures.image.damaged tells at damage).told)
+    (λ tells. restarts_none 0 _ _ _ (λ done. refl) (c.play_load.ensures.disk.restarts tells ∙ c.in-Ok.ensures.image.disk.restarts tells)))
+
+pub returns-in-Err-play_load-clause-image : goal.returns-in-Err-play_load-clause-image
+returns-in-Err-play_load-clause-image g c =
+    rw (c.close-in-Err-play_load.ensures, c.from-in-Err-play_load.ensures) (answers_opened g.D.Disk 0 c.args.disk _ _ _ (end_sound _ (halt_end c.in-Err-play_load.halt)) (λ tells none. (c.in-Ok.ensures.image.not_heap tells none).told) (λ tells at damage. (c.in-Ok.ensures.image.damaged tells at damage).told)
+    (λ tells. restarts_none 0 _ _ _ (λ done. refl) (c.play_load.ensures.disk.restarts tells ∙ c.in-Ok.ensures.image.disk.restarts tells)))

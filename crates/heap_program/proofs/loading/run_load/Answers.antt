@@ -1,11 +1,12 @@
-use Rattle.std.proofs.Common.{◌≡◌, inl, inr, ℕ, Some, None, sym, ◌∙◌, subst}
+use Rattle.std.proofs.Common.{◌≡◌, inr, ℕ, Some, None, sym, ◌∙◌, subst, refl}
 use Rattle.heap_program.specs.Headline.{made_super, made_core}
 use Rattle.heap_program.specs.Load.{PlaysLoad}
 use Rattle.heap_program.proofs.CommandLaws.{opened_load, format_load}
 use Rattle.heap_program.proofs.PlayOpen.{new_stored, no_calls}
-use Rattle.heap_program.proofs.RunLaws.{large_made, end_sound}
+use Rattle.heap_program.proofs.RunLaws.{large_made, end_sound, restarts_none}
 use Rattle.heap_program.proofs.Unfaulted.{counts_on, keeps_counts, format_counts, load_not_disk}
 use Rattle.heap_program.specs.Causes.{IsFaultlessLoad}
+use Rattle.heap_program.proofs.ImageLaws.{answers_own, answers_made, never_restarted, format_not_done, format_not_refused, format_error_sound}
 use Rattle.heap_program.proofs.loading.run_load.Goals as goal
 
 pub returns-in-None-clause-ends : goal.returns-in-None-clause-ends
@@ -43,18 +44,8 @@ returns-in-Ok-clause-complete g c tells only can =
     let stored = new_stored c.in-Some.pages (g.D.Disk.bytes c.in-Ok.disk) made.0 in
     (c.load_whole-in-Ok.ensures.played tells stored made.1).played.end
 
-pub returns-in-Ok-clause-sound : goal.returns-in-Ok-clause-sound
-returns-in-Ok-clause-sound g c tells only pages is =
-    let made = c.in-Ok.ensures.made tells in
-    let stored = new_stored c.in-Some.pages (g.D.Disk.bytes c.in-Ok.disk) made.0 in
-    end_sound _ (c.load_whole-in-Ok.ensures.played tells stored made.1).played.end
-
--- the heap that was made is durable
-pub returns-in-Ok-clause-refused_at_end : goal.returns-in-Ok-clause-refused_at_end
-returns-in-Ok-clause-refused_at_end g c tells only = c.load_whole-in-Ok.ensures.refused_at_end tells (c.in-Ok.ensures.made tells).1
-
-pub returns-in-None-clause-opens_once : goal.returns-in-None-clause-opens_once
-returns-in-None-clause-opens_once g c tells unmade fault = c.load_whole.ensures.opens_once tells fault
+pub returns-in-Err-clause-prints : goal.returns-in-Err-clause-prints
+returns-in-Err-clause-prints g c tells = rw c.from.ensures (inl (format_not_done c.in-Err.e, format_not_refused c.in-Err.e, refl))
 
 -- no fault of the disk was ignored
 pub returns-in-Ok-clause-unfaulted : goal.returns-in-Ok-clause-unfaulted
@@ -64,3 +55,24 @@ returns-in-Ok-clause-unfaulted g c none =
 
 pub returns-in-Err-clause-unfaulted : goal.returns-in-Err-clause-unfaulted
 returns-in-Err-clause-unfaulted g c none = format_counts g.D.Disk c.args.disk c.in-Err.disk c.in-Err.e c.in-Err.ensures.disk (load_not_disk _ (subst IsFaultlessLoad c.from.ensures none))
+
+-- the image is the disk's own
+pub returns-in-None-clause-image : goal.returns-in-None-clause-image
+returns-in-None-clause-image g c = answers_own g.D.Disk 0 c.args.disk _ _ _ _ _ (λ here. c.in-None.is) (λ none. tt) c.load_whole.ensures.image
+
+-- or that of the heap that was made
+pub returns-in-Ok-clause-image : goal.returns-in-Ok-clause-image
+returns-in-Ok-clause-image g c =
+    let image = c.load_whole-in-Ok.ensures.image in
+    answers_made g.D.Disk 0 c.args.disk _ _ _ _ (λ none. let never : None ≡ Some c.in-Some.pages = sym none ∙ c.in-Some.is in cc never)
+    (λ tells only.
+    let made = c.in-Ok.ensures.made tells in
+    let stored = new_stored c.in-Some.pages (g.D.Disk.bytes c.in-Ok.disk) made.0 in
+    end_sound _ (c.load_whole-in-Ok.ensures.played tells stored made.1).played.end)
+    image.unwritten (λ tells. restarts_none 0 _ _ _ (λ done. refl) (never_restarted _ _ _ (image.restarts tells) ∙ c.in-Ok.ensures.disk.restarts tells))
+
+-- or none could be made
+pub returns-in-Err-clause-image : goal.returns-in-Err-clause-image
+returns-in-Err-clause-image g c =
+    rw c.from.ensures (answers_made g.D.Disk 0 c.args.disk _ _ _ _ (λ none. let never : None ≡ Some c.in-Some.pages = sym none ∙ c.in-Some.is in cc never)
+    (λ tells only. format_error_sound c.in-Err.e) (λ unstopped against. refl) (λ tells. restarts_none 0 _ _ _ (λ done. refl) (c.in-Err.ensures.disk.restarts tells)))

@@ -1,18 +1,16 @@
-use Rattle.std.proofs.Common.{◌≡◌, inr, ℕ, List, Some, None, Ok, sym, ap, ◌∙◌, subst, arith}
+use Rattle.std.proofs.Common.{◌≡◌, inr, ℕ, List, Some, None, Ok, sym, ap, ◌∙◌, subst, refl}
 use Rattle.script_text.specs.declared.line.Line.{Line}
 use Rattle.heap_program.proofs.CoreSteps.{script_is}
 use Rattle.heap_model.specs.Ending.{all_events}
 use Rattle.script_text.specs.Line.{events}
-use Rattle.heap_program.specs.Headline.{made_super, stop_after, IsPlayed, made_core}
+use Rattle.heap_program.specs.Headline.{made_super, stop_after, IsPlayed, made_core, RestartsDisk, restarts_asked}
 use Rattle.heap_program.specs.Playable.{IsScript, IsReadFrom}
-use Rattle.heap_program.specs.Refusals.{fault_calls}
 use Rattle.heap_program.proofs.PlayOpen.{new_stored, no_calls}
 use Rattle.heap_program.proofs.PlayPrints.{prints_script}
-use Rattle.heap_program.proofs.RunLaws.{large_made, not_read, end_sound}
-use Rattle.heap_program.proofs.RefusalLaws.{input_told_each, input_once, once_few, alone_untouched}
-use Rattle.heap_program.proofs.WordFaults.{untouched_log}
+use Rattle.heap_program.proofs.RunLaws.{large_made, not_read, end_sound, restarts_none}
 use Rattle.heap_program.proofs.Unfaulted.{counts_on, keeps_counts, format_counts, not_disk}
 use Rattle.heap_program.specs.Causes.{IsFaultless}
+use Rattle.heap_program.proofs.ImageLaws.{answers_own, answers_made, answers_unread, format_error_sound, format_not_done}
 use Rattle.heap_program.proofs.playing.run_play.Goals as goal
 
 pub play_script-requires : goal.play_script-requires
@@ -61,30 +59,11 @@ returns-in-Ok-format-clause-complete g c tells only can told lines good unharmed
     let stored = new_stored c.in-Some.pages (d.bytes c.in-Ok-format.disk) made.0 in
     (c.play_script-in-Ok-format.ensures.played tells stored made.1).end
 
-pub returns-in-Ok-format-clause-sound : goal.returns-in-Ok-format-clause-sound
-returns-in-Ok-format-clause-sound g c tells only pages is =
-    let d = g.D.Disk in
-    let made = c.in-Ok-format.ensures.made tells in
-    let stored = new_stored c.in-Some.pages (d.bytes c.in-Ok-format.disk) made.0 in
-    end_sound _ (c.play_script-in-Ok-format.ensures.played tells stored made.1).end
-
--- A script that was bad or could not be read says nothing of the image.
-pub returns-in-Err-clause-refused_at_end : goal.returns-in-Err-clause-refused_at_end
-returns-in-Err-clause-refused_at_end g c tells only = input_told_each _ _ c.in-Err.ensures.status
-
--- the heap that was made is durable
-pub returns-in-Ok-format-clause-refused_at_end : goal.returns-in-Ok-format-clause-refused_at_end
-returns-in-Ok-format-clause-refused_at_end g c tells only = c.play_script-in-Ok-format.ensures.refused_at_end tells (c.in-Ok-format.ensures.made tells).1
-
 pub returns-in-Err-clause-headline : goal.returns-in-Err-clause-headline
 returns-in-Err-clause-headline g c tells only =
     let d = g.D.Disk in
     not_read d c.args.disk only (λ image since. g.met.D.Disk.only_now tells c.args.disk image since) c.args.fresh c.args.stop (IsReadFrom g.S.Source.tells (g.S.Source.left c.args.source.now)) c.in-Err.status g.K.Sink.tells (g.K.Sink.written c.args.sink.now)
     c.in-Err.ensures.status
-
--- a script that was not read left the disk alone
-pub returns-in-Err-clause-left_alone : goal.returns-in-Err-clause-left_alone
-returns-in-Err-clause-left_alone g c tells none expected fault alone = alone_untouched g.D.Disk c.args.disk (λ image since. g.met.D.Disk.only_now tells c.args.disk image since)
 
 -- the image that was opened is the disk's own
 pub returns-in-None-clause-prints : goal.returns-in-None-clause-prints
@@ -103,25 +82,6 @@ returns-in-Ok-format-clause-prints g c tells =
     (record { bytes = read.0; script = read.1 ∙ ap (λ (ls : List Line). Ok ls) (sym c.deref-in-Ok-format.ensures.value); own = read.2 })
     (λ s batches stored gates own none. let never : None ≡ Some c.in-Some.pages = sym none ∙ c.in-Some.is in cc never) (c.play_script-in-Ok-format.ensures.prints tells)
 
--- an image that is damaged at an address was left alone
-pub returns-in-Err-clause-keeps_log : goal.returns-in-Err-clause-keeps_log
-returns-in-Err-clause-keeps_log g c tells only none fault =
-    untouched_log g.D.Disk c.args.disk only (λ image since. g.met.D.Disk.only_now tells c.args.disk image since) fault
-
--- a script that was bad or could not be read made no call
-pub returns-in-Err-clause-opens_once : goal.returns-in-Err-clause-opens_once
-returns-in-Err-clause-opens_once g c tells none unstopped fault = input_once (fault_calls fault) (g.D.Disk.passed c.args.disk) _ c.in-Err.ensures.status
-
-pub returns-in-None-clause-opens_once : goal.returns-in-None-clause-opens_once
-returns-in-None-clause-opens_once g c tells unmade unstopped fault = c.play_script.ensures.opens_once tells unstopped fault
-
--- with a stop they are no more
-pub returns-in-Err-clause-opens_few : goal.returns-in-Err-clause-opens_few
-returns-in-Err-clause-opens_few g c tells none unstarted fault = once_few (fault_calls fault) _ _ c.in-Err.status (input_once (fault_calls fault) (g.D.Disk.passed c.args.disk) c.in-Err.status c.in-Err.ensures.status)
-
-pub returns-in-None-clause-opens_few : goal.returns-in-None-clause-opens_few
-returns-in-None-clause-opens_few g c tells unmade unstarted fault = c.play_script.ensures.opens_few tells unstarted fault
-
 -- no fault of the disk was ignored
 pub returns-in-Ok-format-clause-unfaulted : goal.returns-in-Ok-format-clause-unfaulted
 returns-in-Ok-format-clause-unfaulted g c unstopped none =
@@ -131,3 +91,31 @@ returns-in-Ok-format-clause-unfaulted g c unstopped none =
 pub returns-clause-unfaulted : goal.returns-clause-unfaulted
 returns-clause-unfaulted g c unstopped none =
     format_counts g.D.Disk c.args.disk c.in-Err-format.disk c.in-Err-format.e c.in-Err-format.ensures.disk (not_disk _ (subst IsFaultless c.from.ensures none))
+
+-- the image is the disk's own
+pub returns-in-None-clause-image : goal.returns-in-None-clause-image
+returns-in-None-clause-image g c = answers_own g.D.Disk (restarts_asked c.args.stop) c.args.disk _ _ _ _ _ (λ here. c.in-None.is) (λ none. tt) c.play_script.ensures.image
+
+-- or that of the heap that was made
+pub returns-in-Ok-format-clause-image : goal.returns-in-Ok-format-clause-image
+returns-in-Ok-format-clause-image g c =
+    let image = c.play_script-in-Ok-format.ensures.image in
+    let r = g.D.Disk.restarts in
+    answers_made g.D.Disk (restarts_asked c.args.stop) c.args.disk _ _ _ _ (λ none. let never : None ≡ Some c.in-Some.pages = sym none ∙ c.in-Some.is in cc never)
+    (λ tells only.
+    let made = c.in-Ok-format.ensures.made tells in
+    let stored = new_stored c.in-Some.pages (g.D.Disk.bytes c.in-Ok-format.disk) made.0 in
+    end_sound _ (c.play_script-in-Ok-format.ensures.played tells stored made.1).end)
+    image.unwritten
+    (λ tells. subst (λ (n : ℕ). RestartsDisk (restarts_asked c.args.stop) c.play_script-in-Ok-format.result.0 n (r c.play_script-in-Ok-format.result.1)) (c.in-Ok-format.ensures.disk.restarts tells) (image.restarts tells))
+
+-- or none could be made
+pub returns-clause-image : goal.returns-clause-image
+returns-clause-image g c =
+    rw c.from.ensures (answers_made g.D.Disk (restarts_asked c.args.stop) c.args.disk _ _ _ _ (λ none. let never : None ≡ Some c.in-Some.pages = sym none ∙ c.in-Some.is in cc never)
+    (λ tells only. format_error_sound c.in-Err-format.e) (λ unstopped against. refl)
+    (λ tells. restarts_none (restarts_asked c.args.stop) _ _ _ (λ done. absurd (format_not_done c.in-Err-format.e done)) (c.in-Err-format.ensures.disk.restarts tells)))
+
+-- a script that was bad or could not be read left all as it was
+pub returns-in-Err-clause-image : goal.returns-in-Err-clause-image
+returns-in-Err-clause-image g c = answers_unread g.D.Disk _ (restarts_asked c.args.stop) c.args.disk _ _ c.in-Err.ensures.status refl (λ tells image since. g.met.D.Disk.only_now tells c.args.disk image since)

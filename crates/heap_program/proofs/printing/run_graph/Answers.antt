@@ -8,16 +8,16 @@ use Rattle.page_store.specs.Gates.{open_gates}
 use Rattle.heap_program.specs.Headline.{graph_text}
 use Rattle.heap_program.proofs.PlayOpen.{opened_core}
 use Rattle.heap_program.proofs.PrintRecovered.{fails_most}
-use Rattle.heap_recovery.specs.declared.at.At.TheVariants.{Address}
 use Rattle.heap_recovery.proofs.FaultLaws.{shaped_readable}
-use Rattle.heap_program.proofs.RefusalLaws.{told_status, told_each, end_told, end_told_each, refused_by, not_opened, only_read, alone_read, fault_moments, left_moments, opens_once, left_outside}
+use Rattle.heap_program.proofs.RefusalLaws.{left_outside}
 use Rattle.heap_program.proofs.Statuses.{open_end, open_not_done, written_end, wrote_all}
 use Rattle.heap_program.proofs.Written.{none_written, wrote_some}
 use Rattle.heap_program.proofs.Reopened.{reads_only, refused_memory, outside_memory}
-use Rattle.heap_program.proofs.RunLaws.{end_sound}
+use Rattle.heap_program.proofs.RunLaws.{end_sound, restarts_none}
 use Rattle.heap_program.proofs.Unfaulted.{keeps_counts, open_counts}
 use Rattle.heap_program.specs.declared.status.Status.{Status}
 use Rattle.heap_program.specs.declared.status.Status.TheVariants as status
+use Rattle.heap_program.proofs.ImageLaws.{answers_failed, answers_opened}
 use Rattle.heap_program.proofs.printing.run_graph.Goals as goal
 
 pub returns-in-Ok-clause-graph : goal.returns-in-Ok-clause-graph
@@ -31,15 +31,15 @@ returns-in-Ok-clause-graph g c tells only s batches stored shaped born places gr
     let reached = opened_reached s batches stored shaped.log gates born places graph found in
     let before = k.written c.args.sink.now in
     let after = k.written c.write_graph.new.sink in
-    let passed : d.passed c.in-Ok.heap.disk ≡ counted (opening_calls s batches) (d.passed c.args.disk) = (e.passes tells s batches stored shaped).ok in
+    let passed : d.passed c.in-Ok.heap.disk ≡ counted (opening_calls s batches) (d.passed c.args.disk) = (e.image.shaped tells s batches stored shaped).passes.ok in
     rw (c.close.ensures, c.status_after-status.ensures) (record {
-      moments = e.moments tells only s batches stored shaped;
-      left = e.crash tells only s batches stored shaped;
-      outside = left_outside d s batches c.args.disk c.in-Ok.heap.disk (e.moments_readable tells only s batches shaped.log.state (shaped_readable s batches stored (d.bytes c.args.disk) shaped));
+      moments = (e.image.shaped tells s batches stored shaped).moments only;
+      left = (e.image.shaped tells s batches stored shaped).crash only;
+      outside = left_outside d s batches c.args.disk c.in-Ok.heap.disk ((e.image.readable tells s batches shaped.log.state (shaped_readable s batches stored (d.bytes c.args.disk) shaped)).moments only);
       calls = record { times = opening_calls s batches; most = omega arith; all = λ done. refl; told = passed };
-      restarts = e.disk.restarts tells;
-      holds = λ done. (e.rolled tells s batches stored shaped, e.durable tells only);
-      settled = λ other. e.durable tells only;
+      restarts = e.image.disk.restarts tells;
+      holds = λ done. ((e.image.shaped tells s batches stored shaped).holds, e.image.durable tells only);
+      settled = λ other. e.image.durable tells only;
       written = λ t. record {
         front = wrote_some c.write_graph.result before (graph_text graph) after (c.write_graph.ensures.wrote t core is reached);
         whole = λ done. wrote_all c.write_graph.result before (graph_text graph) after done (c.write_graph.ensures.wrote t core is reached);
@@ -52,17 +52,17 @@ returns-in-Err-clause-graph g c tells only s batches stored shaped born places g
     let d = g.D.Disk in
     let k = g.K.Sink in
     let e = c.in-Err.ensures in
-    let most = fails_most (opening_calls s batches) (d.passed c.args.disk) (d.passed c.in-Err.disk) c.in-Err.e (e.passes tells s batches stored shaped) in
+    let most = fails_most (opening_calls s batches) (d.passed c.args.disk) (d.passed c.in-Err.disk) c.in-Err.e ((e.image.shaped tells s batches stored shaped).passes) in
     rw c.from.ensures (record {
-      moments = e.moments tells only s batches stored shaped;
-      left = e.crash tells only s batches stored shaped;
-      outside = left_outside d s batches c.args.disk c.in-Err.disk (e.moments_readable tells only s batches shaped.log.state (shaped_readable s batches stored (d.bytes c.args.disk) shaped));
+      moments = (e.image.shaped tells s batches stored shaped).moments only;
+      left = (e.image.shaped tells s batches stored shaped).crash only;
+      outside = left_outside d s batches c.args.disk c.in-Err.disk ((e.image.readable tells s batches shaped.log.state (shaped_readable s batches stored (d.bytes c.args.disk) shaped)).moments only);
       calls = record { times = most.0; most = most.1; all = λ done. absurd (open_not_done c.in-Err.e done); told = most.2 };
-      restarts = e.disk.restarts tells;
+      restarts = e.image.disk.restarts tells;
       holds = λ done. absurd (open_not_done c.in-Err.e done);
-      settled = λ other. reads_only d c.args.disk c.in-Err.disk ((e.left_alone (refused_memory c.in-Err.e (outside_memory c.in-Err.e (e.shaped tells s batches stored shaped) other))).contents tells) only;
+      settled = λ other. reads_only d c.args.disk c.in-Err.disk ((e.image.left_alone (refused_memory c.in-Err.e (outside_memory c.in-Err.e ((e.image.shaped tells s batches stored shaped).error) other))).contents tells) only;
       written = λ t. record { front = none_written (k.written c.args.sink.now) (graph_text graph); whole = λ done. absurd (open_not_done c.in-Err.e done) };
-      end = open_end c.in-Err.e (e.shaped tells s batches stored shaped);
+      end = open_end c.in-Err.e ((e.image.shaped tells s batches stored shaped).error);
     })
 
 pub returns-in-Ok-clause-prints : goal.returns-in-Ok-clause-prints
@@ -82,63 +82,19 @@ returns-in-Ok-clause-prints g c tells =
       },
     ))
 
-pub returns-in-Ok-clause-refused : goal.returns-in-Ok-clause-refused
-returns-in-Ok-clause-refused g c tells = rw c.status_after-status.ensures (end_told _ (g.D.Disk.bytes c.args.disk) (written_end c.write_graph.result))
-
-pub returns-in-Err-clause-refused : goal.returns-in-Err-clause-refused
-returns-in-Err-clause-refused g c tells = rw c.from.ensures (told_status c.in-Err.e (g.D.Disk.bytes c.args.disk) (c.in-Err.ensures.refused tells))
-
-pub returns-in-Ok-clause-refuses : goal.returns-in-Ok-clause-refuses
-returns-in-Ok-clause-refuses g c tells expected fault = absurd (not_opened expected (g.D.Disk.bytes c.args.disk) fault (c.in-Ok.ensures.not_heap tells) (c.in-Ok.ensures.damaged tells))
-
-pub returns-in-Err-clause-refuses : goal.returns-in-Err-clause-refuses
-returns-in-Err-clause-refuses g c tells expected fault = (rw c.from.ensures (refused_by expected (g.D.Disk.bytes c.args.disk) c.in-Err.e fault (c.in-Err.ensures.not_heap tells) (c.in-Err.ensures.damaged tells)), refl)
-
-pub returns-in-Ok-clause-left_alone : goal.returns-in-Ok-clause-left_alone
-returns-in-Ok-clause-left_alone g c tells expected fault alone = absurd (not_opened expected (g.D.Disk.bytes c.args.disk) fault (c.in-Ok.ensures.not_heap tells) (c.in-Ok.ensures.damaged tells))
-
-pub returns-in-Err-clause-left_alone : goal.returns-in-Err-clause-left_alone
-returns-in-Err-clause-left_alone g c tells expected fault alone =
-    let d = g.D.Disk in
-    alone_read d c.args.disk c.in-Err.disk _ tells (only_read d expected (d.bytes c.args.disk) c.args.disk c.in-Err.disk _ fault alone (c.in-Err.ensures.reads_not_heap tells) (c.in-Err.ensures.reads_damaged tells))
-
-pub returns-in-Err-clause-keeps_fault : goal.returns-in-Err-clause-keeps_fault
-returns-in-Err-clause-keeps_fault g c tells only expected fault =
-    fault_moments g.D.Disk expected (g.D.Disk.bytes c.args.disk) c.args.disk c.in-Err.disk fault (c.in-Err.ensures.moments_not_heap tells only) (c.in-Err.ensures.moments_damaged tells only)
-
-pub returns-in-Ok-clause-keeps_fault : goal.returns-in-Ok-clause-keeps_fault
-returns-in-Ok-clause-keeps_fault g c tells only expected fault = absurd (not_opened expected (g.D.Disk.bytes c.args.disk) fault (c.in-Ok.ensures.not_heap tells) (c.in-Ok.ensures.damaged tells))
-
--- a status against the image is true of what a crash may leave now
-pub returns-in-Ok-clause-refused_at_end : goal.returns-in-Ok-clause-refused_at_end
-returns-in-Ok-clause-refused_at_end g c tells only = rw c.status_after-status.ensures (end_told_each _ _ (written_end c.write_graph.result))
-
-pub returns-in-Err-clause-refused_at_end : goal.returns-in-Err-clause-refused_at_end
-returns-in-Err-clause-refused_at_end g c tells only =
-    told_each g.D.Disk c.in-Err.e c.from.result c.args.disk c.in-Err.disk c.from.ensures (c.in-Err.ensures.refused tells) (c.in-Err.ensures.moments_not_heap tells only) (c.in-Err.ensures.moments_damaged tells only)
-    (λ t image le may. g.met.D.Disk.counts_now tells c.in-Err.disk t image le may)
-
-pub returns-in-Ok-clause-unwritten : goal.returns-in-Ok-clause-unwritten
-returns-in-Ok-clause-unwritten g c against = absurd (against (rw c.status_after-status.ensures (end_sound _ (written_end c.write_graph.result))))
-
-pub returns-in-Err-clause-keeps_log : goal.returns-in-Err-clause-keeps_log
-returns-in-Err-clause-keeps_log g c tells only fault = left_moments g.D.Disk (g.D.Disk.bytes c.args.disk) c.args.disk c.in-Err.disk fault (c.in-Err.ensures.moments_readable tells only)
-
-pub returns-in-Ok-clause-keeps_log : goal.returns-in-Ok-clause-keeps_log
-returns-in-Ok-clause-keeps_log g c tells only fault = absurd (c.in-Ok.ensures.damaged tells (Address fault.0) fault.1)
-
--- it made the writes and syncs of one opening
-pub returns-in-Err-clause-opens_once : goal.returns-in-Err-clause-opens_once
-returns-in-Err-clause-opens_once g c tells fault =
-    let d = g.D.Disk in
-    rw c.from.ensures (opens_once (d.bytes c.args.disk) (d.passed c.args.disk) (d.passed c.in-Err.disk) c.in-Err.e fault (c.in-Err.ensures.refused tells) (c.in-Err.ensures.passes_readable tells))
-
-pub returns-in-Ok-clause-opens_once : goal.returns-in-Ok-clause-opens_once
-returns-in-Ok-clause-opens_once g c tells fault = absurd (c.in-Ok.ensures.damaged tells (Address fault.0) fault.1)
-
 -- no fault of the disk was ignored
 pub returns-in-Err-clause-unfaulted : goal.returns-in-Err-clause-unfaulted
-returns-in-Err-clause-unfaulted g c none = open_counts g.D.Disk c.args.disk c.in-Err.disk c.in-Err.e c.in-Err.ensures.disk (subst (λ (s : Status). s ≢ status.DiskFault) c.from.ensures none)
+returns-in-Err-clause-unfaulted g c none = open_counts g.D.Disk c.args.disk c.in-Err.disk c.in-Err.e c.in-Err.ensures.image.disk (subst (λ (s : Status). s ≢ status.DiskFault) c.from.ensures none)
 
 pub returns-in-Ok-clause-unfaulted : goal.returns-in-Ok-clause-unfaulted
-returns-in-Ok-clause-unfaulted g c none = rw c.close.ensures (keeps_counts g.D.Disk c.args.disk c.in-Ok.heap.disk tt c.in-Ok.ensures.disk)
+returns-in-Ok-clause-unfaulted g c none = rw c.close.ensures (keeps_counts g.D.Disk c.args.disk c.in-Ok.heap.disk tt c.in-Ok.ensures.image.disk)
+
+-- the image was not opened
+pub returns-in-Err-clause-image : goal.returns-in-Err-clause-image
+returns-in-Err-clause-image g c =
+    rw c.from.ensures (answers_failed g.D.Disk c.args.disk c.in-Err.disk _ c.in-Err.e refl c.in-Err.ensures.image (λ tells t image le may. g.met.D.Disk.counts_now tells c.in-Err.disk t image le may))
+
+pub returns-in-Ok-clause-image : goal.returns-in-Ok-clause-image
+returns-in-Ok-clause-image g c =
+    rw (c.close.ensures, c.status_after-status.ensures) (answers_opened g.D.Disk 0 c.args.disk _ _ _ (end_sound _ (written_end c.write_graph.result)) (λ tells none. (c.in-Ok.ensures.image.not_heap tells none).told) (λ tells at damage. (c.in-Ok.ensures.image.damaged tells at damage).told)
+    (λ tells. restarts_none 0 _ _ _ (λ done. refl) (c.in-Ok.ensures.image.disk.restarts tells)))

@@ -1,9 +1,9 @@
-use Rattle.std.proofs.Common.{◌≡◌, ◌∙◌, ℕ, ◌≤◌, suc, zero, [], refl, arith, subst, sym}
-use Rattle.std.specs.Prelude.{IsTrue}
+use Rattle.std.proofs.Common.{◌∙◌, suc, [], refl, arith, subst, sym}
 use Rattle.heap_program.specs.Causes.{IsFaultless}
+use Rattle.heap_program.proofs.ImageLaws.{never_restarted}
 use Rattle.heap_program.proofs.Unfaulted.{counts_on}
 use Rattle.heap_program.proofs.Written.{front_written}
-use Rattle.session_program.specs.Parts.{Place, ServesPart, Parts}
+use Rattle.session_program.specs.Parts.{Place, ServesPart}
 use Rattle.session_program.proofs.PartLaws.{on_done, on_error, error_of, last_part, no_part, told_part, untold_part}
 use Rattle.session_program.proofs.serving.serve.Goals as goal
 
@@ -32,16 +32,8 @@ returns-in-End-clause-parts g c =
       unfaulted = e.unfaulted;
       serves = e.serves;
       served = e.served;
-      restarts = e.restarts;
       complete = e.complete;
-      unwritten = e.unwritten;
-      refused = e.refused;
-      refused_at_end = e.refused_at_end;
-      refuses = e.refuses;
-      left_alone = e.left_alone;
-      keeps_fault = e.keeps_fault;
-      keeps_log = e.keeps_log;
-      opens_once = e.opens_once;
+      image = e.image;
     } in
     (p.new.reader.held, last_part d s k old here l.invariant.parts.0 l.invariant.parts.1 p.result.0 p.result.2 closed part c.in-End.is)
 
@@ -65,16 +57,8 @@ returns-then-is_err-clause-parts g c =
       unfaulted = e.unfaulted;
       serves = e.serves;
       served = e.served;
-      restarts = e.restarts;
       complete = e.complete;
-      unwritten = e.unwritten;
-      refused = e.refused;
-      refused_at_end = e.refused_at_end;
-      refuses = e.refuses;
-      left_alone = e.left_alone;
-      keeps_fault = e.keeps_fault;
-      keeps_log = e.keeps_log;
-      opens_once = e.opens_once;
+      image = e.image;
     } in
     let failed = sym c.is_err.ensures.value ∙ c.if-is_err.true in
     (p.new.reader.held, untold_part d s k old here l.invariant.parts.0 l.invariant.parts.1 p.result.0 p.result.2 closed part c.in-Reopen.is c.put_all.new.sink (c.put_all.ensures.cause.failed (error_of c.put_all.result failed)) (λ t. front_written _ _ _ _ refl (on_error c.put_all.result failed (c.put_all.ensures.front t))))
@@ -99,16 +83,8 @@ loop-part-preserved g c =
       unfaulted = e.unfaulted;
       serves = e.serves;
       served = e.served;
-      restarts = e.restarts;
       complete = e.complete;
-      unwritten = e.unwritten;
-      refused = e.refused;
-      refused_at_end = e.refused_at_end;
-      refuses = e.refuses;
-      left_alone = e.left_alone;
-      keeps_fault = e.keeps_fault;
-      keeps_log = e.keeps_log;
-      opens_once = e.opens_once;
+      image = e.image;
     } in
     let i = l.invariant in
     record {
@@ -117,7 +93,7 @@ loop-part-preserved g c =
       sink = omega (arith, i.sink, e.write_fault.kept, c.put_all.ensures.cause.kept);
       disk = record { extent = e.disk_fault.extent ∙ i.disk.extent; origin = e.disk_fault.origin ∙ i.disk.origin; kept = omega (arith, i.disk.kept, e.disk_fault.kept); cause = λ never. absurd never };
       counts = counts_on d _ _ _ i.counts (e.unfaulted (subst IsFaultless (sym (e.done c.in-Reopen.is)) tt));
-      restarts = λ t. e.restarts t ∙ i.restarts t;
+      restarts = λ t. never_restarted _ _ _ (e.image.restarts t) ∙ i.restarts t;
       parts = (suc i.parts.0, told_part d s k old here i.parts.0 i.parts.1 p.result.0 p.result.2 closed part c.in-Reopen.is c.put_all.new.sink c.put_all.ensures.cause.kept (λ t. on_done c.put_all.result (sym c.is_err.ensures.value ∙ c.if-is_err.false) (c.put_all.ensures.all t)));
     }
 
@@ -134,3 +110,10 @@ returns-clause-parts g c =
 -- no fault of the disk was ignored
 pub returns-in-End-clause-unfaulted : goal.returns-in-End-clause-unfaulted
 returns-in-End-clause-unfaulted g c none = counts_on g.D.Disk _ _ _ c.loop-part.invariant.counts (c.serve_part-status.ensures.unfaulted none)
+
+-- nor was the disk restarted
+pub returns-in-End-clause-restarts : goal.returns-in-End-clause-restarts
+returns-in-End-clause-restarts g c tells = never_restarted _ _ _ (c.serve_part-status.ensures.image.restarts tells) ∙ c.loop-part.invariant.restarts tells
+
+pub returns-then-is_err-clause-restarts : goal.returns-then-is_err-clause-restarts
+returns-then-is_err-clause-restarts g c tells = never_restarted _ _ _ (c.serve_part-status.ensures.image.restarts tells) ∙ c.loop-part.invariant.restarts tells

@@ -1,17 +1,15 @@
-use Rattle.std.proofs.Common.{◌≡◌, ℕ, Option, None, Some, refl, ap, ◌∙◌, subst, arith}
+use Rattle.std.proofs.Common.{◌≡◌, ℕ, Option, None, Some, refl, ap, ◌∙◌, subst}
 use Rattle.std.specs.Prelude.{IfSome}
 use Rattle.command_words.specs.declared.commands.Command.TheVariants as asked
 use Rattle.command_words.specs.declared.commands.Command.{Command}
 use Rattle.command_words.specs.declared.commands.CommandError.TheVariants as asking
 use Rattle.command_words.specs.Limits.{IsPages, IsWithin}
-use Rattle.heap_program.specs.Commands.{makes, MeetsNoFault}
+use Rattle.heap_program.specs.Commands.{makes, MeetsNoFault, restarts_of}
 use Rattle.heap_program.specs.Headline.{made_super}
 use Rattle.heap_program.specs.Playable.{IsReadFrom}
 use Rattle.heap_program.proofs.CommandLaws.{graph_unread}
-use Rattle.heap_program.proofs.WordFaults.{untouched_log}
-use Rattle.heap_program.proofs.RefusalLaws.{once_few}
-use Rattle.heap_program.specs.Refusals.{fault_calls}
 use Rattle.thread_program.proofs.SafeLaws.{runs_safely}
+use Rattle.heap_program.proofs.ImageLaws.{answers_own, answers_unread}
 use Rattle.thread_program.proofs.program.run.Goals as goal
 
 pub returns-in-Ok-Threads-clause-too_small : goal.returns-in-Ok-Threads-clause-too_small
@@ -44,31 +42,26 @@ returns-in-Err-NoMemory-clause-graph g c tells only is s batches stored shaped b
     let now = (g.met.D.Disk g.world.𝓛 g.world.𝓜 g.world.𝓡 ((λ s x. x), (λ x. x), (λ x. x), λ x. x)).only_now in
     graph_unread g.D.Disk c.args.disk asking.NoMemory _ is (λ same. cc) _ refl (λ image since. now tells c.args.disk image since) only s batches stored graph shaped.held g.K.Sink.tells (g.K.Sink.written c.args.sink.now)
 
-pub returns-in-Err-NoMemory-clause-keeps_log : goal.returns-in-Err-NoMemory-clause-keeps_log
-returns-in-Err-NoMemory-clause-keeps_log g c tells only asked is none fault =
-    let now = (g.met.D.Disk g.world.𝓛 g.world.𝓜 g.world.𝓡 ((λ s x. x), (λ x. x), (λ x. x), λ x. x)).only_now in
-    untouched_log g.D.Disk c.args.disk only (λ image since. now tells c.args.disk image since) fault
+-- no fault of the disk is ignored
+pub returns-in-Ok-Threads-clause-unfaulted : goal.returns-in-Ok-Threads-clause-unfaulted
+returns-in-Ok-Threads-clause-unfaulted g c which is unstopped none =
+    let same : which ≡ asked.Threads c.in-Ok-Threads.fresh c.in-Ok-Threads.tries = cc (is, c.in-Ok-Threads.ensures.read, c.in-Ok-Threads.field-0-is) in
+    c.run_threads.ensures.unfaulted (subst (λ (x : Command). MeetsNoFault x c.run_threads.result.0) same none)
 
 -- where no heap is made, no pages are asked for
 threads_made : (fresh : Option ℕ) (tries : ℕ) → makes (asked.Threads fresh tries) ≡ None → fresh ≡ None
 threads_made None tries none = refl
 threads_made (Some pages) tries none = cc
 
-pub returns-in-Ok-Threads-clause-opens_once : goal.returns-in-Ok-Threads-clause-opens_once
-returns-in-Ok-Threads-clause-opens_once g c tells which is none unstopped fault =
-    let same : which ≡ asked.Threads c.in-Ok-Threads.fresh c.in-Ok-Threads.tries = cc (is, c.in-Ok-Threads.ensures.read, c.in-Ok-Threads.field-0-is) in
-    c.run_threads.ensures.opens_once tells (threads_made c.in-Ok-Threads.fresh c.in-Ok-Threads.tries (subst (λ (x : Command). makes x ≡ None) same none)) fault
+none_threads : (fresh : Option ℕ) (tries : ℕ) → fresh ≡ None → makes (asked.Threads fresh tries) ≡ None
+none_threads None tries none = refl
+none_threads (Some pages) tries none = cc
 
-pub returns-in-Ok-Threads-clause-opens_few : goal.returns-in-Ok-Threads-clause-opens_few
-returns-in-Ok-Threads-clause-opens_few g c tells which is none unstarted fault =
+pub returns-in-Ok-Threads-clause-image : goal.returns-in-Ok-Threads-clause-image
+returns-in-Ok-Threads-clause-image g c which is =
     let same : which ≡ asked.Threads c.in-Ok-Threads.fresh c.in-Ok-Threads.tries = cc (is, c.in-Ok-Threads.ensures.read, c.in-Ok-Threads.field-0-is) in
-    once_few (fault_calls fault) _ _ c.run_threads.result.0 (c.run_threads.ensures.opens_once tells (threads_made c.in-Ok-Threads.fresh c.in-Ok-Threads.tries (subst (λ (x : Command). makes x ≡ None) same none)) fault)
+    rw same (answers_own g.D.Disk 0 c.args.disk _ _ _ _ _ (none_threads c.in-Ok-Threads.fresh c.in-Ok-Threads.tries) (threads_made c.in-Ok-Threads.fresh c.in-Ok-Threads.tries) c.run_threads.ensures.image)
 
-pub returns-in-Err-NoMemory-clause-opens_few : goal.returns-in-Err-NoMemory-clause-opens_few
-returns-in-Err-NoMemory-clause-opens_few g c tells which is none unstarted fault = refl
-
--- no fault of the disk is ignored
-pub returns-in-Ok-Threads-clause-unfaulted : goal.returns-in-Ok-Threads-clause-unfaulted
-returns-in-Ok-Threads-clause-unfaulted g c which is unstopped none =
-    let same : which ≡ asked.Threads c.in-Ok-Threads.fresh c.in-Ok-Threads.tries = cc (is, c.in-Ok-Threads.ensures.read, c.in-Ok-Threads.field-0-is) in
-    c.run_threads.ensures.unfaulted (subst (λ (x : Command). MeetsNoFault x c.run_threads.result.0) same none)
+-- words for which there was no memory
+pub returns-in-Err-NoMemory-clause-image : goal.returns-in-Err-NoMemory-clause-image
+returns-in-Err-NoMemory-clause-image g c which is = answers_unread g.D.Disk (makes which ≡ None) (restarts_of which) c.args.disk _ _ tt refl (λ tells image since. (g.met.D.Disk g.world.𝓛 g.world.𝓜 g.world.𝓡 ((λ s x. x), (λ x. x), (λ x. x), λ x. x)).only_now tells c.args.disk image since)

@@ -7,18 +7,18 @@ use Rattle.heap_program.specs.StatusOf.{open_status}
 use Rattle.heap_program.proofs.Behind.{HasImages, opening_behind}
 use Rattle.heap_program.proofs.Causes.{disk_rose_since}
 use Rattle.heap_program.proofs.Counts.{counted_mono}
-use Rattle.heap_program.proofs.PlayOpen.{stored_running, stored_keeps, stored_moments, stored_super, opened_core}
+use Rattle.heap_program.proofs.PlayOpen.{opening_stops, stored_running, stored_keeps, stored_moments, stored_super, opened_core}
 use Rattle.heap_program.proofs.PrintRecovered.{fails_most, fails_none, no_rollback}
-use Rattle.heap_program.proofs.RefusalLaws.{told_status, told_each, end_told, end_told_each, refused_by, not_opened, only_read, alone_read, fault_moments, left_moments, opens_once}
 use Rattle.heap_program.proofs.Reopened.{reads_only, refused_memory}
 use Rattle.heap_program.proofs.RunLaws.{end_sound}
-use Rattle.heap_program.proofs.Statuses.{open_not_done, open_harm}
-use Rattle.heap_recovery.specs.declared.at.At.TheVariants.{Address}
+use Rattle.heap_program.proofs.Statuses.{open_not_done, open_not_refused, open_harm}
 use Rattle.heap_recovery.proofs.FaultLaws.{shaped_readable}
 use Rattle.thread_program.proofs.PlayedLaws.{OpenedOn, played_together}
-use Rattle.thread_program.proofs.UnopenedLaws.{open_not_refused, unopened_together}
+use Rattle.thread_program.proofs.UnopenedLaws.{unopened_together}
 use Rattle.heap_program.specs.Causes.{IsFaultless}
 use Rattle.heap_program.proofs.Unfaulted.{counts_on, keeps_counts, open_counts, faultless_done, not_disk}
+use Rattle.heap_program.proofs.ImageLaws.{answers_failed, answers_opened}
+use Rattle.heap_program.proofs.RunLaws.{end_sound, restarts_none}
 use Rattle.thread_program.proofs.threads.play_by_workers.Goals as goal
 
 pub returns-in-Err-clause-played : goal.returns-in-Err-clause-played
@@ -26,22 +26,22 @@ returns-in-Err-clause-played g c tells stored only =
     let d = g.D.Disk in
     let e = c.in-Err.ensures in
     let shaped = shaped_image stored.legal in
-    let passes = e.passes tells stored.super stored.batches stored.pages shaped in
-    let outside = e.shaped tells stored.super stored.batches stored.pages shaped in
+    let passes = (e.image.shaped tells stored.super stored.batches stored.pages shaped).passes in
+    let outside = (e.image.shaped tells stored.super stored.batches stored.pages shaped).error in
     let few = fails_most (stored_calls stored) (d.passed c.args.disk) (d.passed c.in-Err.disk) c.in-Err.e passes in
     let most = counted_mono few.0 (stored_calls stored) (d.passed c.args.disk) few.1 in
     let total = counted_mono few.0 (stored_calls stored + 0) (d.passed c.args.disk) (omega (arith, few.1)) in
     unopened_together d stored c.args.tries c.args.script.now c.in-Err.e c.from.result c.args.disk c.in-Err.disk g.K.Sink.tells (g.K.Sink.written c.args.sink.now) c.requires.tries c.from.ensures outside
-    (stored_moments d stored c.args.disk c.in-Err.disk (e.moments tells only stored.super stored.batches stored.pages shaped))
+    (stored_moments d stored c.args.disk c.in-Err.disk ((e.image.shaped tells stored.super stored.batches stored.pages shaped).moments only))
     (opening_behind d (stored_core stored) stored.super stored.batches (d.bytes c.args.disk) c.args.disk c.in-Err.disk (stored_super d stored)
-    (e.moments_readable tells only stored.super stored.batches shaped.log.state (shaped_readable stored.super stored.batches stored.pages (d.bytes c.args.disk) shaped)))
-    (λ image left. stored_keeps d stored image (e.crash tells only stored.super stored.batches stored.pages shaped image left))
-    (λ image since. (g.met.D.Disk g.world.𝓛 g.world.𝓜 g.world.𝓡 ((λ s x. x), (λ x. x), (λ x. x), λ x. x)).only_now tells c.in-Err.disk image since) (e.disk.restarts tells)
+    ((e.image.readable tells stored.super stored.batches shaped.log.state (shaped_readable stored.super stored.batches stored.pages (d.bytes c.args.disk) shaped)).moments only))
+    (λ image left. stored_keeps d stored image ((e.image.shaped tells stored.super stored.batches stored.pages shaped).crash only image left))
+    (λ image since. (g.met.D.Disk g.world.𝓛 g.world.𝓜 g.world.𝓡 ((λ s x. x), (λ x. x), (λ x. x), λ x. x)).only_now tells c.in-Err.disk image since) (e.image.disk.restarts tells)
     (λ none. fails_none (stored_calls stored) (d.passed c.args.disk) (d.passed c.in-Err.disk) c.in-Err.e (ap open_status none) passes)
-    (λ other u. u (open_harm _ _ _ _ c.in-Err.e outside other e.disk.cause))
+    (λ other u. u (open_harm _ _ _ _ c.in-Err.e outside other e.image.disk.cause))
     (omega (arith, few.2, most)) (omega (arith, few.2, total))
-    (λ refused. reads_only d c.args.disk c.in-Err.disk ((e.left_alone (refused_memory c.in-Err.e refused)).contents tells) only)
-    (λ none. c.in-Err.ensures.no_first_stop tells stored.super stored.batches stored.pages shaped (no_rollback (rollback_of stored.super stored.batches) none))
+    (λ refused. reads_only d c.args.disk c.in-Err.disk ((e.image.left_alone (refused_memory c.in-Err.e refused)).contents tells) only)
+    (opening_stops d (stored_calls stored) c.args.disk c.in-Err.disk c.in-Err.e outside passes e.image.disk.cause (λ none. (e.image.shaped tells stored.super stored.batches stored.pages shaped).no_first_stop (no_rollback (rollback_of stored.super stored.batches) none)))
 
 pub returns-in-Ok-clause-played : goal.returns-in-Ok-clause-played
 returns-in-Ok-clause-played g c tells stored only =
@@ -58,15 +58,14 @@ returns-in-Ok-clause-played g c tells stored only =
     let images : HasImages d = record { counts = λ disk t image le may. (g.met.D.Disk g.world.𝓛 g.world.𝓜 g.world.𝓡 ((λ s x. x), (λ x. x), (λ x. x), λ x. x)).counts_now tells disk t image le may; now = λ disk image since. (g.met.D.Disk g.world.𝓛 g.world.𝓜 g.world.𝓡 ((λ s x. x), (λ x. x), (λ x. x), λ x. x)).only_now tells disk image since; reads = λ disk. (g.met.D.Disk g.world.𝓛 g.world.𝓜 g.world.𝓡 ((λ s x. x), (λ x. x), (λ x. x), λ x. x)).reads_an_image tells disk } in
     let opened : OpenedOn d n first c.args.disk old.disk = record {
       has = images;
-      opening = stored_moments d stored c.args.disk old.disk (e.moments tells only s stored.batches stored.pages shaped);
-      behind = opening_behind d first s stored.batches (d.bytes c.args.disk) c.args.disk old.disk (stored_super d stored) (e.moments_readable tells only s stored.batches shaped.log.state (shaped_readable s stored.batches stored.pages (d.bytes c.args.disk) shaped));
-      here = λ image left. stored_keeps d stored image (e.crash tells only s stored.batches stored.pages shaped image left);
-      passed = (e.passes tells s stored.batches stored.pages shaped).ok;
-      restarts = e.disk.restarts tells;
-      counts = keeps_counts d c.args.disk old.disk tt e.disk;
-      faults = e.disk.cause.faults_kept;
-      stops = e.disk.cause.stops_kept;
-      no_first_stop = λ none. e.no_first_stop tells s stored.batches stored.pages shaped (no_rollback (rollback_of s stored.batches) none);
+      opening = stored_moments d stored c.args.disk old.disk ((e.image.shaped tells s stored.batches stored.pages shaped).moments only);
+      behind = opening_behind d first s stored.batches (d.bytes c.args.disk) c.args.disk old.disk (stored_super d stored) ((e.image.readable tells s stored.batches shaped.log.state (shaped_readable s stored.batches stored.pages (d.bytes c.args.disk) shaped)).moments only);
+      here = λ image left. stored_keeps d stored image ((e.image.shaped tells s stored.batches stored.pages shaped).crash only image left);
+      passed = (e.image.shaped tells s stored.batches stored.pages shaped).passes.ok;
+      restarts = e.image.disk.restarts tells;
+      counts = keeps_counts d c.args.disk old.disk tt e.image.disk;
+      faults = e.image.disk.cause.faults_kept;
+      stops = e.image.disk.cause.stops_kept;
     } in
     played_together tells s first running n c.args.disk old c.play_opened-status.result.1 opened c.args.tries c.args.script.now c.play_opened-status.result.0 k.tells (k.written c.args.sink.now) (k.written c.play_opened-status.new.sink) made_by c.close.result c.close.ensures
 
@@ -78,7 +77,7 @@ returns-in-Ok-clause-prints g c =
     let d = g.D.Disk in
     let some = opened_core d.tells (d.bytes c.args.disk) c.in-Ok.heap c.in-Ok.ensures.opens c.in-Ok.ensures.sound in
     let told = c.play_opened-status.ensures.core some.0 some.2 some.1.running some.1.nothing in
-    let opening = c.in-Ok.ensures.disk.cause in
+    let opening = c.in-Ok.ensures.image.disk.cause in
     let played = c.play_opened-status.ensures.disk in
     inr (record {
       first = some.0;
@@ -96,7 +95,7 @@ pub returns-in-Ok-clause-disk : goal.returns-in-Ok-clause-disk
 returns-in-Ok-clause-disk g c =
     let d = g.D.Disk in
     let some = opened_core d.tells (d.bytes c.args.disk) c.in-Ok.heap c.in-Ok.ensures.opens c.in-Ok.ensures.sound in
-    let opens = c.in-Ok.ensures.disk in
+    let opens = c.in-Ok.ensures.image.disk in
     let plays = c.play_opened-status.ensures.disk in
     rw c.close.ensures (record {
       extent = plays.extent ∙ opens.extent;
@@ -108,72 +107,23 @@ returns-in-Ok-clause-disk g c =
       ];
     })
 
-pub returns-in-Ok-clause-restarts : goal.returns-in-Ok-clause-restarts
-returns-in-Ok-clause-restarts g c tells = ap g.D.Disk.restarts c.close.ensures ∙ c.play_opened-status.ensures.disk.restarts tells ∙ c.in-Ok.ensures.disk.restarts tells
-
-pub returns-in-Err-clause-refused : goal.returns-in-Err-clause-refused
-returns-in-Err-clause-refused g c tells = rw c.from.ensures (told_status c.in-Err.e (g.D.Disk.bytes c.args.disk) (c.in-Err.ensures.refused tells))
-
-pub returns-in-Ok-clause-refused : goal.returns-in-Ok-clause-refused
-returns-in-Ok-clause-refused g c tells = end_told _ (g.D.Disk.bytes c.args.disk) c.play_opened-status.ensures.end
-
-pub returns-in-Err-clause-refuses : goal.returns-in-Err-clause-refuses
-returns-in-Err-clause-refuses g c tells expected fault = (rw c.from.ensures (refused_by expected (g.D.Disk.bytes c.args.disk) c.in-Err.e fault (c.in-Err.ensures.not_heap tells) (c.in-Err.ensures.damaged tells)), refl)
-
--- what can't be opened is not played on
-pub returns-in-Ok-clause-refuses : goal.returns-in-Ok-clause-refuses
-returns-in-Ok-clause-refuses g c tells expected fault = absurd (not_opened expected (g.D.Disk.bytes c.args.disk) fault (c.in-Ok.ensures.not_heap tells) (c.in-Ok.ensures.damaged tells))
-
-pub returns-in-Err-clause-left_alone : goal.returns-in-Err-clause-left_alone
-returns-in-Err-clause-left_alone g c tells expected fault alone =
-    let d = g.D.Disk in
-    alone_read d c.args.disk c.in-Err.disk _ tells (only_read d expected (d.bytes c.args.disk) c.args.disk c.in-Err.disk _ fault alone (c.in-Err.ensures.reads_not_heap tells) (c.in-Err.ensures.reads_damaged tells))
-
-pub returns-in-Ok-clause-left_alone : goal.returns-in-Ok-clause-left_alone
-returns-in-Ok-clause-left_alone g c tells expected fault alone = absurd (not_opened expected (g.D.Disk.bytes c.args.disk) fault (c.in-Ok.ensures.not_heap tells) (c.in-Ok.ensures.damaged tells))
-
-pub returns-in-Err-clause-keeps_fault : goal.returns-in-Err-clause-keeps_fault
-returns-in-Err-clause-keeps_fault g c tells only expected fault =
-    fault_moments g.D.Disk expected (g.D.Disk.bytes c.args.disk) c.args.disk c.in-Err.disk fault (c.in-Err.ensures.moments_not_heap tells only) (c.in-Err.ensures.moments_damaged tells only)
-
-pub returns-in-Ok-clause-keeps_fault : goal.returns-in-Ok-clause-keeps_fault
-returns-in-Ok-clause-keeps_fault g c tells only expected fault = absurd (not_opened expected (g.D.Disk.bytes c.args.disk) fault (c.in-Ok.ensures.not_heap tells) (c.in-Ok.ensures.damaged tells))
-
--- a status against the image is true of what a crash may leave now
-pub returns-in-Err-clause-refused_at_end : goal.returns-in-Err-clause-refused_at_end
-returns-in-Err-clause-refused_at_end g c tells only =
-    told_each g.D.Disk c.in-Err.e c.from.result c.args.disk c.in-Err.disk c.from.ensures (c.in-Err.ensures.refused tells) (c.in-Err.ensures.moments_not_heap tells only) (c.in-Err.ensures.moments_damaged tells only)
-    (λ t image le may. (g.met.D.Disk g.world.𝓛 g.world.𝓜 g.world.𝓡 ((λ s x. x), (λ x. x), (λ x. x), λ x. x)).counts_now tells c.in-Err.disk t image le may)
-
-pub returns-in-Ok-clause-refused_at_end : goal.returns-in-Ok-clause-refused_at_end
-returns-in-Ok-clause-refused_at_end g c tells only = end_told_each _ _ c.play_opened-status.ensures.end
-
-pub returns-in-Ok-clause-unwritten : goal.returns-in-Ok-clause-unwritten
-returns-in-Ok-clause-unwritten g c against = absurd (against (end_sound _ c.play_opened-status.ensures.end))
-
--- of an image that is damaged at an address a crash leaves the log, rolled back or not, and all else
-pub returns-in-Err-clause-keeps_log : goal.returns-in-Err-clause-keeps_log
-returns-in-Err-clause-keeps_log g c tells only fault = left_moments g.D.Disk (g.D.Disk.bytes c.args.disk) c.args.disk c.in-Err.disk fault (c.in-Err.ensures.moments_readable tells only)
-
-pub returns-in-Ok-clause-keeps_log : goal.returns-in-Ok-clause-keeps_log
-returns-in-Ok-clause-keeps_log g c tells only fault = absurd (c.in-Ok.ensures.damaged tells (Address fault.0) fault.1)
-
--- it made the writes and syncs of one opening
-pub returns-in-Err-clause-opens_once : goal.returns-in-Err-clause-opens_once
-returns-in-Err-clause-opens_once g c tells fault =
-    let d = g.D.Disk in
-    rw c.from.ensures (opens_once (d.bytes c.args.disk) (d.passed c.args.disk) (d.passed c.in-Err.disk) c.in-Err.e fault (c.in-Err.ensures.refused tells) (c.in-Err.ensures.passes_readable tells))
-
-pub returns-in-Ok-clause-opens_once : goal.returns-in-Ok-clause-opens_once
-returns-in-Ok-clause-opens_once g c tells fault = absurd (c.in-Ok.ensures.damaged tells (Address fault.0) fault.1)
-
 -- no fault of the disk was ignored
 pub returns-in-Err-clause-unfaulted : goal.returns-in-Err-clause-unfaulted
-returns-in-Err-clause-unfaulted g c none = open_counts g.D.Disk c.args.disk c.in-Err.disk c.in-Err.e c.in-Err.ensures.disk (not_disk _ (subst IsFaultless c.from.ensures none))
+returns-in-Err-clause-unfaulted g c none = open_counts g.D.Disk c.args.disk c.in-Err.disk c.in-Err.e c.in-Err.ensures.image.disk (not_disk _ (subst IsFaultless c.from.ensures none))
 
 pub returns-in-Ok-clause-unfaulted : goal.returns-in-Ok-clause-unfaulted
 returns-in-Ok-clause-unfaulted g c none =
     let d = g.D.Disk in
     let some = opened_core d.tells (d.bytes c.args.disk) c.in-Ok.heap c.in-Ok.ensures.opens c.in-Ok.ensures.sound in
     let done = faultless_done c.play_opened-status.result.0 c.play_opened-status.ensures.end none in
-    rw c.close.ensures (counts_on d _ _ _ (keeps_counts d c.args.disk c.in-Ok.heap.disk tt c.in-Ok.ensures.disk) (c.play_opened-status.ensures.still some.0 some.2 some.1.running done))
+    rw c.close.ensures (counts_on d _ _ _ (keeps_counts d c.args.disk c.in-Ok.heap.disk tt c.in-Ok.ensures.image.disk) (c.play_opened-status.ensures.still some.0 some.2 some.1.running done))
+
+-- the image was not opened
+pub returns-in-Err-clause-image : goal.returns-in-Err-clause-image
+returns-in-Err-clause-image g c =
+    rw c.from.ensures (answers_failed g.D.Disk c.args.disk c.in-Err.disk _ c.in-Err.e refl c.in-Err.ensures.image (λ tells t image le may. (g.met.D.Disk g.world.𝓛 g.world.𝓜 g.world.𝓡 ((λ s x. x), (λ x. x), (λ x. x), λ x. x)).counts_now tells c.in-Err.disk t image le may))
+
+pub returns-in-Ok-clause-image : goal.returns-in-Ok-clause-image
+returns-in-Ok-clause-image g c =
+    rw c.close.ensures (answers_opened g.D.Disk 0 c.args.disk _ _ _ (end_sound _ c.play_opened-status.ensures.end) (λ tells none. (c.in-Ok.ensures.image.not_heap tells none).told) (λ tells at damage. (c.in-Ok.ensures.image.damaged tells at damage).told)
+    (λ tells. restarts_none 0 _ _ _ (λ done. refl) (c.play_opened-status.ensures.disk.restarts tells ∙ c.in-Ok.ensures.image.disk.restarts tells)))

@@ -1,13 +1,10 @@
-use Rattle.std.proofs.Common.{◌≡◌, inl, inr, ℕ, List, Some, None, Ok, sym, ap, ◌∙◌, subst}
+use Rattle.std.proofs.Common.{◌≡◌, inl, inr, ℕ, List, Some, None, Ok, sym, ap, ◌∙◌, subst, refl}
 use Rattle.script_text.specs.declared.line.Line.{Line}
 use Rattle.heap_program.specs.Headline.{made_super, made_core}
 use Rattle.heap_program.specs.Playable.{IsScript, IsReadFrom}
-use Rattle.heap_program.specs.Refusals.{fault_calls}
 use Rattle.heap_program.proofs.CoreSteps.{script_is}
 use Rattle.heap_program.proofs.PlayOpen.{new_stored, no_calls}
 use Rattle.heap_program.proofs.RunLaws.{large_made, end_sound}
-use Rattle.heap_program.proofs.RefusalLaws.{input_told_each, input_once, alone_untouched}
-use Rattle.heap_program.proofs.WordFaults.{untouched_log}
 use Rattle.thread_program.specs.Together.{IsPlayedTogether}
 use Rattle.thread_program.proofs.SafeLaws.{not_read}
 use Rattle.thread_program.proofs.CauseLaws.{rose_from}
@@ -15,6 +12,8 @@ use Rattle.thread_program.proofs.FormatLaws.{parts, not_formatted}
 use Rattle.thread_program.proofs.PrintsLaws.{prints_script}
 use Rattle.heap_program.specs.Causes.{IsFaultless}
 use Rattle.heap_program.proofs.Unfaulted.{counts_on, keeps_counts, format_counts, not_disk}
+use Rattle.heap_program.proofs.ImageLaws.{answers_own, answers_made, answers_unread, format_error_sound, never_restarted}
+use Rattle.heap_program.proofs.RunLaws.{restarts_none}
 use Rattle.thread_program.proofs.threads.run_threads.Goals as goal
 
 pub play_by_workers-requires-clause-script : goal.play_by_workers-requires-clause-script
@@ -62,35 +61,11 @@ returns-in-Ok-format-clause-complete g c tells only can told lines good unharmed
     let stored = new_stored c.in-Some.pages (d.bytes c.in-Ok-format.disk) made.0 in
     (c.play_by_workers-in-Ok-format.ensures.played tells stored made.1).runs.end
 
-pub returns-in-Ok-format-clause-sound : goal.returns-in-Ok-format-clause-sound
-returns-in-Ok-format-clause-sound g c tells only pages is =
-    let d = g.D.Disk in
-    let made = c.in-Ok-format.ensures.made tells in
-    let stored = new_stored c.in-Some.pages (d.bytes c.in-Ok-format.disk) made.0 in
-    end_sound _ (c.play_by_workers-in-Ok-format.ensures.played tells stored made.1).runs.end
-
--- A script that was bad or could not be read says nothing of the image.
-pub returns-in-Err-clause-refused_at_end : goal.returns-in-Err-clause-refused_at_end
-returns-in-Err-clause-refused_at_end g c tells only = input_told_each _ _ c.in-Err.ensures.status
-
--- the heap that was made is durable
-pub returns-in-Ok-format-clause-refused_at_end : goal.returns-in-Ok-format-clause-refused_at_end
-returns-in-Ok-format-clause-refused_at_end g c tells only = c.play_by_workers-in-Ok-format.ensures.refused_at_end tells (c.in-Ok-format.ensures.made tells).1
-
 pub returns-in-Err-clause-headline : goal.returns-in-Err-clause-headline
 returns-in-Err-clause-headline g c tells only =
     let d = g.D.Disk in
     not_read d c.args.disk only (λ image since. (g.met.D.Disk g.world.𝓛 g.world.𝓜 g.world.𝓡 ((λ s x. x), (λ x. x), (λ x. x), λ x. x)).only_now tells c.args.disk image since) c.args.fresh c.args.tries (IsReadFrom g.S.Source.tells (g.S.Source.left c.args.source.now)) c.in-Err.status g.K.Sink.tells (g.K.Sink.written c.args.sink.now)
     c.in-Err.ensures.status
-
--- a script that was not read left the disk alone
-pub returns-in-Err-clause-left_alone : goal.returns-in-Err-clause-left_alone
-returns-in-Err-clause-left_alone g c tells none expected fault alone = alone_untouched g.D.Disk c.args.disk (λ image since. (g.met.D.Disk g.world.𝓛 g.world.𝓜 g.world.𝓡 ((λ s x. x), (λ x. x), (λ x. x), λ x. x)).only_now tells c.args.disk image since)
-
--- an image that is damaged at an address was left alone
-pub returns-in-Err-clause-keeps_log : goal.returns-in-Err-clause-keeps_log
-returns-in-Err-clause-keeps_log g c tells only none fault =
-    untouched_log g.D.Disk c.args.disk only (λ image since. (g.met.D.Disk g.world.𝓛 g.world.𝓜 g.world.𝓡 ((λ s x. x), (λ x. x), (λ x. x), λ x. x)).only_now tells c.args.disk image since) fault
 
 -- the image that was opened is the disk's own
 pub returns-in-None-clause-prints : goal.returns-in-None-clause-prints
@@ -118,13 +93,6 @@ returns-clause-headline g c tells only =
     rw c.in-Some.is (inl (not_formatted g.D.Disk c.in-Some.pages c.args.disk c.in-Err-format.disk c.in-Err-format.e c.from.result g.K.Sink.tells (g.K.Sink.written c.args.sink.now) c.from.ensures tells e.disk
     (λ less. parts _ _ (e.small less)) e.large (e.passes tells) (e.moments tells only) (e.moments_outside tells only)))
 
--- a script that was bad or could not be read made no call
-pub returns-in-Err-clause-opens_once : goal.returns-in-Err-clause-opens_once
-returns-in-Err-clause-opens_once g c tells none fault = input_once (fault_calls fault) (g.D.Disk.passed c.args.disk) _ c.in-Err.ensures.status
-
-pub returns-in-None-clause-opens_once : goal.returns-in-None-clause-opens_once
-returns-in-None-clause-opens_once g c tells unmade fault = c.play_by_workers.ensures.opens_once tells fault
-
 -- no fault of the disk was ignored
 pub returns-in-Ok-format-clause-unfaulted : goal.returns-in-Ok-format-clause-unfaulted
 returns-in-Ok-format-clause-unfaulted g c none =
@@ -133,3 +101,28 @@ returns-in-Ok-format-clause-unfaulted g c none =
 
 pub returns-clause-unfaulted : goal.returns-clause-unfaulted
 returns-clause-unfaulted g c none = format_counts g.D.Disk c.args.disk c.in-Err-format.disk c.in-Err-format.e c.in-Err-format.ensures.disk (not_disk _ (subst IsFaultless c.from.ensures none))
+
+-- the image is the disk's own
+pub returns-in-None-clause-image : goal.returns-in-None-clause-image
+returns-in-None-clause-image g c = answers_own g.D.Disk 0 c.args.disk _ _ _ _ _ (λ here. c.in-None.is) (λ none. tt) c.play_by_workers.ensures.image
+
+-- or that of the heap that was made
+pub returns-in-Ok-format-clause-image : goal.returns-in-Ok-format-clause-image
+returns-in-Ok-format-clause-image g c =
+    let image = c.play_by_workers-in-Ok-format.ensures.image in
+    answers_made g.D.Disk 0 c.args.disk _ _ _ _ (λ none. let never : None ≡ Some c.in-Some.pages = sym none ∙ c.in-Some.is in cc never)
+    (λ tells only.
+    let made = c.in-Ok-format.ensures.made tells in
+    let stored = new_stored c.in-Some.pages (g.D.Disk.bytes c.in-Ok-format.disk) made.0 in
+    end_sound _ (c.play_by_workers-in-Ok-format.ensures.played tells stored made.1).runs.end)
+    image.unwritten (λ tells. restarts_none 0 _ _ _ (λ done. refl) (never_restarted _ _ _ (image.restarts tells) ∙ c.in-Ok-format.ensures.disk.restarts tells))
+
+-- or none could be made
+pub returns-clause-image : goal.returns-clause-image
+returns-clause-image g c =
+    rw c.from.ensures (answers_made g.D.Disk 0 c.args.disk _ _ _ _ (λ none. let never : None ≡ Some c.in-Some.pages = sym none ∙ c.in-Some.is in cc never)
+    (λ tells only. format_error_sound c.in-Err-format.e) (λ unstopped against. refl) (λ tells. restarts_none 0 _ _ _ (λ done. refl) (c.in-Err-format.ensures.disk.restarts tells)))
+
+-- a script that was bad or could not be read left all as it was
+pub returns-in-Err-clause-image : goal.returns-in-Err-clause-image
+returns-in-Err-clause-image g c = answers_unread g.D.Disk _ 0 c.args.disk _ _ c.in-Err.ensures.status refl (λ tells image since. (g.met.D.Disk g.world.𝓛 g.world.𝓜 g.world.𝓡 ((λ s x. x), (λ x. x), (λ x. x), λ x. x)).only_now tells c.args.disk image since)
