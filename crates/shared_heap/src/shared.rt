@@ -153,14 +153,3 @@ impl<D: Disk> SharedHeap<D> {
         }
     }
 }
-
-/// Threads may share a heap, and a pass may be sent from one to another, if the disk may.
-pub fn cross_threads<D: Disk + Send>() {
-    is_sync::<SharedHeap<D>>();
-    is_send::<SharedHeap<D>>();
-    is_send::<Pass<D>>();
-}
-
-fn is_sync<X: Sync>() {}
-
-fn is_send<X: Send>() {}
