@@ -29,7 +29,7 @@ check() {
     waits) exec sleep 600 ;;
     slow) sleep 1 && proves ;;
     edited) echo "// one more" >>../low/src/lib.rt && proves ;;
-    short) [ "$1" = 1 ] && proves || { printf '== low\n== summary\nlow: failed (-9)\nleft: not run, since low failed\n' && return 1; } ;;
+    short) echo proves >"$here/mode" && { printf '== low\n== summary\nlow: failed (-9)\nleft: not run, since low failed\n' && return 1; } ;;
     *) proves ;;
     esac
 }
@@ -80,7 +80,7 @@ class Repository:
         file = self.folder / "kit" / "asked"
         lines = file.read_text().splitlines() if file.exists() else []
         file.unlink(missing_ok=True)
-        return [re.sub(r"--jobs (?!1$)\d+", "--jobs N", line) for line in lines]
+        return [re.sub(r"--jobs \d+", "--jobs N", line) for line in lines]
 
     def append(self, file, text):
         with open(self.folder / file, "a") as it:
@@ -91,6 +91,16 @@ def heed_signals():
     """What a shell starts beside it ignores two of them."""
     for number in (signal.SIGHUP, signal.SIGINT, signal.SIGQUIT, signal.SIGTERM):
         signal.signal(number, signal.SIG_DFL)
+
+
+def left_behind(group):
+    """What is there of the launcher's group some seconds after it ended."""
+    for _ in range(100):
+        left = subprocess.run(["pgrep", "-g", str(group)], capture_output=True, text=True).stdout.split()
+        if not left:
+            break
+        time.sleep(0.05)
+    return left
 
 
 def tell(what, repository, *launchers):
@@ -139,8 +149,7 @@ def interrupt(repository):
         launcher = repository.start_proving("waits")
         launcher.send_signal(number)
         tell(f"{number.name} while crates are proved", repository, launcher)
-        left = subprocess.run(["pgrep", "-g", str(launcher.pid)], capture_output=True, text=True).stdout.split()
-        print("    left behind:", len(left))
+        print("    left behind:", len(left_behind(launcher.pid)))
     tell("two at the same time", repository, repository.start_proving("slow"), repository.start("slow"))
 
 

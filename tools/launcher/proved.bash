@@ -78,7 +78,7 @@ build() {
     say "proving $all crates before the first run, $most at once; this takes many minutes"
     if ! prove "$all" "$most"; then
         # A check that was killed lacked memory, most likely.
-        [ -z "$signal" ] && [ "$most" -gt 1 ] && grep -q ': failed (-9)$' "$kept/log" || return 1
+        [ -z "$signal" ] && grep -q ': failed (-9)$' "$kept/log" || return 1
         say "a check was killed, most likely for memory: once more, one crate at a time"
         prove "$all" 1 || return
     fi
