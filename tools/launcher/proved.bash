@@ -22,14 +22,18 @@ start_in_crate() {
     cd -- "$OLDPWD" || return
 }
 
-# proving RT: the crates that are being proved now. (What has the word --only just reads all of them, at the beginning.)
+# proving RT: the crates that are being proved now.
 proving() {
-    pgrep -P "$1" -fa -- ' --crate-name ' 2>/dev/null | sed -n '/ --only/!s/.* --crate-name \([a-z0-9_]*\) .*/\1/p' | paste -s -d , | sed 's/,/, /g'
+    pgrep -P "$1" -fa -- ' --crate-name ' 2>/dev/null | sed -n 's/.* --crate-name \([a-z0-9_]*\) .*/\1/p' | paste -s -d , | sed 's/,/, /g'
 }
 
-# progress RT ALL: how far it is.
+# progress RT ALL: how far it is. With the word --only rt just reads all crates, at the beginning.
 progress() {
     local done now
+    if pgrep -P "$1" -f -- ' --crate-name .* --only' >/dev/null 2>&1; then
+        echo "still reading all $2 crates; $(minutes) so far"
+        return
+    fi
     done=$(grep -c '^== ' "$kept/log") now=$(proving "$1")
     echo "$done of $2 crates proved${now:+, still proving $now}; $(minutes) so far"
 }
