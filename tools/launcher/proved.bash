@@ -92,7 +92,8 @@ build() {
 # The end of the log, without what was proved.
 refusal() {
     awk '
-        /: proved$|^logic=proved |^checked |^statements |^logic |^crate |: ok$|: not run, / { next }
+        /: proved$|^logic=proved |^checked |^(statements|library|logic|crate) |: ok$|: not run, / { next }
+        /begins with what a check kept|imports that nothing uses|removes those imports/ { next }
         /^== / { heading = $0 "\n"; next }
         { printf "%s%s\n", heading, $0; heading = "" }' "$kept/log" | tail -n 30
 }
