@@ -111,13 +111,13 @@ pub returns-in-None-clause-started : goal.returns-in-None-clause-started
 returns-in-None-clause-started g c tells =
     let d = g.D.Disk in
     let started = subst (λ x. Restarts d x c.restart-disk.result) c.into_inner.ensures (c.restart-disk.ensures.restarts tells) in
-    rose_once _ _ (c.print_recovered.ensures.restarts tells ∙ started.restarts)
+    rose_once _ _ (never_restarted _ _ _ (c.print_recovered.ensures.image.restarts tells) ∙ started.restarts)
 
 pub returns-in-Ok-clause-started : goal.returns-in-Ok-clause-started
 returns-in-Ok-clause-started g c tells =
     let d = g.D.Disk in
     let started = subst (λ x. Restarts d x c.restart-disk.result) c.into_inner.ensures (c.restart-disk.ensures.restarts tells) in
-    rose_twice _ _ (c.print_recovered-in-Ok.ensures.restarts tells ∙ (c.restart.ensures.restarts tells).restarts ∙ ap raised (c.in-Ok.ensures.restarts tells ∙ started.restarts))
+    rose_twice _ _ (never_restarted _ _ _ (c.print_recovered-in-Ok.ensures.image.restarts tells) ∙ (c.restart.ensures.restarts tells).restarts ∙ ap raised (c.in-Ok.ensures.restarts tells ∙ started.restarts))
 
 pub returns-in-Err-clause-started : goal.returns-in-Err-clause-started
 returns-in-Err-clause-started g c tells =
