@@ -1,4 +1,4 @@
-use Rattle.std.proofs.Common.{◌≡◌, inr, ℕ, Some, None, sym, ◌∙◌, subst, refl}
+use Rattle.std.proofs.Common.{inl, ◌≡◌, inr, ℕ, Some, None, sym, ◌∙◌, subst, refl}
 use Rattle.heap_program.specs.Headline.{made_super, made_core}
 use Rattle.heap_program.specs.Load.{PlaysLoad}
 use Rattle.heap_program.proofs.CommandLaws.{opened_load, format_load}
