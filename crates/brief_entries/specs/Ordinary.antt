@@ -1,7 +1,7 @@
 -- Which events, replies and entries are ordinary: their numbers fit a brief form.
 use Rattle.std.specs.Prelude.{ℕ, ◌<◌, ◌^◌}
 use Rattle.graph_model.specs.declared.event.Event.{Event}
-use Rattle.graph_model.specs.declared.event.Event.TheVariants.{Begin, Root, New, Put, Clear, Link, Drop, Get, Same, Len, Seal, Abort, Force, Flip, Scan, Flush}
+use Rattle.graph_model.specs.declared.event.Event.TheVariants.{Root, New, Put, Clear, Link, Drop, Get, Same, Len, Flush}
 use Rattle.graph_model.specs.declared.reply.Entry.{Entry}
 use Rattle.graph_model.specs.declared.reply.Refusal.{Refusal}
 use Rattle.graph_model.specs.declared.reply.Refusal.TheVariants.{Failed, AlreadyActive, NotActive, NumbersSpent, BadHandle, Range, BadField, NoSuchPage, Busy, VolatileFull, Exhausted, LogFull, DiskFault, Stopped}
@@ -21,9 +21,8 @@ IsSmallField i = i < 2 ^ 16
 abbrev pub IsSmallNumber : ℕ → Type 0
 IsSmallNumber n = n < 2 ^ 32
 
--- the handles, fields and other numbers of an event are; its session does not matter here
+-- the handles, fields and other numbers of an event are; its session does not matter here, and all that are not named have no other number
 abbrev pub IsOrdinaryEvent : Event → Type 0
-IsOrdinaryEvent (Begin s) = Unit {0}
 IsOrdinaryEvent (Root s h) = IsSmall h
 IsOrdinaryEvent (New s h len) = IsSmall h × IsSmallNumber len
 IsOrdinaryEvent (Put s h i v) = IsSmall h × IsSmallField i × IsSmallNumber v
@@ -33,12 +32,8 @@ IsOrdinaryEvent (Drop s h) = IsSmall h
 IsOrdinaryEvent (Get s h i h2) = IsSmall h × IsSmallField i × IsSmall h2
 IsOrdinaryEvent (Same s h h2) = IsSmall h × IsSmall h2
 IsOrdinaryEvent (Len s h) = IsSmall h
-IsOrdinaryEvent (Seal s) = Unit {0}
-IsOrdinaryEvent (Abort s) = Unit {0}
-IsOrdinaryEvent Force = Unit {0}
-IsOrdinaryEvent Flip = Unit {0}
-IsOrdinaryEvent Scan = Unit {0}
 IsOrdinaryEvent (Flush p) = IsSmallNumber p
+IsOrdinaryEvent event = Unit {0}
 
 -- a refusal has at most one number, and that is below 2^32
 abbrev pub IsBriefRefusal : Refusal → Type 0

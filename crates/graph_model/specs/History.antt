@@ -3,11 +3,12 @@ use Rattle.std.specs.Prelude.{◌≡◌, ℕ, ◌+◌, ◌≤◌, ◌==◌, List
 use Rattle.std.specs.List.{range_with_len}
 use Rattle.std.specs.Option.{option_to_list}
 use Rattle.graph_model.specs.declared.event.Event.{Event}
-use Rattle.graph_model.specs.declared.event.Event.TheVariants.{Begin, Root, New, Put, Clear, Link, Drop, Get, Same, Len, Seal, Abort, Force, Flip, Scan, Flush}
+use Rattle.graph_model.specs.declared.event.Event.TheVariants.{Begin, Root, New, Put, Clear, Link, Drop, Get, Same, Len, Seal, Abort}
 use Rattle.graph_model.specs.declared.reply.Refusal.TheVariants.{DiskFault, Stopped}
 use Rattle.graph_model.specs.declared.reply.Reply.{Reply}
 use Rattle.graph_model.specs.declared.reply.Reply.TheVariants.{Begun, Done, Null, Int, Reference, Yes, No, Length, Sealed, Aborted, Durable, Flipped, Collecting, Scanned, Collected, Idle, Flushed, Clean, Refused}
 use Rattle.graph_model.specs.declared.reply.Entry.{Entry}
+use Rattle.graph_model.specs.Kinds.{Kind, Collects, Saves, kind_of}
 use Rattle.graph_model.specs.Transaction.{Transaction}
 
 -- the numbers of the sessions
@@ -18,7 +19,7 @@ sessions = range_with_len 1 32
 abbrev pub IsSession : ℕ → Type 0
 IsSession s = (1 ≤ s) × (s ≤ 32)
 
--- the session of an event, and 0 for `force`, `flip`, `scan` and `flush`, which are of none
+-- the session of an event, and 0 for all others, which are of none: `force`, `flip`, `scan` and `flush`
 abbrev pub session_of : Event → ℕ
 session_of (Begin s) = s
 session_of (Root s h) = s
@@ -32,18 +33,17 @@ session_of (Same s h h2) = s
 session_of (Len s h) = s
 session_of (Seal s) = s
 session_of (Abort s) = s
-session_of Force = 0
-session_of Flip = 0
-session_of Scan = 0
-session_of (Flush p) = 0
+session_of event = 0
+
+-- events of this kind are of session s, or of none
+abbrev pub AreOfSession : ℕ → Kind → Type 0
+AreOfSession s Collects = Unit {0}
+AreOfSession s Saves = Unit {0}
+AreOfSession s kind = IsSession s
 
 -- an event of a session, or of none
 abbrev pub IsOfSession : Event → Type 0
-IsOfSession Force = Unit {0}
-IsOfSession Flip = Unit {0}
-IsOfSession Scan = Unit {0}
-IsOfSession (Flush p) = Unit {0}
-IsOfSession event = IsSession (session_of event)
+IsOfSession event = AreOfSession (session_of event) (kind_of event)
 
 -- What a history says so far.
 pub record Account : Type 0 where

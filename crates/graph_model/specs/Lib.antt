@@ -3,6 +3,7 @@ pub mod ClosedGraph
 pub mod Graph
 pub mod History
 pub mod Isomorphism
+pub mod Kinds
 pub mod Locking
 pub mod NewNumbers
 pub mod Numbering

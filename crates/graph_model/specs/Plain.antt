@@ -8,6 +8,7 @@ use Rattle.graph_model.specs.declared.reply.Refusal.TheVariants.{Failed, Already
 use Rattle.graph_model.specs.declared.reply.Reply.{Reply}
 use Rattle.graph_model.specs.declared.reply.Reply.TheVariants.{Begun, Done, Sealed, Aborted, Durable, Collecting, Idle, Flushed, Refused}
 use Rattle.graph_model.specs.Graph.{Graph, fields}
+use Rattle.graph_model.specs.Kinds.{Kind, Begins, Calls, Ends, Collects, Saves, kind_of}
 use Rattle.graph_model.specs.Transaction.{View, Transaction, held, call, run, serial}
 use Rattle.graph_model.specs.History.{Account, session_of}
 use Rattle.graph_model.specs.Locking.{lock_of, busy_holder}
@@ -79,24 +80,17 @@ abbrev pub call_refusal : Graph → Account → Option Transaction → Event →
 call_refusal g0 a None event = Some NotActive
 call_refusal g0 a (Some t) event = view_refusal (view g0 a t) event
 
+-- why an event of this kind is refused for what it asks for, where its session has this transaction
+abbrev pub asked_refusal : ℕ → Graph → Account → Option Transaction → Event → Kind → Option Refusal
+asked_refusal next g0 a t event Begins = if is_some t then Some AlreadyActive else if next == no_number then Some NumbersSpent else None
+asked_refusal next g0 a t event Calls = call_refusal g0 a t event
+asked_refusal next g0 a t event Ends = call_refusal g0 a t event
+asked_refusal next g0 a t event Collects = None
+asked_refusal next g0 a t event Saves = None
+
 -- why an event is refused for what it asks for
 abbrev pub event_refusal : ℕ → Graph → Account → Event → Option Refusal
-event_refusal next g0 a (Begin s) = if is_some (a.active s) then Some AlreadyActive else if next == no_number then Some NumbersSpent else None
-event_refusal next g0 a Force = None
-event_refusal next g0 a Flip = None
-event_refusal next g0 a Scan = None
-event_refusal next g0 a (Flush p) = None
-event_refusal next g0 a (Root s h) = call_refusal g0 a (a.active s) (Root s h)
-event_refusal next g0 a (New s h len) = call_refusal g0 a (a.active s) (New s h len)
-event_refusal next g0 a (Put s h i v) = call_refusal g0 a (a.active s) (Put s h i v)
-event_refusal next g0 a (Clear s h i) = call_refusal g0 a (a.active s) (Clear s h i)
-event_refusal next g0 a (Link s h i h2) = call_refusal g0 a (a.active s) (Link s h i h2)
-event_refusal next g0 a (Drop s h) = call_refusal g0 a (a.active s) (Drop s h)
-event_refusal next g0 a (Get s h i h2) = call_refusal g0 a (a.active s) (Get s h i h2)
-event_refusal next g0 a (Same s h h2) = call_refusal g0 a (a.active s) (Same s h h2)
-event_refusal next g0 a (Len s h) = call_refusal g0 a (a.active s) (Len s h)
-event_refusal next g0 a (Seal s) = call_refusal g0 a (a.active s) (Seal s)
-event_refusal next g0 a (Abort s) = call_refusal g0 a (a.active s) (Abort s)
+event_refusal next g0 a event = asked_refusal next g0 a (a.active (session_of event)) event (kind_of event)
 
 -- the refusal that names who holds an object
 abbrev pub busy_with : Option ℕ → Option Refusal
@@ -136,7 +130,7 @@ abbrev pub call_reply : Graph → Account → Option Transaction → Event → R
 call_reply g0 a None event = Done
 call_reply g0 a (Some t) event = (call (view g0 a t) t.number event).reply
 
--- what an event that isn't refused is answered
+-- what an event that isn't refused is answered: all but those that are named are calls
 abbrev pub granted : ℕ → Graph → Account → Event → Reply
 granted next g0 a (Begin s) = Begun next
 granted next g0 a (Seal s) = Sealed (length a.sealed + 1)
@@ -145,15 +139,7 @@ granted next g0 a Force = Durable (length a.sealed)
 granted next g0 a Flip = Collecting
 granted next g0 a Scan = Idle
 granted next g0 a (Flush p) = Flushed p
-granted next g0 a (Root s h) = call_reply g0 a (a.active s) (Root s h)
-granted next g0 a (New s h len) = call_reply g0 a (a.active s) (New s h len)
-granted next g0 a (Put s h i v) = call_reply g0 a (a.active s) (Put s h i v)
-granted next g0 a (Clear s h i) = call_reply g0 a (a.active s) (Clear s h i)
-granted next g0 a (Link s h i h2) = call_reply g0 a (a.active s) (Link s h i h2)
-granted next g0 a (Drop s h) = call_reply g0 a (a.active s) (Drop s h)
-granted next g0 a (Get s h i h2) = call_reply g0 a (a.active s) (Get s h i h2)
-granted next g0 a (Same s h h2) = call_reply g0 a (a.active s) (Same s h h2)
-granted next g0 a (Len s h) = call_reply g0 a (a.active s) (Len s h)
+granted next g0 a event = call_reply g0 a (a.active (session_of event)) event
 
 abbrev pub reply_of : Option Refusal → Reply → Reply
 reply_of None reply = reply

@@ -1,7 +1,6 @@
 -- Which replies answer a call of a transaction.
 use Rattle.graph_model.specs.declared.reply.Reply.{Reply}
 use Rattle.graph_model.specs.declared.reply.Reply.TheVariants.{Begun, Sealed, Aborted, Durable, Flipped, Collecting, Scanned, Collected, Idle, Flushed, Clean, Refused}
-use Rattle.graph_model.specs.Transaction.{call}
 
 -- a reply to a call that was not refused
 abbrev pub IsCallReply : Reply → Type 0

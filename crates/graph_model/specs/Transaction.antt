@@ -5,10 +5,11 @@ use Rattle.graph_model.specs.declared.id.Id.{Id}
 use Rattle.graph_model.specs.declared.val.Val.{Val}
 use Rattle.graph_model.specs.declared.val.Val.TheVariants.{Null, Int, Ref}
 use Rattle.graph_model.specs.declared.event.Event.{Event}
-use Rattle.graph_model.specs.declared.event.Event.TheVariants.{Begin, Root, New, Put, Clear, Link, Drop, Get, Same, Len, Seal, Abort, Force, Flip, Scan, Flush}
+use Rattle.graph_model.specs.declared.event.Event.TheVariants.{Root, New, Put, Clear, Link, Drop, Get, Same, Len}
 use Rattle.graph_model.specs.declared.reply.Reply.{Reply}
 use Rattle.graph_model.specs.declared.reply.Reply.TheVariants as answer
 use Rattle.graph_model.specs.Graph.{Graph, is_same_id, root, fields, with_field}
+use Rattle.graph_model.specs.Kinds.{kind_of, AreCalls}
 
 -- the 64 handles of a transaction, and what each of them holds
 abbrev pub Registers : Type 0
@@ -98,14 +99,7 @@ tell view reply = record { view = view; reply = reply }
 
 -- a call is what a transaction does between its begin and its end
 abbrev pub IsCall : Event → Type 0
-IsCall (Begin s) = ⊥
-IsCall (Seal s) = ⊥
-IsCall (Abort s) = ⊥
-IsCall Force = ⊥
-IsCall Flip = ⊥
-IsCall Scan = ⊥
-IsCall (Flush p) = ⊥
-IsCall event = Unit {0}
+IsCall event = AreCalls (kind_of event)
 
 -- one call of transaction t; other events call nothing
 abbrev pub call : View → ℕ → Event → Outcome

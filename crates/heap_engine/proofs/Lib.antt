@@ -33,6 +33,7 @@ pub mod SealLaws
 pub mod SessionsCore
 pub mod SessionsLeft
 pub mod Spare
+pub mod Stepped
 pub mod StoreCore
 pub mod Tables
 pub mod TakenBack

@@ -4,13 +4,14 @@ use Rattle.graph_model.specs.declared.id.Id.{Id}
 use Rattle.graph_model.specs.declared.val.Val.{Val}
 use Rattle.graph_model.specs.declared.val.Val.TheVariants.{Null, Int}
 use Rattle.graph_model.specs.declared.event.Event.{Event}
-use Rattle.graph_model.specs.declared.event.Event.TheVariants.{Begin, Root, New, Put, Clear, Link, Drop, Get, Same, Len, Seal, Abort, Force, Flip, Scan, Flush}
+use Rattle.graph_model.specs.declared.event.Event.TheVariants.{New, Put, Clear, Link, Seal, Abort, Force, Flip, Scan, Flush}
 use Rattle.graph_model.specs.declared.reply.Refusal.{Refusal}
 use Rattle.graph_model.specs.declared.reply.Refusal.TheVariants.{NoSuchPage, VolatileFull, Exhausted, LogFull, DiskFault, Stopped}
 use Rattle.graph_model.specs.declared.reply.Reply.{Reply}
 use Rattle.graph_model.specs.declared.reply.Reply.TheVariants.{Flushed, Clean, Refused}
 use Rattle.graph_model.specs.declared.reply.Entry.{Entry}
 use Rattle.graph_model.specs.Graph.{Graph, fields}
+use Rattle.graph_model.specs.Kinds.{Kind, Calls, Ends, kind_of, used_field}
 use Rattle.graph_model.specs.Transaction.{View, Transaction, held, reference_to}
 use Rattle.graph_model.specs.History.{Account, account, account_after, session_of, sessions}
 use Rattle.graph_model.specs.Plain.{view, model_refusal, first_of_two, refusal_of, granted, reply_of}
@@ -138,7 +139,7 @@ seal_moves ground t view = moves_of (area_in ground.places view t) ground.words 
 abbrev pub seal_of : Ground → ℕ → View → List Record
 seal_of ground t view = seal_records (area_in ground.places view t) ground.words (undo_with ground.state t) (next_word ground.state)
 
--- the records of a call of a session, or of its transaction's end
+-- the records of a call of a session, or of its transaction's end: what writes a field has some, and what ends a transaction; no other has any
 abbrev pub call_records : Ground → Graph → Account → Option Transaction → Event → List Record
 call_records ground g0 a None event = []
 call_records ground g0 a (Some t) (Put s h i v) = view_records ground.places t.number (view g0 a t) h i (Int v)
@@ -147,40 +148,23 @@ call_records ground g0 a (Some t) (Link s h i h2) =
     view_records ground.places t.number (view g0 a t) h i (reference_to (held (view g0 a t).registers h2))
 call_records ground g0 a (Some t) (Seal s) = seal_of ground t.number (view g0 a t)
 call_records ground g0 a (Some t) (Abort s) = abort_records t.number (undo_with ground.state t.number)
-call_records ground g0 a (Some t) (Root s h) = []
-call_records ground g0 a (Some t) (New s h len) = []
-call_records ground g0 a (Some t) (Drop s h) = []
-call_records ground g0 a (Some t) (Get s h i h2) = []
-call_records ground g0 a (Some t) (Same s h h2) = []
-call_records ground g0 a (Some t) (Len s h) = []
-call_records ground g0 a (Some t) (Begin s) = []
-call_records ground g0 a (Some t) Force = []
-call_records ground g0 a (Some t) Flip = []
-call_records ground g0 a (Some t) Scan = []
-call_records ground g0 a (Some t) (Flush p) = []
+call_records ground g0 a (Some t) event = []
 
 -- the roots of a flip: the current objects that active transactions name
 abbrev pub roots : Ground → Graph → Account → List ℕ
 roots ground g0 a = roots_of ground.places (undo_with ground.state) g0 a
 
+-- the records of an event of this kind, where its session has this transaction: a call and an end may have some, a begin and what saves have none
+abbrev pub kind_records : Ground → Graph → Account → Option Transaction → Event → Kind → List Record
+kind_records ground g0 a t event Calls = call_records ground g0 a t event
+kind_records ground g0 a t event Ends = call_records ground g0 a t event
+kind_records ground g0 a t event kind = []
+
 -- an event's own records, those of a scan that comes before it left out
 abbrev pub records_for : Ground → Graph → Account → Event → List Record
-records_for ground g0 a (Begin s) = []
-records_for ground g0 a Force = []
 records_for ground g0 a Flip = flip_records ground.state ground.words (roots ground g0 a)
 records_for ground g0 a Scan = scan_event_records ground.state ground.words
-records_for ground g0 a (Flush p) = []
-records_for ground g0 a (Root s h) = call_records ground g0 a (a.active s) (Root s h)
-records_for ground g0 a (New s h len) = call_records ground g0 a (a.active s) (New s h len)
-records_for ground g0 a (Put s h i v) = call_records ground g0 a (a.active s) (Put s h i v)
-records_for ground g0 a (Clear s h i) = call_records ground g0 a (a.active s) (Clear s h i)
-records_for ground g0 a (Link s h i h2) = call_records ground g0 a (a.active s) (Link s h i h2)
-records_for ground g0 a (Drop s h) = call_records ground g0 a (a.active s) (Drop s h)
-records_for ground g0 a (Get s h i h2) = call_records ground g0 a (a.active s) (Get s h i h2)
-records_for ground g0 a (Same s h h2) = call_records ground g0 a (a.active s) (Same s h h2)
-records_for ground g0 a (Len s h) = call_records ground g0 a (a.active s) (Len s h)
-records_for ground g0 a (Seal s) = call_records ground g0 a (a.active s) (Seal s)
-records_for ground g0 a (Abort s) = call_records ground g0 a (a.active s) (Abort s)
+records_for ground g0 a event = kind_records ground g0 a (a.active (session_of event)) event (kind_of event)
 
 -- The barrier: before a field is read or written, the page in which its object starts is scanned if a gray object starts there.
 
@@ -193,23 +177,13 @@ abbrev pub call_barrier : Ground → Graph → Account → Option Transaction �
 call_barrier ground g0 a None h i = []
 call_barrier ground g0 a (Some t) h i = held_barrier ground (held (view g0 a t).registers h) i
 
+-- the same for an event that uses this field, with its handle, or none
+abbrev pub field_barrier : Ground → Graph → Account → Option Transaction → Option (ℕ × ℕ) → List Record
+field_barrier ground g0 a t None = []
+field_barrier ground g0 a t (Some (h, i)) = call_barrier ground g0 a t h i
+
 abbrev pub barrier_for : Ground → Graph → Account → Event → List Record
-barrier_for ground g0 a (Begin s) = []
-barrier_for ground g0 a Force = []
-barrier_for ground g0 a Flip = []
-barrier_for ground g0 a Scan = []
-barrier_for ground g0 a (Flush p) = []
-barrier_for ground g0 a (Root s h) = []
-barrier_for ground g0 a (New s h len) = []
-barrier_for ground g0 a (Put s h i v) = call_barrier ground g0 a (a.active s) h i
-barrier_for ground g0 a (Clear s h i) = call_barrier ground g0 a (a.active s) h i
-barrier_for ground g0 a (Link s h i h2) = call_barrier ground g0 a (a.active s) h i
-barrier_for ground g0 a (Drop s h) = []
-barrier_for ground g0 a (Get s h i h2) = call_barrier ground g0 a (a.active s) h i
-barrier_for ground g0 a (Same s h h2) = []
-barrier_for ground g0 a (Len s h) = []
-barrier_for ground g0 a (Seal s) = []
-barrier_for ground g0 a (Abort s) = []
+barrier_for ground g0 a event = field_barrier ground g0 a (a.active (session_of event)) (used_field event)
 
 abbrev pub barrier_records : Core → Event → List Record
 barrier_records c event = barrier_for (ground c) c.g0 (account c.history) event
@@ -297,25 +271,12 @@ space_refusal (Some s) need =
     let free = space_words s.pages - s.used in
     if nat_lt (free - owed s) need then Some (Exhausted need free (owed s)) else None
 
--- why there is no room for what a transaction asks for: a new object, or those that its seal promotes
+-- why there is no room for what a transaction asks for: a new object, or those that its seal promotes; no other event asks for room
 abbrev pub room_refusal : Ground → Graph → Account → Option Transaction → Event → Option Refusal
 room_refusal ground g0 a None event = None
-room_refusal ground g0 a (Some t) (Begin s) = None
-room_refusal ground g0 a (Some t) Force = None
-room_refusal ground g0 a (Some t) Flip = None
-room_refusal ground g0 a (Some t) Scan = None
-room_refusal ground g0 a (Some t) (Flush p) = None
-room_refusal ground g0 a (Some t) (Root s h) = None
 room_refusal ground g0 a (Some t) (New s h len) = area_refusal (view g0 a t) t.number len
-room_refusal ground g0 a (Some t) (Put s h i v) = None
-room_refusal ground g0 a (Some t) (Clear s h i) = None
-room_refusal ground g0 a (Some t) (Link s h i h2) = None
-room_refusal ground g0 a (Some t) (Drop s h) = None
-room_refusal ground g0 a (Some t) (Get s h i h2) = None
-room_refusal ground g0 a (Some t) (Same s h h2) = None
-room_refusal ground g0 a (Some t) (Len s h) = None
 room_refusal ground g0 a (Some t) (Seal s) = space_refusal ground.state (seal_need ground t.number (view g0 a t))
-room_refusal ground g0 a (Some t) (Abort s) = None
+room_refusal ground g0 a (Some t) event = None
 
 -- why there is no such page
 abbrev pub page_refusal : ℕ → Event → Option Refusal

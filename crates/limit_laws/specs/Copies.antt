@@ -2,11 +2,12 @@
 use Rattle.std.specs.Prelude.{◌≡◌, ◌↔◌, ℕ, ◌+◌, ◌==◌, Bool, true, List, length, drop, filter, sum_by, is_some, None}
 use Rattle.std.specs.List.{AllByRecursion, list_any}
 use Rattle.graph_model.specs.declared.event.Event.{Event}
-use Rattle.graph_model.specs.declared.event.Event.TheVariants.{Force, Flip, Scan, Flush}
+use Rattle.graph_model.specs.declared.event.Event.TheVariants.{Flip, Scan}
 use Rattle.graph_model.specs.declared.id.Id.{Id}
 use Rattle.graph_model.specs.declared.reply.Reply.TheVariants as reply
 use Rattle.graph_model.specs.Canon.{Reached}
 use Rattle.graph_model.specs.Graph.{Graph, fields}
+use Rattle.graph_model.specs.Kinds.{kind_of, AreOfNone}
 use Rattle.graph_model.specs.History.{account, IsOfSession}
 use Rattle.graph_model.specs.Transaction.{Transaction, serial}
 use Rattle.graph_words.specs.Places.{Places, address_of}
@@ -19,11 +20,7 @@ use Rattle.limit_laws.specs.Progress.{BeganNone}
 
 -- an event of no session
 abbrev pub IsOfNone : Event → Type 0
-IsOfNone Force = Unit {0}
-IsOfNone Flip = Unit {0}
-IsOfNone Scan = Unit {0}
-IsOfNone (Flush p) = Unit {0}
-IsOfNone event = ⊥
+IsOfNone event = AreOfNone (kind_of event)
 
 -- no transaction is active
 abbrev pub IsIdle : Core → Type 0

@@ -2,20 +2,23 @@
 use Rattle.std.specs.Prelude.{◌≡◌, ◌==◌, ℕ, List, filter}
 use Rattle.std.specs.List.{AllByRecursion}
 use Rattle.graph_model.specs.declared.event.Event.{Event}
-use Rattle.graph_model.specs.declared.event.Event.TheVariants.{Force, Flip, Scan, Flush}
+use Rattle.graph_model.specs.declared.event.Event.TheVariants.{Force}
+use Rattle.graph_model.specs.Kinds.{Kind, Collects, Saves, kind_of}
 use Rattle.graph_model.specs.History.{session_of}
 use Rattle.heap_workers.specs.declared.worker.Worker.{Worker}
 use Rattle.script_text.specs.declared.line.Line.{Line}
 use Rattle.script_text.specs.declared.line.Line.TheVariants.{One, Commit}
 use Rattle.script_text.specs.Line.{events}
 
--- the worker that makes an event that stands alone: its session's, 33 for the collector, 34 for the flusher
+-- the worker that makes events of this kind and this session: its session's, 33 for the collector, 34 for the flusher
+abbrev pub worker_of_kind : Kind → ℕ → ℕ
+worker_of_kind Collects s = 33
+worker_of_kind Saves s = 34
+worker_of_kind kind s = s
+
+-- the worker that makes an event that stands alone
 abbrev pub worker_of_event : Event → ℕ
-worker_of_event Flip = 33
-worker_of_event Scan = 33
-worker_of_event Force = 34
-worker_of_event (Flush p) = 34
-worker_of_event event = session_of event
+worker_of_event event = worker_of_kind (kind_of event) (session_of event)
 
 -- the worker that makes the events of a line; those of a commit are its session's, also the force
 abbrev pub worker_of : Line → ℕ

@@ -3,11 +3,12 @@ use Rattle.std.proofs.Common.{◌≡◌, ℕ, List, [], ◌∷◌, ◌++◌, len
 use Rattle.std.specs.Prelude.{MatchResult}
 use Rattle.std.specs.declared.alloc.AllocError.{AllocError}
 use Rattle.graph_model.specs.declared.event.Event.{Event}
-use Rattle.graph_model.specs.declared.event.Event.TheVariants.{Force, Flip, Scan, Flush}
+use Rattle.graph_model.specs.declared.event.Event.TheVariants.{Force}
 use Rattle.graph_model.specs.declared.reply.Entry.{Entry}
 use Rattle.graph_model.specs.declared.reply.Reply.{Reply}
-use Rattle.graph_model.specs.History.{IsSession, IsOfSession}
-use Rattle.shared_heap.specs.Shared.{MaySend}
+use Rattle.graph_model.specs.History.{IsSession, session_of, AreOfSession, IsOfSession}
+use Rattle.graph_model.specs.Kinds.{Kind, Collects, Saves, kind_of}
+use Rattle.shared_heap.specs.Shared.{MaySendKind, MaySend}
 use Rattle.turn_lock.specs.Turning.{IsBeginning, StandIn, added}
 use Rattle.turn_lock.specs.Merging.{Rise}
 use Rattle.turn_lock.proofs.TurnLaws.{begins_more, added_one, added_none, rise_added}
@@ -15,10 +16,12 @@ use Rattle.turn_lock.proofs.TurnLaws.{begins_more, added_one, added_none, rise_a
 -- what a pass may send is of a session, or of none
 pub sent_of_session : (label : ℕ) (event : Event) → MaySend label event → IsOfSession event
 sent_of_session label Force may = tt
-sent_of_session label Flip may = tt
-sent_of_session label Scan may = tt
-sent_of_session label (Flush p) may = tt
-sent_of_session label event may = subst IsSession (sym may.1) may.0
+sent_of_session label event may = by (kind_of event) (session_of event) may
+  where
+    by : (kind : Kind) (s : ℕ) → MaySendKind label kind s → AreOfSession s kind
+    by Collects s may = tt
+    by Saves s may = tt
+    by kind s may = subst IsSession (sym may.1) may.0
 
 -- What a call leaves its pass.
 pub record Leaves (event : Event) (seen seen' : List Entry) (mine mine' : List (ℕ × Entry)) (result : Result Reply AllocError) : Type 0 where

@@ -2,8 +2,9 @@
 use Rattle.std.specs.Prelude.{◌≡◌, ℕ, List, ◌++◌}
 use Rattle.disk_model.specs.declared.disk.Disk.{Ghosts}
 use Rattle.graph_model.specs.declared.event.Event.{Event}
-use Rattle.graph_model.specs.declared.event.Event.TheVariants.{Force, Flip, Scan, Flush}
+use Rattle.graph_model.specs.declared.event.Event.TheVariants.{Force}
 use Rattle.graph_model.specs.declared.reply.Entry.{Entry}
+use Rattle.graph_model.specs.Kinds.{Kind, Collects, Saves, kind_of}
 use Rattle.graph_model.specs.History.{IsSession, session_of}
 use Rattle.heap_core.specs.declared.heap.Heap.{Heap}
 use Rattle.heap_core.specs.HeapState.{history_of}
@@ -17,13 +18,17 @@ use Rattle.turn_lock.specs.declared.pass.Pass.{Pass}
 use Rattle.turn_lock.specs.Merging.{Rise}
 use Rattle.turn_lock.specs.Passes as turns
 
--- Which events a pass with this label sends: those of the session of that number, and each a force; with label 0 also flips, scans and flushes.
+-- Which events of this kind and this session, or of none, a pass with this label sends.
+abbrev pub MaySendKind : ℕ → Kind → ℕ → Type 0
+MaySendKind label Collects s = label ≡ 0
+MaySendKind label Saves s = label ≡ 0
+MaySendKind label kind s = IsSession label × (s ≡ label)
+
+-- Which events a pass with this label sends: those of the session of that number, and each a force; with label 0 also all others that are of no
+-- session, flips, scans and flushes.
 abbrev pub MaySend : ℕ → Event → Type 0
 MaySend label Force = Unit {0}
-MaySend label Flip = label ≡ 0
-MaySend label Scan = label ≡ 0
-MaySend label (Flush p) = label ≡ 0
-MaySend label event = IsSession label × (session_of event ≡ label)
+MaySend label event = MaySendKind label (kind_of event) (session_of event)
 
 module _ {D : Type 0} {g : Ghosts D} where
   -- the heap that was handed in, as it was then

@@ -4,14 +4,15 @@ use Rattle.std.proofs.lemmas.Bool.{lt-ltb, ltb-false, ltb-true}
 use Rattle.std.proofs.lemmas.List.Elements.{All-from_recursion}
 use Rattle.std.specs.List.{AllByRecursion}
 use Rattle.graph_model.specs.declared.event.Event.{Event}
-use Rattle.graph_model.specs.declared.event.Event.TheVariants.{Force, Flip, Scan, Flush}
-use Rattle.graph_model.specs.History.{IsSession, IsOfSession, session_of}
+use Rattle.graph_model.specs.declared.event.Event.TheVariants.{Force}
+use Rattle.graph_model.specs.History.{IsSession, AreOfSession, IsOfSession, session_of}
+use Rattle.graph_model.specs.Kinds.{Kind, Collects, Saves, kind_of}
 use Rattle.heap_workers.specs.declared.worker.Worker.{Worker}
 use Rattle.script_text.specs.declared.line.Line.{Line}
 use Rattle.script_text.specs.declared.line.Line.TheVariants.{One, Commit}
 use Rattle.script_text.specs.Line.{events}
-use Rattle.script_workers.specs.Workers.{worker_of, worker_of_event, worker_events, IsFor, IsOfScript}
-use Rattle.shared_heap.specs.Shared.{MaySend}
+use Rattle.script_workers.specs.Workers.{worker_of, worker_of_kind, worker_of_event, worker_events, IsFor, IsOfScript}
+use Rattle.shared_heap.specs.Shared.{MaySendKind, MaySend}
 use Rattle.turn_lock.specs.Turning.{numbers_from}
 use Rattle.thread_play.specs.Stationed.{label_at, AreWorkers}
 
@@ -54,10 +55,12 @@ session_sent i s own session =
 -- an event that a worker makes is one that the pass of its place may send
 may_send : (i : ℕ) (event : Event) → IsFor (i + 1) event → IsOfSession event → MaySend (label_at i) event
 may_send i Force own session = tt
-may_send i Flip own session = label_none i (omega (arith, own))
-may_send i Scan own session = label_none i (omega (arith, own))
-may_send i (Flush p) own session = label_none i (omega (arith, own))
-may_send i event own session = session_sent i (session_of event) own session
+may_send i event own session = by (kind_of event) (session_of event) own session
+  where
+    by : (kind : Kind) (s : ℕ) → worker_of_kind kind s ≡ i + 1 → AreOfSession s kind → MaySendKind (label_at i) kind s
+    by Collects s own session = label_none i (omega (arith, own))
+    by Saves s own session = label_none i (omega (arith, own))
+    by kind s own session = session_sent i s own session
 
 may_send_all : (i : ℕ) (made : List Event) → AllByRecursion (IsFor (i + 1)) made → AllByRecursion IsOfSession made → AllByRecursion (MaySend (label_at i)) made
 may_send_all i [] own sessions = tt

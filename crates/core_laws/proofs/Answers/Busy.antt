@@ -3,15 +3,16 @@ use Rattle.std.proofs.Common.{◌≡◌, ℕ, ◌-◌, ◌*◌, Bool, true, fals
 use Rattle.std.specs.Prelude.{◌==◌, nat_lt, nat_le, if◌then◌else◌}
 use Rattle.graph_model.specs.declared.id.Id.{Id}
 use Rattle.graph_model.specs.declared.event.Event.{Event}
-use Rattle.graph_model.specs.declared.event.Event.TheVariants.{Begin, Root, New, Put, Clear, Link, Drop, Get, Same, Len, Seal, Force, Flip, Scan, Flush}
+use Rattle.graph_model.specs.declared.event.Event.TheVariants.{Root, New, Put, Clear, Link, Drop, Get, Same, Len, Seal, Flush}
 use Rattle.graph_model.specs.declared.reply.Refusal.{Refusal}
 use Rattle.graph_model.specs.declared.reply.Refusal.TheVariants.{Failed, AlreadyActive, NumbersSpent, BadHandle, Range, BadField, Busy, NoSuchPage, VolatileFull, Exhausted, LogFull}
 use Rattle.graph_model.specs.Graph.{Graph, fields}
+use Rattle.graph_model.specs.Kinds.{Kind, Begins, Calls, Ends, kind_of}
 use Rattle.graph_model.specs.Transaction.{View, Transaction, held}
 use Rattle.graph_model.specs.History.{Account, AreInSessions, account, session_of}
 use Rattle.graph_model.proofs.Refusals.Busy.{free_law, busy_law, busy_found}
 use Rattle.graph_model.specs.Locking.{Lock, lock_of, busy_holder}
-use Rattle.graph_model.specs.Plain.{view, no_number, no_int, most_fields, handle_refusal, new_refusal, len_refusal, same_refusal, field_refusal, put_refusal, link_refusal, view_refusal, call_refusal, event_refusal, busy_with, call_conflict, conflict_refusal, first_of_two, model_refusal, refusal_of}
+use Rattle.graph_model.specs.Plain.{view, no_number, no_int, most_fields, handle_refusal, new_refusal, len_refusal, same_refusal, field_refusal, put_refusal, link_refusal, view_refusal, call_refusal, asked_refusal, event_refusal, busy_with, call_conflict, conflict_refusal, first_of_two, model_refusal, refusal_of}
 use Rattle.log_machine.specs.Machine.{State, owed}
 use Rattle.page_redo.specs.Pages.{pages_in}
 use Rattle.heap_model.specs.Core.{Core, Ground, ground, next_number, seal_need, space_refusal, page_refusal, room_refusal, words_refusal, log_refusal, core_refusal}
@@ -72,15 +73,15 @@ other_call : (g0 : Graph) (a : Account) (t : Option Transaction) (event : Event)
 other_call g0 a None event = tt
 other_call g0 a (Some t) event = other_view (view g0 a t) event
 
+other_asked : (next : ℕ) (g0 : Graph) (a : Account) (t : Option Transaction) (event : Event) (kind : Kind) → IsOther (asked_refusal next g0 a t event kind)
+other_asked next g0 a t event Begins = other_if (is_some t) AlreadyActive (if next == no_number then Some NumbersSpent else None) tt (other_if (next == no_number) NumbersSpent None tt tt)
+other_asked next g0 a t event Calls = other_call g0 a t event
+other_asked next g0 a t event Ends = other_call g0 a t event
+other_asked next g0 a t event kind = tt
+
 -- what an event asks for is never a reason to answer so
 other_event : (next : ℕ) (g0 : Graph) (a : Account) (event : Event) → IsOther (event_refusal next g0 a event)
-other_event next g0 a (Begin s) =
-    other_if (is_some (a.active s)) AlreadyActive (if next == no_number then Some NumbersSpent else None) tt (other_if (next == no_number) NumbersSpent None tt tt)
-other_event next g0 a Force = tt
-other_event next g0 a Flip = tt
-other_event next g0 a Scan = tt
-other_event next g0 a (Flush p) = tt
-other_event next g0 a event = other_call g0 a (a.active (session_of event)) event
+other_event next g0 a event = other_asked next g0 a (a.active (session_of event)) event (kind_of event)
 
 other_space : (o : Option State) (need : ℕ) → IsOther (space_refusal o need)
 other_space None need = tt

@@ -6,7 +6,7 @@ use Rattle.std.specs.Option.{option_to_list}
 use Rattle.std.proofs.lemmas.List.{append-nil}
 use Rattle.std.proofs.Math.Seq.{drop-append_seam}
 use Rattle.graph_model.specs.declared.event.Event.{Event}
-use Rattle.graph_model.specs.declared.event.Event.TheVariants.{Begin, Root, New, Put, Clear, Link, Drop, Get, Same, Len, Seal, Abort, Force, Flip, Scan, Flush}
+use Rattle.graph_model.specs.declared.event.Event.TheVariants.{New, Seal, Flip, Scan, Flush}
 use Rattle.graph_model.specs.declared.reply.Entry.{Entry}
 use Rattle.graph_model.specs.declared.reply.Refusal.{Refusal}
 use Rattle.graph_model.specs.declared.reply.Refusal.TheVariants.{Exhausted, LogFull, DiskFault, Stopped}
@@ -59,21 +59,7 @@ space_for_room (Some s) need = if_short (nat_lt (64 * s.pages - s.used - owed s)
 
 words_form : (pages : ℕ) (g : Ground) (g0 : Graph) (a : Account) (o : Option Transaction) (event : Event) → is_flush event ≡ false → IsAreaOrRoom (first_of_two (page_refusal pages event) (room_refusal g g0 a o event)) (area_of g0 a o event)
 words_form pages g g0 a o (Flush p) flush = absurd (cc flush)
-words_form pages g g0 a None (Begin s) flush = inl refl
-words_form pages g g0 a None (Root s h) flush = inl refl
-words_form pages g g0 a None (New s h len) flush = inl refl
-words_form pages g g0 a None (Put s h i v) flush = inl refl
-words_form pages g g0 a None (Clear s h i) flush = inl refl
-words_form pages g g0 a None (Link s h i h2) flush = inl refl
-words_form pages g g0 a None (Drop s h) flush = inl refl
-words_form pages g g0 a None (Get s h i h2) flush = inl refl
-words_form pages g g0 a None (Same s h h2) flush = inl refl
-words_form pages g g0 a None (Len s h) flush = inl refl
-words_form pages g g0 a None (Seal s) flush = inl refl
-words_form pages g g0 a None (Abort s) flush = inl refl
-words_form pages g g0 a None Force flush = inl refl
-words_form pages g g0 a None Flip flush = inl refl
-words_form pages g g0 a None Scan flush = inl refl
+words_form pages g g0 a None event flush = inl refl
 words_form pages g g0 a (Some t) (Seal s) flush = inr (refl, space_for_room g.state _)
 words_form pages g g0 a (Some t) event flush = inl refl
 

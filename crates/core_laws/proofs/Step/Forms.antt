@@ -4,15 +4,16 @@ use Rattle.std.specs.Prelude.{nat_le}
 use Rattle.std.proofs.lemmas.Bool.{leb-false, ltb-false}
 use Rattle.graph_model.specs.declared.id.Id.{Id}
 use Rattle.graph_model.specs.declared.event.Event.{Event}
-use Rattle.graph_model.specs.declared.event.Event.TheVariants.{Begin, Root, New, Put, Clear, Link, Drop, Get, Same, Len, Seal, Abort, Force, Flip, Scan, Flush}
+use Rattle.graph_model.specs.declared.event.Event.TheVariants.{New, Put, Clear, Link, Seal, Abort, Force, Flip, Scan, Flush}
 use Rattle.graph_model.specs.declared.reply.Refusal.{Refusal}
 use Rattle.graph_model.specs.declared.reply.Refusal.TheVariants.{Range, VolatileFull}
 use Rattle.graph_model.specs.Graph.{Graph}
+use Rattle.graph_model.specs.Kinds.{Kind, Calls, kind_of, AreCalls, used_field}
 use Rattle.graph_model.specs.Transaction.{View, Transaction, Registers, IsCall, held, reference_to}
 use Rattle.graph_model.specs.History.{Account, account, session_of}
 use Rattle.graph_model.specs.Plain.{no_int, field_refusal, put_refusal, link_refusal, call_refusal, granted}
 use Rattle.core_laws.specs.Theorems.{IsOfTransactions}
-use Rattle.heap_model.specs.Core.{Core, Ground, ground, next_number, call_records, records_for, barrier_records, behind_barrier, own_records, event_places, area_refusal, page_refusal, granted_by, done, AsksDisk}
+use Rattle.heap_model.specs.Core.{Core, Ground, ground, next_number, call_records, kind_records, records_for, field_barrier, barrier_records, behind_barrier, own_records, event_places, area_refusal, page_refusal, granted_by, done, AsksDisk}
 use Rattle.graph_words.specs.Places.{Places, IsVisible, area_used}
 use Rattle.heap_model.proofs.Step.Granted.{IsQuiet}
 use Rattle.heap_model.proofs.Step.Handles.{HoldAllAtHand, held_at_hand}
@@ -26,31 +27,22 @@ is_write event = false
 
 no_records : (g : Ground) (g0 : Graph) (a : Account) (o : Option Transaction) (event : Event) → IsCall event → is_write event ≡ false → call_records g g0 a o event ≡ []
 no_records g g0 a None event is quiet = refl
-no_records g g0 a (Some t) (Begin s) is quiet = absurd is
-no_records g g0 a (Some t) (Root s h) is quiet = refl
-no_records g g0 a (Some t) (New s h len) is quiet = refl
 no_records g g0 a (Some t) (Put s h i v) is quiet = cc
 no_records g g0 a (Some t) (Clear s h i) is quiet = cc
 no_records g g0 a (Some t) (Link s h i h2) is quiet = cc
-no_records g g0 a (Some t) (Drop s h) is quiet = refl
-no_records g g0 a (Some t) (Get s h i h2) is quiet = refl
-no_records g g0 a (Some t) (Same s h h2) is quiet = refl
-no_records g g0 a (Some t) (Len s h) is quiet = refl
 no_records g g0 a (Some t) (Seal s) is quiet = absurd is
 no_records g g0 a (Some t) (Abort s) is quiet = absurd is
-no_records g g0 a (Some t) Force is quiet = absurd is
-no_records g g0 a (Some t) Flip is quiet = absurd is
-no_records g g0 a (Some t) Scan is quiet = absurd is
-no_records g g0 a (Some t) (Flush p) is quiet = absurd is
+no_records g g0 a (Some t) event is quiet = refl
+
+kind_records-call : (g : Ground) (g0 : Graph) (a : Account) (o : Option Transaction) (event : Event) (kind : Kind) → AreCalls kind → kind_records g g0 a o event kind ≡ call_records g g0 a o event
+kind_records-call g g0 a o event Calls is = refl
+kind_records-call g g0 a o event kind is = absurd is
 
 -- the records of a call are those of its session's transaction
 pub call_records-event : (g : Ground) (g0 : Graph) (a : Account) (event : Event) → IsCall event → records_for g g0 a event ≡ call_records g g0 a (a.active (session_of event)) event
-call_records-event g g0 a (Begin s) is = absurd is
-call_records-event g g0 a Force is = absurd is
 call_records-event g g0 a Flip is = absurd is
 call_records-event g g0 a Scan is = absurd is
-call_records-event g g0 a (Flush p) is = absurd is
-call_records-event g g0 a event is = refl
+call_records-event g g0 a event is = kind_records-call g g0 a (a.active (session_of event)) event (kind_of event) is
 
 -- a call that writes nothing appends no record of its own
 pub quiet_records : (c : Core) (event : Event) → IsCall event → is_write event ≡ false → own_records c event ≡ []
@@ -60,19 +52,15 @@ quiet_records c event is quiet =
 
 -- the events before which a page may be scanned
 abbrev pub has_barrier : Event → Bool
-has_barrier (Put s h i v) = true
-has_barrier (Clear s h i) = true
-has_barrier (Link s h i h2) = true
-has_barrier (Get s h i h2) = true
-has_barrier event = false
+has_barrier event = is_some (used_field event)
 
 -- before any other one none is
 pub no_barrier : (c : Core) (event : Event) → has_barrier event ≡ false → barrier_records c event ≡ []
-no_barrier c (Put s h i v) none = absurd (cc none)
-no_barrier c (Clear s h i) none = absurd (cc none)
-no_barrier c (Link s h i h2) none = absurd (cc none)
-no_barrier c (Get s h i h2) none = absurd (cc none)
-no_barrier c event none = refl
+no_barrier c event none = by (used_field event) none
+  where
+    by : (used : Option (ℕ × ℕ)) → is_some used ≡ false → field_barrier (ground c) c.g0 (account c.history) ((account c.history).active (session_of event)) used ≡ []
+    by None none = refl
+    by (Some used) none = absurd (cc none)
 
 -- a call places no object in the current space
 pub call_places : (c : Core) (event : Event) → IsCall event → event_places c event ≡ []
@@ -86,22 +74,11 @@ is_new event = false
 
 -- a call that neither writes nor makes an object leaves the graph
 pub quiet_call : (v : View) (t : ℕ) (event : Event) → is_write event ≡ false → is_new event ≡ false → IsQuiet v t event
-quiet_call v t (Begin s) quiet old = record { graph = refl; made = refl }
-quiet_call v t (Root s h) quiet old = record { graph = refl; made = refl }
 quiet_call v t (New s h len) quiet old = cc
 quiet_call v t (Put s h i n) quiet old = cc
 quiet_call v t (Clear s h i) quiet old = cc
 quiet_call v t (Link s h i h2) quiet old = cc
-quiet_call v t (Drop s h) quiet old = record { graph = refl; made = refl }
-quiet_call v t (Get s h i h2) quiet old = record { graph = refl; made = refl }
-quiet_call v t (Same s h h2) quiet old = record { graph = refl; made = refl }
-quiet_call v t (Len s h) quiet old = record { graph = refl; made = refl }
-quiet_call v t (Seal s) quiet old = record { graph = refl; made = refl }
-quiet_call v t (Abort s) quiet old = record { graph = refl; made = refl }
-quiet_call v t Force quiet old = record { graph = refl; made = refl }
-quiet_call v t Flip quiet old = record { graph = refl; made = refl }
-quiet_call v t Scan quiet old = record { graph = refl; made = refl }
-quiet_call v t (Flush p) quiet old = record { graph = refl; made = refl }
+quiet_call v t event quiet old = record { graph = refl; made = refl }
 
 -- a core with an event's own records after the pending ones
 abbrev pub with_own : Core → Core → Event → Core
@@ -109,9 +86,6 @@ with_own b c event = record b { pending = b.pending ++ own_records c event; plac
 
 -- what a call does: its own records are pending, after those of the barrier
 pub done_records : (c : Core) (event : Event) → IsCall event → done c event ≡ with_own (behind_barrier c event) c event
-done_records c (Begin s) is = absurd is
-done_records c (Seal s) is = absurd is
-done_records c (Abort s) is = absurd is
 done_records c Force is = absurd is
 done_records c Flip is = absurd is
 done_records c Scan is = absurd is

@@ -9,10 +9,11 @@ use Rattle.graph_model.specs.declared.reply.Refusal.TheVariants.{AlreadyActive, 
 use Rattle.graph_model.specs.declared.reply.Reply.{Reply}
 use Rattle.graph_model.specs.declared.reply.Reply.TheVariants.{Done, Refused}
 use Rattle.graph_model.specs.Graph.{Graph, fields}
+use Rattle.graph_model.specs.Kinds.{Kind, Begins, Calls, Ends, Collects, Saves, kind_of, AreCalls}
 use Rattle.graph_model.specs.Transaction.{View, Transaction, IsCall, held}
 use Rattle.graph_model.specs.History.{Account, session_of, answered, account_after}
 use Rattle.graph_model.specs.Locking.{lock_of, busy_holder}
-use Rattle.graph_model.specs.Plain.{no_number, no_int, most_fields, handle_refusal, new_refusal, len_refusal, field_refusal, put_refusal, link_refusal, same_refusal, view_refusal, call_refusal, event_refusal, busy_with, call_conflict, conflict_refusal, first_of_two, model_refusal, refusal_of, call_reply, granted, reply_of, plain_reply, view}
+use Rattle.graph_model.specs.Plain.{no_number, no_int, most_fields, handle_refusal, new_refusal, len_refusal, field_refusal, put_refusal, link_refusal, same_refusal, view_refusal, call_refusal, asked_refusal, event_refusal, busy_with, call_conflict, conflict_refusal, first_of_two, model_refusal, refusal_of, call_reply, granted, reply_of, plain_reply, view}
 use Rattle.graph_model.specs.Replies.{IsCallReply}
 use Rattle.graph_model.proofs.Runs.History.{IsOrder, call-IsCallReply, call-reply}
 
@@ -82,15 +83,17 @@ call_no_fault : (g0 : Graph) (a : Account) (t : Option Transaction) (event : Eve
 call_no_fault g0 a None event = tt
 call_no_fault g0 a (Some t) event = view_no_fault (view g0 a t) event
 
-event_no_fault : (next : ℕ) (g0 : Graph) (a : Account) (event : Event) → HasNoFault (event_refusal next g0 a event)
-event_no_fault next g0 a (Begin s) =
-    no_fault_if (is_some (a.active s)) AlreadyActive (if next == no_number then Some NumbersSpent else None) tt
+asked_no_fault : (next : ℕ) (g0 : Graph) (a : Account) (t : Option Transaction) (event : Event) (kind : Kind) → HasNoFault (asked_refusal next g0 a t event kind)
+asked_no_fault next g0 a t event Begins =
+    no_fault_if (is_some t) AlreadyActive (if next == no_number then Some NumbersSpent else None) tt
     (no_fault_if (next == no_number) NumbersSpent None tt tt)
-event_no_fault next g0 a Force = tt
-event_no_fault next g0 a Flip = tt
-event_no_fault next g0 a Scan = tt
-event_no_fault next g0 a (Flush p) = tt
-event_no_fault next g0 a event = call_no_fault g0 a (a.active (session_of event)) event
+asked_no_fault next g0 a t event Calls = call_no_fault g0 a t event
+asked_no_fault next g0 a t event Ends = call_no_fault g0 a t event
+asked_no_fault next g0 a t event Collects = tt
+asked_no_fault next g0 a t event Saves = tt
+
+event_no_fault : (next : ℕ) (g0 : Graph) (a : Account) (event : Event) → HasNoFault (event_refusal next g0 a event)
+event_no_fault next g0 a event = asked_no_fault next g0 a (a.active (session_of event)) event (kind_of event)
 
 busy_no_fault : (holder : Option ℕ) → HasNoFault (busy_with holder)
 busy_no_fault None = tt
@@ -148,14 +151,13 @@ pub call_reply-done : (g0 : Graph) (a : Account) (t : Option Transaction) (event
 call_reply-done g0 a None event order = refl
 call_reply-done g0 a (Some t) event order = call-reply (view g0 a t) t.number event order
 
+asked_refusal-call : (next : ℕ) (g0 : Graph) (a : Account) (t : Option Transaction) (event : Event) (kind : Kind) → AreCalls kind → asked_refusal next g0 a t event kind ≡ call_refusal g0 a t event
+asked_refusal-call next g0 a t event Calls is = refl
+asked_refusal-call next g0 a t event kind never = absurd never
+
 -- a call is refused by what its session's transaction sees
 pub event_refusal-call : (next : ℕ) (g0 : Graph) (a : Account) (event : Event) → IsCall event → event_refusal next g0 a event ≡ call_refusal g0 a (a.active (session_of event)) event
-event_refusal-call next g0 a (Begin s) never = absurd never
-event_refusal-call next g0 a Force never = absurd never
-event_refusal-call next g0 a Flip never = absurd never
-event_refusal-call next g0 a Scan never = absurd never
-event_refusal-call next g0 a (Flush p) never = absurd never
-event_refusal-call next g0 a event is = refl
+event_refusal-call next g0 a event is = asked_refusal-call next g0 a (a.active (session_of event)) event (kind_of event) is
 
 -- and is answered so
 pub granted-call : (next : ℕ) (g0 : Graph) (a : Account) (event : Event) → IsCall event → granted next g0 a event ≡ call_reply g0 a (a.active (session_of event)) event

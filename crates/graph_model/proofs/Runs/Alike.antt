@@ -7,7 +7,7 @@ use Rattle.graph_model.specs.declared.id.Id.{Id}
 use Rattle.graph_model.specs.declared.val.Val.{Val}
 use Rattle.graph_model.specs.declared.val.Val.TheVariants.{Null, Int, Ref}
 use Rattle.graph_model.specs.declared.event.Event.{Event}
-use Rattle.graph_model.specs.declared.event.Event.TheVariants.{Begin, Root, New, Put, Clear, Link, Drop, Get, Same, Len, Seal, Abort, Force, Flip, Scan, Flush}
+use Rattle.graph_model.specs.declared.event.Event.TheVariants.{Root, New, Put, Clear, Link, Drop, Get, Same, Len}
 use Rattle.graph_model.specs.declared.reply.Reply.TheVariants as answer
 use Rattle.graph_model.specs.Graph.{Graph, root, fields}
 use Rattle.graph_model.proofs.Whole.Graph.{fields-insert, fields-insert_other, fields_by_insert}
@@ -195,7 +195,6 @@ module _ (R : Id → Id → Type 0) (t : ℕ) (one : IsOneToOne R) (apart : IsAp
 
   -- a call is answered alike, and leaves views that are alike
   pub call_alike : (v w : View) (c : Event) → Alike v w → ((call v t c).reply ≡ (call w t c).reply) × Alike (call v t c).view (call w t c).view
-  call_alike v w (Begin s) alike = (refl, alike)
   call_alike v w (Root s h) alike =
       let S = WithMade R t v.made in
       (refl, registers_alike S v w _ _ alike (set_match S v.registers w.registers h (Some root) (Some root) alike.roots alike.registers))
@@ -228,12 +227,7 @@ module _ (R : Id → Id → Type 0) (t : ℕ) (one : IsOneToOne R) (apart : IsAp
       let S = WithMade R t v.made in
       let rows = fields_match S v w (held v.registers h) (held w.registers h) alike (held_match S v.registers w.registers h alike.registers) in
       (ap answer.Length (rows_length S (fields_of v.graph (held v.registers h)) (fields_of w.graph (held w.registers h)) rows), alike)
-  call_alike v w (Seal s) alike = (refl, alike)
-  call_alike v w (Abort s) alike = (refl, alike)
-  call_alike v w Force alike = (refl, alike)
-  call_alike v w Flip alike = (refl, alike)
-  call_alike v w Scan alike = (refl, alike)
-  call_alike v w (Flush p) alike = (refl, alike)
+  call_alike v w c alike = (refl, alike)
 
   -- so are calls
   pub calls_alike : (v w : View) (cs : List Event) → Alike v w → (call_replies v t cs ≡ call_replies w t cs) × Alike (after_calls v t cs) (after_calls w t cs)

@@ -6,7 +6,7 @@ use Rattle.std.proofs.lemmas.Option.{slice_get_past}
 use Rattle.std.proofs.lemmas.List.Sums.{fold-append}
 use Rattle.graph_model.specs.declared.id.Id.{Id}
 use Rattle.graph_model.specs.declared.event.Event.{Event}
-use Rattle.graph_model.specs.declared.event.Event.TheVariants.{Begin, Root, New, Put, Clear, Link, Drop, Get, Same, Len, Seal, Abort, Force, Flip, Scan, Flush}
+use Rattle.graph_model.specs.declared.event.Event.TheVariants.{Root, New, Drop, Get, Same, Len}
 use Rattle.graph_model.specs.declared.reply.Entry.{Entry}
 use Rattle.graph_model.specs.declared.reply.Reply.{Reply}
 use Rattle.graph_model.specs.declared.reply.Reply.TheVariants.{Begun, Done, Yes, No, Sealed, Aborted, Durable, Flipped, Collecting, Scanned, Collected, Idle, Flushed, Clean, Refused}
@@ -72,22 +72,11 @@ length-with_referred rs h (Ref id) = length-set _ _ _
 
 -- a call neither adds nor removes handles
 pub length-registers-call : (v : View) (t : ℕ) (c : Event) → length (call v t c).view.registers ≡ length v.registers
-length-registers-call v t (Begin s) = refl
 length-registers-call v t (Root s h) = length-set _ _ _
 length-registers-call v t (New s h len) = length-set _ _ _
-length-registers-call v t (Put s h i n) = refl
-length-registers-call v t (Clear s h i) = refl
-length-registers-call v t (Link s h i h2) = refl
 length-registers-call v t (Drop s h) = length-set _ _ _
 length-registers-call v t (Get s h i h2) = length-with_referred v.registers h2 _
-length-registers-call v t (Same s h h2) = refl
-length-registers-call v t (Len s h) = refl
-length-registers-call v t (Seal s) = refl
-length-registers-call v t (Abort s) = refl
-length-registers-call v t Force = refl
-length-registers-call v t Flip = refl
-length-registers-call v t Scan = refl
-length-registers-call v t (Flush p) = refl
+length-registers-call v t c = refl
 
 -- nor do calls
 pub length-registers-after_calls : (v : View) (t : ℕ) (cs : List Event) → length (after_calls v t cs).registers ≡ length v.registers
@@ -114,22 +103,9 @@ same_reply-IsCallReply (Some id) (Some other) = yes_or_no (is_same_id id other)
 
 -- what a call is answered is such a reply
 pub call-IsCallReply : (v : View) (t : ℕ) (c : Event) → IsCallReply (call v t c).reply
-call-IsCallReply v t (Begin s) = tt
-call-IsCallReply v t (Root s h) = tt
-call-IsCallReply v t (New s h len) = tt
-call-IsCallReply v t (Put s h i n) = tt
-call-IsCallReply v t (Clear s h i) = tt
-call-IsCallReply v t (Link s h i h2) = tt
-call-IsCallReply v t (Drop s h) = tt
 call-IsCallReply v t (Get s h i h2) = value_reply-IsCallReply (slice_index_or (fields_of v.graph (held v.registers h)) i Null)
 call-IsCallReply v t (Same s h h2) = same_reply-IsCallReply (held v.registers h) (held v.registers h2)
-call-IsCallReply v t (Len s h) = tt
-call-IsCallReply v t (Seal s) = tt
-call-IsCallReply v t (Abort s) = tt
-call-IsCallReply v t Force = tt
-call-IsCallReply v t Flip = tt
-call-IsCallReply v t Scan = tt
-call-IsCallReply v t (Flush p) = tt
+call-IsCallReply v t c = tt
 
 -- an order is an event that asks nothing
 abbrev pub IsOrder : Event → Type 0

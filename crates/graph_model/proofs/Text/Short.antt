@@ -1,7 +1,6 @@
 -- Rows that are short enough to be printed.
 use Rattle.std.specs.Prelude.{◌^◌, ◌<◌, List, length}
 use Rattle.std.specs.List.{AllByRecursion}
-use Rattle.graph_model.specs.Graph.{fields}
 use Rattle.graph_model.specs.Canon.{Shown, Nothing, Number, Object}
 
 -- a field whose number is below 2 ^ 64

@@ -9,7 +9,7 @@ use Rattle.graph_model.specs.declared.id.Id.{Id}
 use Rattle.graph_model.specs.declared.val.Val.{Val}
 use Rattle.graph_model.specs.declared.val.Val.TheVariants.{Null, Int, Ref}
 use Rattle.graph_model.specs.declared.event.Event.{Event}
-use Rattle.graph_model.specs.declared.event.Event.TheVariants.{Begin, Root, New, Put, Clear, Link, Drop, Get, Same, Len, Seal, Abort, Force, Flip, Scan, Flush}
+use Rattle.graph_model.specs.declared.event.Event.TheVariants.{Root, New, Put, Clear, Link, Drop, Get}
 use Rattle.graph_model.specs.Graph.{Graph, id_cmp, root, fields, new_graph}
 use Rattle.graph_model.proofs.Whole.Graph.{same_or_other, get-insert_same, get-insert_other, fields_by_insert, get_by_insert}
 use Rattle.graph_model.specs.Canon.{at_root, along}
@@ -153,7 +153,6 @@ no_reference v x never target is = absurd (never target is)
 
 -- a call leaves what its transaction sees closed
 pub call-SeesClosed : (v : View) (t : ℕ) (c : Event) → SeesClosed v → SeesClosed (call v t c).view
-call-SeesClosed v t (Begin s) sees = sees
 call-SeesClosed v t (Root s h) sees = record {
   graph = sees.graph;
   handles = held_closed v h (Some root) (λ id is. subst (IsThere v.graph) (same_Some root id is) sees.graph.root_there) sees;
@@ -173,14 +172,7 @@ call-SeesClosed v t (Get s h i h2) sees =
         | inr was ↦ sees.handles j id was
       ];
     }
-call-SeesClosed v t (Same s h h2) sees = sees
-call-SeesClosed v t (Len s h) sees = sees
-call-SeesClosed v t (Seal s) sees = sees
-call-SeesClosed v t (Abort s) sees = sees
-call-SeesClosed v t Force sees = sees
-call-SeesClosed v t Flip sees = sees
-call-SeesClosed v t Scan sees = sees
-call-SeesClosed v t (Flush p) sees = sees
+call-SeesClosed v t c sees = sees
 
 -- so do calls
 pub after_calls-SeesClosed : (v : View) (t : ℕ) (cs : List Event) → SeesClosed v → SeesClosed (after_calls v t cs)

@@ -7,7 +7,7 @@ use Rattle.graph_model.specs.declared.id.Id.{Id}
 use Rattle.graph_model.specs.declared.val.Val.{Val}
 use Rattle.graph_model.specs.declared.val.Val.TheVariants.{Null, Int, Ref}
 use Rattle.graph_model.specs.declared.event.Event.{Event}
-use Rattle.graph_model.specs.declared.event.Event.TheVariants.{Begin, Root, New, Put, Clear, Link, Drop, Get, Same, Len, Seal, Abort, Force, Flip, Scan, Flush}
+use Rattle.graph_model.specs.declared.event.Event.TheVariants.{Root, New, Put, Clear, Link, Drop, Get}
 use Rattle.graph_model.specs.Graph.{Graph, root, fields, new_graph}
 use Rattle.graph_model.proofs.Whole.Graph.{get-insert_same, fields_by_insert}
 use Rattle.graph_model.specs.Canon.{Reached, at_root, along}
@@ -104,7 +104,6 @@ make_whole v t h len whole id reach =
 
 -- a call leaves what its transaction sees whole
 pub call-SeesWhole : (v : View) (t : ℕ) (c : Event) → SeesWhole v → SeesWhole (call v t c).view
-call-SeesWhole v t (Begin s) whole = whole
 call-SeesWhole v t (Root s h) whole =
     same_graph_whole v (slice_set v.registers h (Some root)) (set_reach v h (Some root) (λ id now. subst (IsInReach v) (same_Some root id now) of_root)) whole
 call-SeesWhole v t (New s h len) whole = make_whole v t h len whole
@@ -116,14 +115,7 @@ call-SeesWhole v t (Drop s h) whole = same_graph_whole v (slice_set v.registers 
 call-SeesWhole v t (Get s h i h2) whole =
     let x = slice_index_or (fields_of v.graph (held v.registers h)) i Null in
     same_graph_whole v (with_referred v.registers h2 x) (referred_reach v h2 x (λ target is. read_reach v (held v.registers h) i target (λ id holds. of_handle h holds) is)) whole
-call-SeesWhole v t (Same s h h2) whole = whole
-call-SeesWhole v t (Len s h) whole = whole
-call-SeesWhole v t (Seal s) whole = whole
-call-SeesWhole v t (Abort s) whole = whole
-call-SeesWhole v t Force whole = whole
-call-SeesWhole v t Flip whole = whole
-call-SeesWhole v t Scan whole = whole
-call-SeesWhole v t (Flush p) whole = whole
+call-SeesWhole v t c whole = whole
 
 -- so do calls
 pub after_calls-SeesWhole : (v : View) (t : ℕ) (cs : List Event) → SeesWhole v → SeesWhole (after_calls v t cs)

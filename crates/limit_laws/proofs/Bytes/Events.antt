@@ -5,7 +5,7 @@ use Rattle.std.specs.List.{list_any, range_with_len}
 use Rattle.std.specs.FinSet.{contains}
 use Rattle.std.proofs.lemmas.List.Sums.{sum_by-append}
 use Rattle.graph_model.specs.declared.event.Event.{Event}
-use Rattle.graph_model.specs.declared.event.Event.TheVariants.{Put, Clear, Link, Get, Flip, Scan}
+use Rattle.graph_model.specs.declared.event.Event.TheVariants.{Flip, Scan}
 use Rattle.graph_model.specs.declared.id.Id.{Id}
 use Rattle.graph_model.specs.Graph.{Graph}
 use Rattle.graph_model.specs.History.{Account, account}
@@ -21,6 +21,7 @@ use Rattle.page_scanner.specs.Scan.{scan_records}
 use Rattle.read_barrier.specs.Barrier.{barrier_page_of}
 use Rattle.heap_model.specs.Collecting.{barrier_at, flip_records, flip_records_in, is_gray_in, next_page, page_records, page_records_of, scan_event_records, scan_records_in}
 use Rattle.heap_model.specs.Core.{Core, Ground, all_records, all_words, barrier_records, call_barrier, event_records, ground, held_barrier, own_records, roots, state_behind}
+use Rattle.heap_model.proofs.Step.Moved.{barrier_by}
 use Rattle.limit_laws.specs.Bytes.{begun_by, bytes_of, led_by, moved_by_record}
 use Rattle.limit_laws.proofs.Bytes.Rows.{CostAll, IsNoScan, cost_all, cost_scan}
 use Rattle.limit_laws.proofs.Events.Kinds.{IsOfTransaction, own_of_transaction, page_scan}
@@ -114,11 +115,7 @@ fair_called g s g0 a None h i is = fair_none s
 fair_called g s g0 a (Some t) h i is = fair_held g s (held (view g0 a t).registers h) i is
 
 fair_barrier : (c : Core) (s : State) → state_behind c (all_records c) ≡ Some s → (event : Event) → AreFair s (barrier_records c event)
-fair_barrier c s is (Get r h i h2) = let a = account c.history in fair_called (ground c) s c.g0 a (a.active r) h i is
-fair_barrier c s is (Put r h i v) = let a = account c.history in fair_called (ground c) s c.g0 a (a.active r) h i is
-fair_barrier c s is (Clear r h i) = let a = account c.history in fair_called (ground c) s c.g0 a (a.active r) h i is
-fair_barrier c s is (Link r h i h2) = let a = account c.history in fair_called (ground c) s c.g0 a (a.active r) h i is
-fair_barrier c s is event = fair_none s
+fair_barrier c s is event = barrier_by (AreFair s) c event (fair_none s) (λ o h i. fair_called (ground c) s c.g0 (account c.history) o h i is)
 
 -- Events.
 

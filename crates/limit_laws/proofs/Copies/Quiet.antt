@@ -2,11 +2,12 @@
 use Rattle.std.proofs.Common.{◌≡◌, ℕ, Bool, true, false, List, [], ◌∷◌, Option, None, Some, refl, ap}
 use Rattle.std.specs.Prelude.{if◌then◌else◌}
 use Rattle.graph_model.specs.declared.event.Event.{Event}
-use Rattle.graph_model.specs.declared.event.Event.TheVariants.{Force, Flip, Scan, Flush}
+use Rattle.graph_model.specs.declared.event.Event.TheVariants.{Seal, Force, Flip, Scan, Flush}
 use Rattle.graph_model.specs.declared.reply.Refusal.{Refusal}
 use Rattle.graph_model.specs.declared.reply.Refusal.TheVariants.{DiskFault, Stopped}
 use Rattle.graph_model.specs.declared.reply.Reply.TheVariants as reply
-use Rattle.graph_model.specs.History.{Account, account, account_after, IsOfSession}
+use Rattle.graph_model.specs.History.{Account, account, account_after, session_of, AreOfSession, IsOfSession}
+use Rattle.graph_model.specs.Kinds.{Kind, Collects, Saves, kind_of, AreOfNone}
 use Rattle.heap_spaces.specs.Collection.{Collection}
 use Rattle.log_records.specs.declared.Record.{Record}
 use Rattle.log_machine.specs.Machine.{State}
@@ -25,16 +26,10 @@ pub record IsStill (a b : Account) : Type 0 where
 
 -- after a refusal
 pub still_refused : (a : Account) (event : Event) (why : Refusal) → IsOfNone event → IsStill a (account_after a (record { event = event; reply = reply.Refused why }))
-still_refused a Force DiskFault is = record { active = refl; sealed = refl }
-still_refused a Force Stopped is = record { active = refl; sealed = refl }
-still_refused a Flip DiskFault is = record { active = refl; sealed = refl }
-still_refused a Flip Stopped is = record { active = refl; sealed = refl }
-still_refused a Scan DiskFault is = record { active = refl; sealed = refl }
-still_refused a Scan Stopped is = record { active = refl; sealed = refl }
-still_refused a (Flush p) DiskFault is = record { active = refl; sealed = refl }
-still_refused a (Flush p) Stopped is = record { active = refl; sealed = refl }
-still_refused a event DiskFault is = absurd is
-still_refused a event Stopped is = absurd is
+still_refused a (Seal s) DiskFault is = absurd is
+still_refused a (Seal s) Stopped is = absurd is
+still_refused a event DiskFault is = record { active = refl; sealed = refl }
+still_refused a event Stopped is = record { active = refl; sealed = refl }
 still_refused a event why is = record { active = refl; sealed = refl }
 
 still_flush : (a : Account) (p : ℕ) (dirty : Bool) → IsStill a (account_after a (record { event = Flush p; reply = if dirty then reply.Flushed p else reply.Clean p }))
@@ -86,8 +81,9 @@ place_done c event is = absurd is
 
 -- an event of no session is one of a session, or of none
 pub of_none : (event : Event) → IsOfNone event → IsOfSession event
-of_none Force is = tt
-of_none Flip is = tt
-of_none Scan is = tt
-of_none (Flush p) is = tt
-of_none event is = absurd is
+of_none event is = by (session_of event) (kind_of event) is
+  where
+    by : (s : ℕ) (kind : Kind) → AreOfNone kind → AreOfSession s kind
+    by s Collects is = tt
+    by s Saves is = tt
+    by s kind is = absurd is

@@ -4,10 +4,10 @@ use Rattle.std.specs.Prelude.{Contains, slice_get, unwrap_or, if◌then◌else�
 use Rattle.std.specs.List.{AllByRecursion}
 use Rattle.std.specs.FinSet.{contains}
 use Rattle.graph_model.specs.declared.event.Event.{Event}
-use Rattle.graph_model.specs.declared.event.Event.TheVariants.{Put, Clear, Link, Get}
 use Rattle.graph_model.specs.declared.id.Id.{Id}
 use Rattle.graph_model.specs.Graph.{Graph, fields}
-use Rattle.graph_model.specs.History.{Account}
+use Rattle.graph_model.specs.History.{Account, session_of}
+use Rattle.graph_model.specs.Kinds.{used_field}
 use Rattle.graph_model.specs.Locking.{Exclusive, Lock, locks_of}
 use Rattle.graph_model.specs.Plain.{view}
 use Rattle.graph_model.specs.declared.val.Val.{Val}
@@ -22,7 +22,7 @@ use Rattle.collection_words.specs.Placing.{Placing, moved_by, moved_by_all}
 use Rattle.collection_words.proofs.Laid.Within.{placed_within}
 use Rattle.read_barrier.specs.Barrier.{barrier_page_of}
 use Rattle.heap_model.specs.Collecting.{barrier_at, is_gray_in, page_records, page_records_of}
-use Rattle.heap_model.specs.Core.{Core, all_words, barrier_for, call_barrier, ground, held_barrier, placing}
+use Rattle.heap_model.specs.Core.{Core, all_words, barrier_for, call_barrier, field_barrier, ground, held_barrier, placing}
 use Rattle.core_laws.proofs.Collecting.Entries.{all_at}
 use Rattle.core_laws.proofs.Step.Goes.{writing_of}
 use Rattle.core_laws.specs.Valid.{Agrees}
@@ -197,8 +197,8 @@ call_new K g a e h has (Some t) hd i = held_new K g a e h has (held (view e.g0 a
 
 -- the barrier copies nothing but what is kept
 pub barrier_new : (K : Id → Type 0) (g : Graph) (a : Account) (e : Core) (h : Agrees a e) → HasLed K g a e h → (event : Event) → NewIn K e (barrier_for (ground e) e.g0 a event)
-barrier_new K g a e h has (Get s hd i h2) = call_new K g a e h has (a.active s) hd i
-barrier_new K g a e h has (Put s hd i v) = call_new K g a e h has (a.active s) hd i
-barrier_new K g a e h has (Clear s hd i) = call_new K g a e h has (a.active s) hd i
-barrier_new K g a e h has (Link s hd i h2) = call_new K g a e h has (a.active s) hd i
-barrier_new K g a e h has event = λ id at there. inl there
+barrier_new K g a e h has event = by (used_field event)
+  where
+    by : (used : Option (ℕ × ℕ)) → NewIn K e (field_barrier (ground e) e.g0 a (a.active (session_of event)) used)
+    by None = λ id at there. inl there
+    by (Some (hd, i)) = call_new K g a e h has (a.active (session_of event)) hd i

@@ -9,7 +9,7 @@ use Rattle.std.specs.Ordering.{eq_by_cmp, nat_cmp}
 use Rattle.std.specs.FinSet.{contains, contains-items, items}
 use Rattle.std.proofs.lemmas.Option.{same_Some}
 use Rattle.graph_model.specs.declared.event.Event.{Event}
-use Rattle.graph_model.specs.declared.event.Event.TheVariants.{Put, Clear, Link, Get, Flip, Scan}
+use Rattle.graph_model.specs.declared.event.Event.TheVariants.{Flip, Scan}
 use Rattle.graph_model.specs.declared.id.Id.{Id}
 use Rattle.graph_model.specs.Graph.{Graph}
 use Rattle.graph_model.specs.History.{Account, account}
@@ -27,6 +27,7 @@ use Rattle.collection_words.proofs.Laid.Within.{start_within}
 use Rattle.read_barrier.specs.Barrier.{barrier_page_of}
 use Rattle.heap_model.specs.Collecting.{barrier_at, is_gray_in, least_of, next_page, page_records, scan_event_records, scan_records_in}
 use Rattle.heap_model.specs.Core.{Core, Ground, all_records, all_words, barrier_records, call_barrier, event_records, ground, held_barrier, own_records, state_behind}
+use Rattle.heap_model.proofs.Step.Moved.{barrier_by}
 use Rattle.core_laws.proofs.Collecting.Least.{IsAmong, either, least_among, least_below, least_first, or_first, or_second, tied}
 use Rattle.core_laws.specs.Valid.{Agrees}
 use Rattle.limit_laws.proofs.Events.Kinds.{IsOfScan, IsOfTransaction, IsNoCopy, IsNoFlip, barrier_of_scan, no_flip_scan, own_of_transaction, scan_kinds}
@@ -98,11 +99,7 @@ called_nothing g s g0 a None h i is none = refl
 called_nothing g s g0 a (Some t) h i is none = held_nothing g s (held (view g0 a t).registers h) i is none
 
 barrier_nothing : (c : Core) (s : State) → state_behind c (all_records c) ≡ Some s → AreNoneGray s.collection → (event : Event) → barrier_records c event ≡ []
-barrier_nothing c s is none (Get r h i h2) = let a = account c.history in called_nothing (ground c) s c.g0 a (a.active r) h i is none
-barrier_nothing c s is none (Put r h i v) = let a = account c.history in called_nothing (ground c) s c.g0 a (a.active r) h i is none
-barrier_nothing c s is none (Clear r h i) = let a = account c.history in called_nothing (ground c) s c.g0 a (a.active r) h i is none
-barrier_nothing c s is none (Link r h i h2) = let a = account c.history in called_nothing (ground c) s c.g0 a (a.active r) h i is none
-barrier_nothing c s is none event = refl
+barrier_nothing c s is none event = barrier_by (λ rs. rs ≡ []) c event refl (λ o h i. called_nothing (ground c) s c.g0 (account c.history) o h i is none)
 
 -- and a scan ends the collection, if one runs
 scan_ends : (s : State) (words : List ℕ) (o : Option Collection) (page : Option ℕ) → page ≡ None → AllByRecursion IsNoCopy (scan_records_in s words o page)

@@ -3,7 +3,6 @@ use Rattle.std.proofs.Common.{◌≡◌, ℕ, true, false, Bool, List, [], ◌�
 use Rattle.std.specs.Prelude.{unwrap_or, if◌then◌else◌, option_and_then}
 use Rattle.std.specs.FinSet.{len}
 use Rattle.graph_model.specs.declared.event.Event.{Event}
-use Rattle.graph_model.specs.declared.event.Event.TheVariants.{Put, Clear, Link, Get}
 use Rattle.graph_model.specs.declared.id.Id.{Id}
 use Rattle.graph_model.specs.Graph.{Graph}
 use Rattle.graph_model.specs.Transaction.{Transaction, held}
@@ -21,6 +20,7 @@ use Rattle.page_scanner.proofs.After.{after_all_collecting}
 use Rattle.read_barrier.specs.Barrier.{barrier_page_of}
 use Rattle.heap_model.specs.Collecting.{barrier_at, is_gray_in, page_records, page_records_of}
 use Rattle.heap_model.specs.Core.{Core, Ground, all_words, barrier_records, call_barrier, ground, held_barrier, placing}
+use Rattle.heap_model.proofs.Step.Moved.{barrier_by}
 use Rattle.core_laws.proofs.Collecting.Carried.{none_parted}
 use Rattle.core_laws.proofs.Collecting.Collected.{follows}
 use Rattle.core_laws.proofs.Collecting.Scan.{keep}
@@ -110,11 +110,7 @@ call_either Q g s is g0 a (Some t) h i none some = held_either Q g s is (held (v
 
 -- the records of an event's barrier are those of the scan of a page, or there are none
 pub barrier_either : (Q : List Record → Type 0) (c : Core) (s : State) → (ground c).state ≡ Some s → (event : Event) → Q [] → ((page : ℕ) → Q (page_records s (all_words c) page)) → Q (barrier_records c event)
-barrier_either Q c s is (Get r h i h2) none some = let a = account c.history in call_either Q (ground c) s is c.g0 a (a.active r) h i none some
-barrier_either Q c s is (Put r h i v) none some = let a = account c.history in call_either Q (ground c) s is c.g0 a (a.active r) h i none some
-barrier_either Q c s is (Clear r h i) none some = let a = account c.history in call_either Q (ground c) s is c.g0 a (a.active r) h i none some
-barrier_either Q c s is (Link r h i h2) none some = let a = account c.history in call_either Q (ground c) s is c.g0 a (a.active r) h i none some
-barrier_either Q c s is event none some = none
+barrier_either Q c s is event none some = barrier_by Q c event none (λ o h i. call_either Q (ground c) s is c.g0 (account c.history) o h i none some)
 
 pub barrier_passed : (a : Account) (c : Core) (h : Agrees a c) (event : Event) → HavePassed c h.behind (barrier_records c event)
 barrier_passed a c h event = barrier_either (HavePassed c h.behind) c h.behind h.told.reached event (none_passed c h.behind) (page_passed a c h)

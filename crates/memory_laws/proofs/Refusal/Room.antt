@@ -1,7 +1,7 @@
 -- Why a core refuses an event, by parts.
 use Rattle.std.proofs.Common.{◌≡◌, ℕ, Bool, true, false, cond, List, [], ◌++◌, Option, None, Some, refl, ap, ◌∙◌, arith}
 use Rattle.graph_model.specs.declared.event.Event.{Event}
-use Rattle.graph_model.specs.declared.event.Event.TheVariants.{Begin, Root, New, Put, Clear, Link, Drop, Get, Same, Len, Seal, Abort, Force, Flip, Scan, Flush}
+use Rattle.graph_model.specs.declared.event.Event.TheVariants.{New, Seal}
 use Rattle.graph_model.specs.declared.reply.Refusal.{Refusal}
 use Rattle.graph_model.specs.Graph.{Graph}
 use Rattle.graph_model.specs.Transaction.{Transaction, IsCall}
@@ -48,22 +48,9 @@ full_same room room' used used' more more' kept kept' a b c d =
 -- a call that makes no object needs no words
 words_quiet : (g : Ground) (g0 : Graph) (a : Account) (o : Option Transaction) (event : Event) → IsCall event → is_new event ≡ false → room_refusal g g0 a o event ≡ None
 words_quiet g g0 a None event is old = refl
-words_quiet g g0 a (Some t) (Begin s) is old = refl
-words_quiet g g0 a (Some t) (Root s h) is old = refl
 words_quiet g g0 a (Some t) (New s h len) is old = cc
-words_quiet g g0 a (Some t) (Put s h i v) is old = refl
-words_quiet g g0 a (Some t) (Clear s h i) is old = refl
-words_quiet g g0 a (Some t) (Link s h i h2) is old = refl
-words_quiet g g0 a (Some t) (Drop s h) is old = refl
-words_quiet g g0 a (Some t) (Get s h i h2) is old = refl
-words_quiet g g0 a (Some t) (Same s h h2) is old = refl
-words_quiet g g0 a (Some t) (Len s h) is old = refl
 words_quiet g g0 a (Some t) (Seal s) is old = absurd is
-words_quiet g g0 a (Some t) (Abort s) is old = refl
-words_quiet g g0 a (Some t) Force is old = refl
-words_quiet g g0 a (Some t) Flip is old = refl
-words_quiet g g0 a (Some t) Scan is old = refl
-words_quiet g g0 a (Some t) (Flush p) is old = refl
+words_quiet g g0 a (Some t) event is old = refl
 
 -- as much is kept for the ends of transactions once the history has an event
 abbrev pub KeepsReserve : Core → Event → Type 0
