@@ -1,5 +1,5 @@
 -- What a worker sends.
-use Rattle.std.specs.Prelude.{◌≡◌, ◌⊎◌, ℕ, ◌<◌, Bool, true, false, MatchBool, nat_lt, List, [], ◌∷◌, ◌++◌, length}
+use Rattle.std.specs.Prelude.{◌≡◌, ◌⊎◌, ℕ, ◌+◌, ◌<◌, Bool, true, false, MatchBool, nat_lt, List, [], ◌∷◌, ◌++◌, length, Result, Ok, Err}
 use Rattle.std.specs.List.{AllByRecursion}
 use Rattle.graph_model.specs.declared.event.Event.{Event}
 use Rattle.graph_model.specs.declared.event.Event.TheVariants.{Abort}
@@ -40,6 +40,15 @@ Played tries (event ∷ events) part =
 -- a part that begins so
 abbrev pub IsBegun : ℕ → List Event → List Entry → Type 0
 IsBegun tries events part = (more : List Entry) × Played tries events (part ++ more)
+
+-- a part that begins so, and goes on
+abbrev pub IsUnfinished : ℕ → List Event → List Entry → Type 0
+IsUnfinished tries events part = (next : Entry) × IsBegun tries events (part ++ next ∷ [])
+
+-- How many calls a worker made that ended so: each was answered by an entry of its part, but the last one where memory ran out.
+abbrev pub calls_made : {E : Type 0} → Result (Unit {0}) E → List Entry → ℕ
+calls_made (Ok done) part = length part
+calls_made (Err e) part = length part + 1
 
 -- the event may be asked, and so may the abort of its session's transaction
 pub record MayMake (takes : Event → Type 0) (event : Event) : Type 0 where

@@ -1,9 +1,9 @@
 //! A worker sends its events, one after another.
-ghost use Rattle.std.specs.Prelude.{◌≡◌, ◌<◌, ◌≤◌, ◌++◌, ◌∷◌, [], All, List, MatchResult, length};
+ghost use Rattle.std.specs.Prelude.{◌≡◌, ◌+◌, ◌<◌, ◌≤◌, ◌++◌, ◌∷◌, [], All, List, MatchResult, length};
 ghost use Rattle.std.specs.List.{AllByRecursion};
 ghost use Rattle.graph_model.specs.declared.event.Event.{Event};
 ghost use Rattle.graph_model.specs.declared.reply.Entry.{Entry};
-ghost use Rattle.heap_workers.specs.Playing.{ends, is_busy, IsBusyTo, MayMake, Makes, Played, IsBegun};
+ghost use Rattle.heap_workers.specs.Playing.{calls_made, ends, is_busy, IsBusyTo, IsUnfinished, MayMake, Makes, Played};
 
 use crate::calls::HeapCalls;
 use crate::gate::Gate;
@@ -31,8 +31,8 @@ pub struct Worker {
 
 impl Worker {
     /// Sends all events, or until an answer says that the heap has failed. An event of a session that is answered busy is retried; if all tries are
-    /// answered busy, the session's transaction is aborted, and the next event follows. Running out of memory also ends it: what it sent before
-    /// stands.
+    /// answered busy, the session's transaction is aborted, and the next event follows. The first answer that memory ran out also ends it, and is
+    /// returned: what it sent before stands.
     pub fn work<R: Wait, C: HeapCalls, G: Gate>(
         &self,
         rt: &R,
@@ -40,7 +40,7 @@ impl Worker {
         gate: &G,
     ) -> Result<(), AllocError>
         requires { All (MayMake (C.takes calls.old)) self.now.events.items }
-        ensures sent { (part : List Entry) × (C.sent calls.new ≡ C.sent calls.old ++ part) × MatchResult result (λ _. Played self.now.tries self.now.events.items part) (λ _. IsBegun self.now.tries self.now.events.items part) }
+        ensures sent { (part : List Entry) × (C.sent calls.new ≡ C.sent calls.old ++ part) × (C.asked calls.new ≡ C.asked calls.old + calls_made result part) × MatchResult result (λ _. Played self.now.tries self.now.events.items part) (λ _. IsUnfinished self.now.tries self.now.events.items part) }
         ensures takes { (e : Event) → C.takes calls.old e → C.takes calls.new e }
         ensures origin { C.origin calls.new ≡ C.origin calls.old }
     {
@@ -61,7 +61,7 @@ impl Worker {
         event: Event,
     ) -> Result<Reply, AllocError>
         requires { MayMake (C.takes calls.old) event }
-        ensures made { MatchResult result (λ reply. (busy : List Entry) × (last : Entry) × (C.sent calls.new ≡ C.sent calls.old ++ (busy ++ last ∷ [])) × Makes self.now.tries event busy last × (last.reply ≡ reply)) (λ _. (busy : List Entry) × (C.sent calls.new ≡ C.sent calls.old ++ busy) × AllByRecursion (IsBusyTo event) busy × (length busy ≤ self.now.tries)) }
+        ensures made { MatchResult result (λ reply. (busy : List Entry) × (last : Entry) × (C.sent calls.new ≡ C.sent calls.old ++ (busy ++ last ∷ [])) × Makes self.now.tries event busy last × (last.reply ≡ reply) × (C.asked calls.new ≡ C.asked calls.old + (length busy + 1))) (λ _. (busy : List Entry) × (C.sent calls.new ≡ C.sent calls.old ++ busy) × AllByRecursion (IsBusyTo event) busy × (length busy ≤ self.now.tries) × (C.asked calls.new ≡ C.asked calls.old + (length busy + 1))) }
         ensures takes { (e : Event) → C.takes calls.old e → C.takes calls.new e }
         ensures origin { C.origin calls.new ≡ C.origin calls.old }
     {

@@ -1,5 +1,6 @@
 //! The graph of what is sealed.
-ghost use Rattle.std.specs.Prelude.{◌≡◌, IfOk};
+ghost use Rattle.std.specs.Prelude.{◌≡◌, List, IfOk};
+ghost use Rattle.graph_model.specs.declared.reply.Entry.{Entry};
 ghost use Rattle.graph_model.specs.Transaction.{serial};
 ghost use Rattle.graph_model.specs.History.{sealed};
 
@@ -33,14 +34,18 @@ pub fn sealed_view(
 
 /// The same as a method of a history.
 pub trait SealedView {
+    /// The entries, oldest first.
+    ghost entries: { Self → List Entry };
+
     /// See the function of that name.
-    fn sealed_view(&self, alloc: Global, first: &PlainGraph) -> Result<PlainGraph, AllocError>;
+    fn sealed_view(&self, alloc: Global, first: &PlainGraph) -> Result<PlainGraph, AllocError>
+        ensures view { IfOk result (λ graph. graph ≡ serial first.now (sealed (entries self.now))) };
 }
 
 impl SealedView for History {
-    fn sealed_view(&self, alloc: Global, first: &PlainGraph) -> Result<PlainGraph, AllocError>
-        ensures view { IfOk result (λ graph. graph ≡ serial first.now (sealed self.now.entries)) }
-    {
+    ghost entries = { λ history. history.entries };
+
+    fn sealed_view(&self, alloc: Global, first: &PlainGraph) -> Result<PlainGraph, AllocError> {
         sealed_view(alloc, self, first)
     }
 }

@@ -1,7 +1,7 @@
 -- What a heap becomes by one more event.
 use Rattle.std.proofs.Common.{◌≡◌, ℕ, List, [], ◌∷◌, ◌++◌, Result, Ok, Err, sym, refl, ap, ◌∙◌, subst, arith, append_assoc, append-nil}
 use Rattle.std.proofs.lemmas.List.{map-append}
-use Rattle.std.specs.Prelude.{IsTrue, MatchResult, IfOk, OnErr}
+use Rattle.std.specs.Prelude.{IsOk, IsTrue, MatchResult, None, IfOk, OnErr}
 use Rattle.std.specs.List.{AllByRecursion}
 use Rattle.std.specs.declared.alloc.AllocError.{AllocError}
 use Rattle.disk_model.specs.declared.disk.Disk.{Ghosts}
@@ -12,10 +12,11 @@ use Rattle.gate_slot.specs.Passing.{Passes}
 use Rattle.graph_model.specs.declared.event.Event.{Event}
 use Rattle.graph_model.specs.declared.reply.Entry.{Entry}
 use Rattle.graph_model.specs.declared.reply.Reply.{Reply}
-use Rattle.graph_model.specs.History.{IsOfSession}
+use Rattle.graph_model.specs.History.{account, IsOfSession}
 use Rattle.image_plan.specs.declared.superblock.Super.{Super}
 use Rattle.heap_core.specs.declared.heap.Heap.{Heap}
 use Rattle.heap_core.specs.Causes.{IsCausedBy, reply_device, step_device}
+use Rattle.heap_core.specs.Ending.{TakesNoMemory}
 use Rattle.heap_core.specs.HeapState.{heap_disk, history_of}
 use Rattle.heap_core.specs.Refinement.{DiskHolds, IsCore, IsHeap, IsLeftByStep}
 use Rattle.heap_core.specs.Steps.{HeapStep, AreSteps}
@@ -28,7 +29,7 @@ use Rattle.core_laws.proofs.Run.Events.{run_reached}
 use Rattle.core_laws.specs.Valid.{IsReached}
 use Rattle.shared_heap.proofs.Lists.{all_last, all_parts, all_weaker}
 use Rattle.shared_heap.specs.Follows.{events_of, StaysDisk, Reaches, ReachesOn, IsCaused, IsUncut, Follows}
-use Rattle.shared_heap.specs.Shared.{Told}
+use Rattle.shared_heap.specs.Shared.{Told, ToldOf, MayLackMemory}
 
 module _ {D : Type 0} (g : Ghosts D) where
   -- steps on a disk are a run of the core
@@ -153,8 +154,22 @@ module _ {D : Type 0} {g : Ghosts D} where
   follows_on first old new event session (Err e) kept recorded core same untouched holds moments passes f = follows_still first old new recorded untouched same f
 
   -- What was seen of its history is a run.
+  follows_told_of : (first now : Heap D g) (seen : List Entry) → seen ≡ history_of now → Follows first now → (P : Core → Type 0) → ((d : Core) → IsCore d now → IsReached d → P d) → ToldOf first seen P
+  follows_told_of first now seen same f P holds c is reached =
+      let r = f.core c is reached in
+      (f.since, r.core, same ∙ f.history, r.run, sym r.is.history ∙ sym same, holds r.core r.is (run_reached c r.core (events_of f.since) reached f.sessions r.run))
+
   pub follows_told : (first now : Heap D g) (seen : List Entry) → seen ≡ history_of now → Follows first now → Told first seen
-  follows_told first now seen same f c is reached = let r = f.core c is reached in (f.since, r.core, same ∙ f.history, r.run, sym r.is.history ∙ sym same)
+  follows_told first now seen same f = follows_told_of first now seen same f (λ d. Unit {0}) (λ d is reached. tt)
+
+  -- Where memory ran out, what was seen ends where that may be.
+  pub follows_lacking : (first old : Heap D g) (event : Event) (seen log : List Entry) (result : Result Reply AllocError) → seen ≡ log
+      → MatchResult result (λ reply. log ≡ history_of old ++ record { event = event; reply = reply } ∷ []) (λ _. log ≡ history_of old)
+      → ((c : Core) → IsCore c old → IsReached c → (account c.history).failed ≡ None → TakesNoMemory c event → IsOk result)
+      → Follows first old → OnErr result (ToldOf first seen (MayLackMemory event))
+  follows_lacking first old event seen log (Ok reply) same recorded memory f = tt
+  follows_lacking first old event seen log (Err e) same recorded memory f =
+      follows_told_of first old seen (same ∙ recorded) f (MayLackMemory event) (λ d is reached unfailed takes. let ok = memory d is reached unfailed takes in cc)
 
   -- What it has become continues as a core that was reached, and a crash leaves a commit prefix of it.
   pub follows_keeps : (first now : Heap D g) → Follows first now → IsTrue g.tells → (s : Super) (c : Core) → IsHeap s c first → IsReached c

@@ -17,11 +17,13 @@ impl<'a, D: Disk> HeapCalls for Caller<'a, D> {
     ghost use Rattle.shared_heap.specs.Callers.{Whose, whose};
     ghost use Rattle.shared_heap.specs.Shared.{IsPass, MaySend};
     ghost use Rattle.turn_lock.specs.Merging as merging;
-    ghost use Rattle.turn_lock.specs.Passes.{label_of, mine_of};
+    ghost use Rattle.turn_lock.specs.Passes.{label_of, mine_of, turns_of};
 
     ghost takes = { λ c event. IsPass c.heap.now c.pass × MaySend (label_of c.pass) event };
 
     ghost sent = { λ c. merging.entries_of (mine_of c.pass) };
+
+    ghost asked = { λ c. turns_of c.pass };
 
     ghost Origin = { Whose D D.Disk };
 

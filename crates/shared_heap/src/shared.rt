@@ -1,5 +1,5 @@
 //! A heap that threads share.
-ghost use Rattle.std.specs.Prelude.{◌≡◌, ◌+◌, ◌<◌, ◌≤◌, ◌++◌, ◌∷◌, [], List, ℕ, IsTrue, length, drop, IfOk, IfErr, MatchResult, Some, slice_get, slice_index, vec_len};
+ghost use Rattle.std.specs.Prelude.{◌≡◌, ◌+◌, ◌<◌, ◌≤◌, ◌++◌, ◌∷◌, [], List, ℕ, IsTrue, length, drop, IfOk, IfErr, OnErr, MatchResult, Some, slice_get, slice_index, vec_len};
 ghost use Rattle.std.specs.List.{AllByRecursion};
 ghost use Rattle.graph_model.specs.History.{acknowledged};
 ghost use Rattle.heap_core.specs.HeapState.{heap_disk, history_of};
@@ -32,8 +32,8 @@ pub struct SharedHeap<D: Disk> {
 impl<D: Disk> SharedHeap<D> {
     ghost use Rattle.graph_model.specs.declared.reply.Entry.{Entry};
     ghost use Rattle.shared_heap.specs.Follows.{Follows};
-    ghost use Rattle.shared_heap.specs.Shared.{handed_in, IsOpen, IsPass, MaySend, Told};
-    ghost use Rattle.turn_lock.specs.Passes.{pass_numbers, label_of, mine_of, seen_of, parts_of, front_of, IsNew, IsSamePass, HasSameTurns};
+    ghost use Rattle.shared_heap.specs.Shared.{handed_in, IsOpen, IsPass, MaySend, MayLackMemory, Told, ToldOf};
+    ghost use Rattle.turn_lock.specs.Passes.{pass_numbers, label_of, mine_of, seen_of, parts_of, turns_of, front_of, IsNew, IsSamePass, HasSameTurns};
     ghost use Rattle.turn_lock.specs.Turning.{EachOnce, IsBeginning, StandIn, places, times, total};
 
     /// Shares a heap, with one pass for each label, in their order: the number of a session, or 0. If memory runs out the heap is given back.
@@ -45,7 +45,7 @@ impl<D: Disk> SharedHeap<D> {
         requires labels { 0 < length labels.now }
         ensures heap { IfOk result (λ r. (handed_in r.0 ≡ heap) × (passes_of r.0.lock ≡ length labels.now)) }
         ensures count { IfOk result (λ r. vec_len r.1 ≡ length labels.now) }
-        ensures passes { IfOk result (λ r. (i : ℕ) (pass : _) → slice_get r.1.items i ≡ Some pass → IsPass r.0 pass × (pass_numbers pass ≡ i ∷ []) × (label_of pass ≡ slice_index labels.now i) × (seen_of pass ≡ history_of heap) × (mine_of pass ≡ []) × (front_of pass ≡ 0)) }
+        ensures passes { IfOk result (λ r. (i : ℕ) (pass : _) → slice_get r.1.items i ≡ Some pass → IsPass r.0 pass × (pass_numbers pass ≡ i ∷ []) × (label_of pass ≡ slice_index labels.now i) × (seen_of pass ≡ history_of heap) × (mine_of pass ≡ []) × (turns_of pass ≡ 0) × (front_of pass ≡ 0)) }
         ensures err { IfErr result (λ e. e.1 ≡ heap) }
     {
         let before = heap.history().len();
@@ -67,7 +67,8 @@ impl<D: Disk> SharedHeap<D> {
         }
     }
 
-    /// Waits for a turn, and makes one event in it. If memory runs out, nothing is added to the history.
+    /// Waits for a turn, and makes one event in it. If memory runs out, nothing is added to the history. As in `Heap::step`, the abort of a transaction
+    /// never runs out of memory until the disk fails, nor does a seal that promotes nothing, or a force of unacknowledged commits.
     pub fn call<R: Wait>(
         &self,
         rt: &R,
@@ -77,11 +78,14 @@ impl<D: Disk> SharedHeap<D> {
         requires pass { IsPass self.now pass.old }
         requires event { MaySend (label_of pass.old) event }
         ensures pass { IsPass self.now pass.new × IsSamePass pass.old pass.new }
+        ensures turns { turns_of pass.new ≡ turns_of pass.old + 1 }
         ensures seen { IsBeginning (seen_of pass.old) (seen_of pass.new) }
         // The answer is the last entry that the pass has seen, after all that it had seen, and one more of its own.
         ensures answered { MatchResult result (λ reply. (before : List Entry) × IsBeginning (seen_of pass.old) before × (seen_of pass.new ≡ before ++ record { event = event; reply = reply } ∷ []) × (mine_of pass.new ≡ mine_of pass.old ++ (length before, record { event = event; reply = reply }) ∷ [])) (λ _. mine_of pass.new ≡ mine_of pass.old) }
         // So it is the core's at that place of the history.
         ensures core { Told (handed_in self.now) (seen_of pass.new) }
+        // When memory runs out, transactions can still be ended and commits forced.
+        ensures memory { OnErr result (ToldOf (handed_in self.now) (seen_of pass.new) (MayLackMemory event)) }
         ensures front { (front_of pass.new ≡ acknowledged (drop (length (history_of (handed_in self.now))) (seen_of pass.new))) × (front_of pass.old ≤ front_of pass.new) }
     {
         let mut held = self.lock.hold(rt, pass);
@@ -94,8 +98,8 @@ impl<D: Disk> SharedHeap<D> {
         answer
     }
 
-    /// How many commits, counted from the heap's opening, were acknowledged since it was shared: 0 before the first `Durable` since then. It is read
-    /// without waiting, whoever has the turn.
+    /// How many commits, counted from the heap's opening, were acknowledged since it was shared: 0 before the first `Durable` since then. That it has what
+    /// another pass got is tested; no clause says so. It is read without waiting, whoever has the turn.
     pub fn front(&self, pass: &mut Pass<D>) -> u64
         requires { IsPass self.now pass.old }
         ensures pass { IsPass self.now pass.new × IsSamePass pass.old pass.new × HasSameTurns pass.old pass.new }
@@ -149,14 +153,3 @@ impl<D: Disk> SharedHeap<D> {
         }
     }
 }
-
-/// Threads may share a heap, and a pass may be sent from one to another, if the disk may.
-pub fn cross_threads<D: Disk + Send>() {
-    is_sync::<SharedHeap<D>>();
-    is_send::<SharedHeap<D>>();
-    is_send::<Pass<D>>();
-}
-
-fn is_sync<X: Sync>() {}
-
-fn is_send<X: Send>() {}

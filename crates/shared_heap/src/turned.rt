@@ -1,7 +1,11 @@
 //! A heap under the lock.
-ghost use Rattle.std.specs.Prelude.{◌≡◌, ◌+◌, ◌%◌, ◌^◌, ◌++◌, ◌∷◌, [], length, MatchResult};
-ghost use Rattle.graph_model.specs.History.{IsOfSession};
+ghost use Rattle.std.specs.Prelude.{◌≡◌, ◌+◌, ◌%◌, ◌^◌, ◌++◌, ◌∷◌, [], length, IsOk, MatchResult, None};
+ghost use Rattle.graph_model.specs.History.{account, IsOfSession};
+ghost use Rattle.heap_core.specs.Ending.{TakesNoMemory};
 ghost use Rattle.heap_core.specs.HeapState.{history_of};
+ghost use Rattle.heap_core.specs.Refinement.{IsCore};
+ghost use Rattle.heap_model.specs.Core.{Core};
+ghost use Rattle.core_laws.specs.Valid.{IsReached};
 ghost use Rattle.shared_heap.specs.Follows.{acknowledges};
 
 use disk_model::Disk;
@@ -54,6 +58,8 @@ impl<D: Disk> Turned<D> {
         ensures counted { MatchResult result (λ _. self.new.empty ≡ self.old.empty) (λ _. self.new.empty ≡ (self.old.empty + 1) % 2 ^ 64) }
         ensures same { self.new.before ≡ self.old.before }
         ensures follows { (first : _) → Follows first self.old.heap → Follows first self.new.heap }
+        // When memory runs out, transactions can still be ended and commits forced.
+        ensures memory { (c : Core) → IsCore c self.old.heap → IsReached c → (account c.history).failed ≡ None → TakesNoMemory c event → IsOk result }
     {
         let answer = self.heap.step(event);
         if answer.is_err() {

@@ -1,14 +1,15 @@
 -- The passes of workers, one for each, make one history.
-use Rattle.std.proofs.Common.{◌≡◌, ◌+◌, ◌<◌, ℕ, zero, suc, List, [], length, map, replicate, cond, MatchResult, Result, Err, Some, slice_get, refl, ap, ◌∙◌, subst, arith, eq-eqb}
+use Rattle.std.proofs.Common.{◌≡◌, ◌⊎◌, inl, inr, ◌+◌, ◌<◌, ℕ, zero, suc, List, [], length, map, replicate, cond, MatchResult, Result, Err, Some, slice_get, refl, ap, ◌∙◌, subst, arith, eq-eqb}
 use Rattle.std.specs.List.{AllByRecursion}
 use Rattle.std.specs.declared.alloc.AllocError.{AllocError}
 use Rattle.std.proofs.lemmas.List.{length-map, length-replicate}
-use Rattle.std.proofs.lemmas.Option.{slice_get_within}
+use Rattle.std.proofs.lemmas.Option.{slice_get-map, slice_get_within}
+use Rattle.std.specs.Option.{option_map}
 use Rattle.disk_model.specs.declared.disk.Disk.{Ghosts}
 use Rattle.graph_model.specs.declared.reply.Entry.{Entry}
 use Rattle.graph_model.proofs.Whole.Closed.{slice_get-replicate}
 use Rattle.heap_workers.specs.declared.worker.Worker.{Worker}
-use Rattle.heap_workers.specs.Playing.{Played, IsBegun}
+use Rattle.heap_workers.specs.Playing.{Played, IsBegun, IsUnfinished}
 use Rattle.script_text.specs.declared.line.Line.{Line}
 use Rattle.script_workers.specs.Workers.{worker_events, IsOfScript}
 use Rattle.shared_heap.specs.declared.shared.SharedHeap.{SharedHeap}
@@ -16,12 +17,12 @@ use Rattle.shared_heap.specs.declared.turned.Turned.{Turned}
 use Rattle.shared_heap.specs.Shared.{IsPass}
 use Rattle.turn_lock.specs.declared.pass.Pass.{Pass}
 use Rattle.turn_lock.specs.Merging.{Rise, entries_of}
-use Rattle.turn_lock.specs.Passes.{mine_of, pass_numbers}
+use Rattle.turn_lock.specs.Passes.{mine_of, pass_numbers, turns_of}
 use Rattle.turn_lock.specs.Turning.{EachOnce, StandIn, places, times, total}
 use Rattle.turn_lock.proofs.Counts.{once_same}
 use Rattle.thread_play.specs.Stationed.{HasPart, ArePlayed}
-use Rattle.thread_play.specs.Worked.{IsPart, IsWorked}
-use Rattle.thread_play.proofs.Lists.{get_map, there_is, all_each, all_both, all_map, total_at, total_map}
+use Rattle.thread_play.specs.Worked.{IsCutAt, IsPart, IsWorked}
+use Rattle.thread_play.proofs.Lists.{get_map, there_is, all_each, all_both, all_firsts, all_map, total_at, total_map}
 use Rattle.thread_play.proofs.Parts.{nothing_begun}
 
 module _ {D : Type 0} {g : Ghosts D} (shared : SharedHeap D g) (end : Result (Unit {0}) AllocError) (workers : List Worker) (passes : List (Pass (Turned D g) Entry)) (played : ArePlayed shared end workers passes) where
@@ -54,6 +55,18 @@ module _ {D : Type 0} {g : Ghosts D} (shared : SharedHeap D g) (end : Result (Un
         subst (λ l. MatchResult end (λ _. Played tries l (entries_of (mine_of here.0))) (λ _. IsBegun tries l (entries_of (mine_of here.0)))) of.events_are
         (subst (λ (n : ℕ). MatchResult end (λ _. Played n worker.0.events.items (entries_of (mine_of here.0))) (λ _. IsBegun n worker.0.events.items (entries_of (mine_of here.0)))) of.tries_are has) in
         subst (λ p. IsPart tries lines end (i + 1) (entries_of p)) here.2 own;
+    ran_out = λ err. elim (played.ran_out err) as (λ _. AllByRecursion (λ placed. placed ≡ []) (map mine_of passes) ⊎ IsCutAt tries lines (map mine_of passes)) [
+      | inl none ↦ inl (all_map (λ placed. placed ≡ []) mine_of passes (all_firsts (λ p. mine_of p ≡ []) (λ p. turns_of p ≡ 0) passes none))
+      | inr one ↦ inr (
+          let of = each one.number one.worker one.worker_at in
+          record {
+            place = one.number;
+            placed = mine_of one.pass;
+            at = slice_get-map mine_of passes one.number ∙ ap (option_map mine_of) one.pass_at;
+            unfinished = subst (λ l. IsUnfinished tries l (entries_of (mine_of one.pass))) of.events_are
+                (subst (λ (n : ℕ). IsUnfinished n one.worker.events.items (entries_of (mine_of one.pass))) of.tries_are one.unfinished);
+          })
+    ];
   }
 
 all_copies : {X : Type 0} (P : X → Type 0) (n : ℕ) (x : X) → P x → AllByRecursion P (replicate n x)
@@ -73,4 +86,5 @@ nothing_worked tries lines history e some =
       stand = all_copies (λ placed. StandIn history placed × Rise 0 placed) 34 none (tt, tt);
       once = record { inside = λ place low high. absurd (omega arith); below = λ place lt. none_placed 34 place; above = λ place le. none_placed 34 place };
       part = λ i placed at. subst (λ p. IsBegun tries (worker_events (i + 1) lines) (entries_of p)) (slice_get-replicate 34 i none placed at) (nothing_begun tries (worker_events (i + 1) lines) some);
+      ran_out = λ err. inl (all_copies (λ placed. placed ≡ []) 34 none refl);
     }

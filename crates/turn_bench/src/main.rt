@@ -10,7 +10,7 @@ use std::sync::{Mutex, Wait};
 use std::thread::Threads;
 use std::time::{Clock, Duration, Instant};
 use std::{env, thread};
-use turn_lock::ledger::{Ledger, post_all};
+use turn_ledger::{Ledger, post_all};
 use turn_lock::{Pass, TurnLock};
 
 // A label for each thread, which nothing reads.

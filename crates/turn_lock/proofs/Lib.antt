@@ -3,4 +3,3 @@ pub mod Lists
 pub mod Counts
 pub mod Keeps
 pub mod Deals
-pub mod Merges

@@ -2,7 +2,6 @@
 #![tactic(auto)]
 
 mod law;
-pub mod ledger;
 mod lock;
 mod pass;
 mod turns;

@@ -1,4 +1,6 @@
 //! Workers over a caller that answers from a table, alone and in threads.
+ghost use Rattle.std.specs.Prelude.{◌≡◌, ◌+◌};
+
 use crossbeam_utils::Backoff;
 use graph_model::{Entry, Event, Refusal, Reply};
 use heap_workers::{Gate, HeapCalls, OpenGate, Station, Worker, work_all};
@@ -15,6 +17,7 @@ const LOOKS: u32 = 1_000_000;
 struct Answers {
     replies: Vec<Reply>,
     sent: Vec<Entry>,
+    asked: u64,
 }
 
 impl HeapCalls for Answers {
@@ -22,11 +25,14 @@ impl HeapCalls for Answers {
 
     ghost sent = { λ calls. calls.sent.items };
 
+    ghost asked = { λ calls. calls.asked };
+
     ghost Origin = { Unit {0} };
 
     ghost origin = { λ _. tt };
 
-    fn call<R: Wait>(&mut self, _rt: &R, event: Event) -> Result<Reply, AllocError> {
+    fn call<R: Wait>(&mut self, rt: &R, event: Event) -> Result<Reply, AllocError> {
+        self.asked = one_more(rt, self.asked);
         let reply = match self.replies.get(self.sent.len()) {
             Some(reply) => *reply,
             None => Reply::Done,
@@ -34,6 +40,18 @@ impl HeapCalls for Answers {
         self.sent.push(Entry { event, reply })?;
         Ok(reply)
     }
+}
+
+// The next number. At the last one it would wait for ever.
+fn one_more<R: Wait>(rt: &R, number: u64) -> u64
+    ensures { result ≡ number + 1 }
+{
+    for _ in rt.forever() {
+        if let Some(next) = number.checked_add(1) {
+            return next;
+        }
+    }
+    unreachable!()
 }
 
 // A worker with events of its own session, that makes each twice at most.
@@ -47,6 +65,7 @@ fn station(
         calls: Answers {
             replies,
             sent: Vec::new(alloc),
+            asked: 0,
         },
         worker: Worker {
             number,
@@ -107,7 +126,7 @@ fn busy_events_are_made_again_and_a_failure_ends_all(rt: HostRuntime) -> Result<
     };
     let mut station = station(alloc, 3, events, replies);
     station.work(&rt, &gate);
-    assert!(rt; station.end.is_ok() && has(&station, &sent));
+    assert!(rt; station.end.is_ok() && has(&station, &sent) && station.calls.asked == 6);
     // The gate was passed once for each event, and not for each try.
     assert!(rt; gate.last.into_inner() == 3 && gate.wrong.into_inner() == 0);
     Ok(())

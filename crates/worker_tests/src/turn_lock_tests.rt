@@ -1,8 +1,8 @@
 //! Turns in threads, and what follows from the clauses alone.
 use std::alloc::Global;
 use std::test::Fail;
+use turn_ledger::{Ledger, both, post_four, post_two};
 use turn_lock::TurnLock;
-use turn_lock::ledger::{Ledger, both, post_four, post_two};
 
 // How many turns each thread makes.
 const TURNS: u64 = 1000;

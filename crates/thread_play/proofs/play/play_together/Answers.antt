@@ -33,7 +33,7 @@ work_by-end-requires-clause-passes g c κs within =
     let made = c.in-Ok-new.ensures in
     record {
       count = sym c.in-Ok-new.passes.ok.0 ∙ made.count;
-      each = λ i pass at. let new = made.passes i pass at in record { pass_is = new.0; numbers = new.1; label = new.2 ∙ labels_at i; none = new.4 };
+      each = λ i pass at. let new = made.passes i pass at in record { pass_is = new.0; numbers = new.1; label = new.2 ∙ labels_at i; none = new.4; no_turn = new.5 };
     }
 
 pub close-requires-clause-each : goal.close-requires-clause-each

@@ -25,4 +25,4 @@ returns g c =
     all_played c.args.shared.now c.args.workers.items c.args.passes.now.items stations c.requires.passes c.in_ok-stations.ensures.ok after c.give_back.new.passes.items c.give_back.result as_many
     (λ i d lt. subst (λ l. HasSent (get_or l i d) (get_or after i d)) c.as_mut_slice.ensures.value (c.work_together.ensures i d (omega (arith, lt, ap length c.as_mut_slice.ensures.value))))
     (back.passes ∙ ap passes_back written)
-    (λ ok. subst (All (λ s. IsOk s.end)) written (back.end.0 ok))
+    ((λ ok. subst (All (λ s. IsOk s.end)) written (back.end.0 ok)), (λ all. back.end.1 (subst (All (λ s. IsOk s.end)) (sym written) all)))

@@ -1,7 +1,7 @@
 use Rattle.std.proofs.Common.{◌++◌, ℕ, drop, sym, ap, ◌∙◌, subst, arith}
 use Rattle.heap_core.specs.HeapState.{history_of}
 use Rattle.shared_heap.proofs.CallLaws.{Leaves, leaves, recorded_on, sent_of_session}
-use Rattle.shared_heap.proofs.FollowsLaws.{follows_told}
+use Rattle.shared_heap.proofs.FollowsLaws.{follows_lacking, follows_told}
 use Rattle.shared_heap.proofs.FrontLaws.{front_of_entry, acknowledged_greatest}
 use Rattle.turn_lock.specs.Passes.{label_of, seen_of, mine_of}
 use Rattle.turn_lock.specs.Turning.{StandIn, added, greatest}
@@ -46,6 +46,10 @@ returns-clause-answered g c = (left g c).answered
 
 pub returns-clause-core : goal.returns-clause-core
 returns-clause-core g c = follows_told _ c.step-answer.new.self.heap (seen_of c.give.new.pass) c.give.ensures.history (c.step-answer.ensures.follows _ c.hold-held.ensures.same_value.1)
+
+pub returns-clause-memory : goal.returns-clause-memory
+returns-clause-memory g c = let step = c.step-answer.ensures in
+    follows_lacking _ c.hold-held.result.value.heap c.args.event (seen_of c.give.new.pass) (history_of c.step-answer.new.self.heap) c.step-answer.result c.give.ensures.history step.recorded step.memory c.hold-held.ensures.same_value.1
 
 pub returns-clause-front : goal.returns-clause-front
 returns-clause-front g c =

@@ -3,7 +3,8 @@ use Rattle.std.proofs.Common.{◌≡◌, ℕ, zero, suc, ◌+◌, ◌-◌, ◌<�
 use mathlib.Core.Logic.{dite}
 use native.Mathlib.Decide.{ℕ_discrete}
 use Rattle.turn_lock.specs.Turning.{one, times, EachOnce, places, StandIn}
-use Rattle.turn_lock.specs.Merging.{entries_of, Rise, IsMerge}
+use Rattle.turn_lock.specs.Merging.{entries_of, Rise}
+use Rattle.turn_ledger.specs.Merged.{IsMerge}
 use Rattle.turn_lock.proofs.Counts.{one_same, one_other, once_passed, once_same}
 use Rattle.turn_lock.proofs.Lists.{value_or}
 use Rattle.turn_lock.proofs.TurnLaws.{places_append}

@@ -1,12 +1,13 @@
-//! A second use of the lock: a ledger that threads share. What it holds at the end follows from the public clauses of the lock alone.
+//! The ledger, and threads that post to it.
 ghost use Rattle.std.specs.Prelude.{◌≡◌, ℕ, ◌+◌, ◌%◌, ◌^◌, ◌<◌, ◌≤◌, ◌++◌, [], ◌∷◌, length, take, drop, IfOk, IfErr, MatchBool, Some, slice_get, vec_len};
-ghost use Rattle.turn_lock.specs.Merging.{entries_of, Rise, IsMerge};
+ghost use Rattle.turn_ledger.specs.Merged.{IsMerge};
+ghost use Rattle.turn_lock.specs.Merging.{entries_of, Rise};
 ghost use Rattle.turn_lock.specs.Passes.{first_of, pass_numbers, seen_of, mine_of, IsPassOf, IsResting};
 
-use crate::{Pass, TurnLock, Turns};
 use std::alloc::{AllocError, Global};
 use std::sync::Wait;
 use std::thread::{Threads, join};
+use turn_lock::{Pass, TurnLock, Turns};
 
 /// Numbers in the order in which they were posted.
 #[derive(Drop)]

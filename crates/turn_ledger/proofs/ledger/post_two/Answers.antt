@@ -1,11 +1,12 @@
 use Rattle.std.proofs.Common.{◌≡◌, ℕ, ◌≤◌, length, take, drop, List, ap, subst, arith}
 use Rattle.turn_lock.specs.Turning.{EachOnce, StandIn, times, places}
-use Rattle.turn_lock.specs.Merging.{entries_of, IsMerge}
+use Rattle.turn_lock.specs.Merging.{entries_of}
 use Rattle.turn_lock.specs.Passes.{first_of, mine_of}
 use Rattle.turn_lock.proofs.Lists.{length_longer}
 use Rattle.turn_lock.proofs.TurnLaws.{begins_length}
-use Rattle.turn_lock.proofs.Merges.{two_make_all}
-use Rattle.turn_lock.proofs.ledger.post_two.Goals as goal
+use Rattle.turn_ledger.specs.Merged.{IsMerge}
+use Rattle.turn_ledger.proofs.Merges.{two_make_all}
+use Rattle.turn_ledger.proofs.ledger.post_two.Goals as goal
 
 pub join-one-requires-after_bounds : goal.join-one-requires-after_bounds
 join-one-requires-after_bounds g c κs within =

@@ -1,5 +1,5 @@
 use Rattle.std.proofs.Common.{rules, ◌++◌, length, ap, ap₂, arith}
-use Rattle.turn_lock.proofs.ledger.post_four.Goals as goal
+use Rattle.turn_ledger.proofs.ledger.post_four.Goals as goal
 
 pub join-left-requires-after_bounds : goal.join-left-requires-after_bounds
 join-left-requires-after_bounds g c κs within =

@@ -2,7 +2,7 @@ use Rattle.std.proofs.Common.{◌≡◌, ℕ, ◌≤◌, ◌++◌, [], ◌∷◌
 use Rattle.turn_lock.specs.Merging.{Rise}
 use Rattle.turn_lock.specs.Passes.{first_of, seen_of, mine_of}
 use Rattle.turn_lock.proofs.TurnLaws.{begins_length, rise_added}
-use Rattle.turn_lock.proofs.ledger.post_one.Goals as goal
+use Rattle.turn_ledger.proofs.ledger.post_one.Goals as goal
 
 pub returns-then-post-clause-rise : goal.returns-then-post-clause-rise
 returns-then-post-clause-rise g c =

@@ -1,7 +1,7 @@
 use Rattle.std.proofs.Common.{◌≡◌, ◌≤◌, length, take}
 use Rattle.turn_lock.specs.Merging.{entries_of, Rise}
 use Rattle.turn_lock.specs.Passes.{first_of, pass_numbers, seen_of, mine_of, IsPassOf, IsResting}
-use Rattle.turn_lock.proofs.ledger.post_all.Given as goal
+use Rattle.turn_ledger.proofs.ledger.post_all.Given as goal
 
 abbrev pub invariant-loop-posted : goal.invariant-loop-posted
 invariant-loop-posted g l = record {
