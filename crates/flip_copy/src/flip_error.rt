@@ -8,8 +8,8 @@ use std::alloc::{AllocError, AllocFailed};
 /// Why a flip was not planned. Nothing has changed.
 #[derive(Clone, Copy, Debug, PartialEq, Eq)]
 pub enum FlipError {
-    /// The roots are not ascending starts of objects in the current space's used words: this one is the first found not to be.
-    NoObject { address: u32 },
+    /// The roots are not ascending starts of objects in the current space's used words.
+    NoObject,
     /// The disk failed, or had stopped.
     Disk(DiskError),
     /// Out of memory.

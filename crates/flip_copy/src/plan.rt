@@ -1,5 +1,5 @@
 //! Which objects a flip copies, and where to.
-ghost use Rattle.std.specs.Prelude.{◌≡◌, ℕ, ◌+◌, ◌≤◌, ◌<◌, IsTrue, IfOk, IfSome, Some, Err, take, vec_len};
+ghost use Rattle.std.specs.Prelude.{◌≡◌, ◌≢◌, ℕ, ◌+◌, ◌≤◌, ◌<◌, IsTrue, IfOk, IfSome, Some, Err, take, vec_len};
 ghost use Rattle.heap_spaces.specs.Spaces.{flipped};
 ghost use Rattle.object_layout.specs.Layout.{object_at};
 ghost use Rattle.object_layout.specs.Read.{IsRead, disk_failure};
@@ -28,7 +28,7 @@ pub fn plan_flip<W: Words>(
     ensures copies { IsTrue W.tells → IfOk result (λ plan. plan ≡ root_copies spaces.now (W.content words.old) roots.now) }
     ensures copied { IfOk result (AreCopiesOf spaces.now) }
     ensures room { IfOk result (λ plan. copied_size plan ≤ spaces.now.used) }
-    ensures objects { IsTrue W.tells → AreRootsIn (W.content words.old) spaces.now roots.now → (address : ℕ) → result ≡ Err (FlipError.NoObject address) → ⊥ }
+    ensures objects { IsTrue W.tells → AreRootsIn (W.content words.old) spaces.now roots.now → result ≢ Err FlipError.NoObject }
     ensures read { IsRead W.tells W.extent W.content W.keeps W.faults W.stops words.old words.new (flip_failure result) }
 {
     let all = with_base(alloc, spaces.base(), roots)?;
@@ -66,7 +66,7 @@ fn copy_all<W: Words>(
 ) -> Result<Vec<ObjectCopy>, FlipError>
     ensures copies { IsTrue W.tells → IfOk result (λ copies. copies.items ≡ copies_from (W.content words.old) (flipped spaces.now).base ats.now) }
     ensures copied { IfOk result (λ copies. AreCopiesOf spaces.now copies.items) }
-    ensures objects { IsTrue W.tells → AreRootsIn (W.content words.old) spaces.now ats.now → (address : ℕ) → result ≡ Err (FlipError.NoObject address) → ⊥ }
+    ensures objects { IsTrue W.tells → AreRootsIn (W.content words.old) spaces.now ats.now → result ≢ Err FlipError.NoObject }
     ensures read { IsRead W.tells W.extent W.content W.keeps W.faults W.stops words.old words.new (flip_failure result) }
 {
     let end = spaces.next_free();
@@ -76,7 +76,7 @@ fn copy_all<W: Words>(
     for at in ats {
         let from = *at;
         if from < behind {
-            return Err(FlipError::NoObject { address: from });
+            return Err(FlipError::NoObject);
         }
         let run = object_words(alloc, words, end, from)?;
         let size = run.len() as u32;
@@ -97,7 +97,7 @@ fn object_words<W: Words>(
 ) -> Result<Vec<u64>, FlipError>
     ensures object { IsTrue W.tells → IfOk result (λ object. object.items ≡ object_words_at (W.content words.old) at) }
     ensures size { IfOk result (λ object. (2 ≤ vec_len object) × (vec_len object ≤ 512) × (at + vec_len object ≤ end)) }
-    ensures stands { IsTrue W.tells → (n : ℕ) → object_at (take end (W.content words.old)) at ≡ Some n → (address : ℕ) → result ≡ Err (FlipError.NoObject address) → ⊥ }
+    ensures stands { IsTrue W.tells → (n : ℕ) → object_at (take end (W.content words.old)) at ≡ Some n → result ≢ Err FlipError.NoObject }
     ensures read { IsRead W.tells W.extent W.content W.keeps W.faults W.stops words.old words.new (flip_failure result) }
 {
     match object_before(words, end, at)? {
@@ -106,7 +106,7 @@ fn object_words<W: Words>(
             words.append_to(at, at + FIELDS_AT + n, &mut object)?;
             Ok(object)
         }
-        None => Err(FlipError::NoObject { address: at }),
+        None => Err(FlipError::NoObject),
     }
 }
 

@@ -53,12 +53,12 @@ loop-at-preserved g c =
     }
 
 pub returns-then-from-behind-clause-objects : goal.returns-then-from-behind-clause-objects
-returns-then-from-behind-clause-objects g c told are address failed =
+returns-then-from-behind-clause-objects g c told are failed =
     let above = c.loop-at.invariant.next told are (get_or c.args.ats.now c.loop-at.at-index 0) (Contains-tail c.args.ats.now c.loop-at.at-index c.loop-at-test.true) in
     absurd (omega (arith, above, c.if-from-behind.true))
 
 pub returns-in_err-run-clause-objects : goal.returns-in_err-run-clause-objects
-returns-in_err-run-clause-objects g c told are address failed =
+returns-in_err-run-clause-objects g c told are failed =
     let ats = c.args.ats.now in
     let i = c.loop-at.at-index in
     let from = get_or ats i 0 in
@@ -69,5 +69,5 @@ returns-in_err-run-clause-objects g c told are address failed =
     ∙ ap (λ (ws : List ℕ). object_at (take (c.args.spaces.now.base + c.args.spaces.now.used) ws) from) same
     ∙ object.1 in
     let err : c.from_residual.result ≡ Err c.in_err-run.field-0.0 = search rules in
-    let same_error : c.in_err-run.field-0.0 ≡ NoObject address = cc (sym err ∙ failed) in
-    c.object_words.ensures.stands told object.0 there address (c.in_err-run.was ∙ ap Err same_error)
+    let same_error : c.in_err-run.field-0.0 ≡ NoObject = cc (sym err ∙ failed) in
+    c.object_words.ensures.stands told object.0 there (c.in_err-run.was ∙ ap Err same_error)
