@@ -10,6 +10,11 @@ of such a number in a transaction that is open: one line through the pipe. All f
 take their turn, so that other work on the machine strikes them alike; printed are the ratios of a round, their median, least and
 greatest. A binding that Python does not find is left out: LMDB's is Debian's package python3-lmdb. With --quick the program is that which is
 compiled with nothing proved; it has checks at each step, so its ratios say little. It judges nothing.
+
+Each store syncs by its own rules, so the first ratio is of whole commits, and on a slow disk it is the ratio of their syncs. The others read in the caller's
+own process, so the second is what a pipe costs. Nine rounds of 300 commits and 3,000 reads, beside other work (load 6): a durable commit took 0.10 times as
+long as with SQLite's rollback journal (0.02 to 0.36 in a round), 0.98 times as with its write-ahead log (0.41 to 8.33), and 1.31 times as with LMDB (0.26 to
+8.84); a read took 17 microseconds, 6 times as long as SQLite's (3.5 to 10) and 33 times as long as LMDB's (27 to 44).
 """
 import importlib
 import os

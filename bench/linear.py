@@ -4,7 +4,9 @@
     bench/linear.py [N]
 
 N is the number of transactions of the short script, 10,000 at least and 13,700 at most, and 10,000 if left out. Each script
-is played five times, and the least time of the five counts. It measures and judges nothing.
+is played five times, and the least time of the five counts. The time of an event
+is meant not to grow with the script before it, so the ratio is meant to be near 2. The 30,000 puts are in 3,000 transactions. It measures
+and judges nothing.
 """
 import os
 import subprocess

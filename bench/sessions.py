@@ -8,6 +8,9 @@ objects, one session after another. Then all of them walk their lists side by si
 and read an object that all of them read. So locks are kept until the end, on 32 times n objects, and on one object by all. Both scripts are
 played 25 times, in turn with those that only make the lists, and the least of the 25 times counts. What is measured is the processor time
 of the program itself, which other work on the machine changes least. It judges nothing.
+
+At the end of the longer script more than 20,000 locks are held, 32 of them on each object that all have read. A lock costs a logarithm of what is
+held, so the second ratio, without the lists, is meant to be a little above 2.
 """
 import os
 import resource

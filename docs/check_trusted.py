@@ -296,7 +296,7 @@ def paragraphs(path):
     with open(path, encoding="utf-8") as file:
         for it in re.split(r"\n\s*\n", file.read().strip("\n")):
             lines = [line.strip() for line in it.split("\n")]
-            first = next((line for line in lines if line and not line.startswith(("--", "use ", "pub use "))), "")
+            first = next((line for line in lines if line and not line.startswith(("--", "use ", "pub use ", "module "))), "")
             yield it, ITEM.match(first)[1] if first else None
 
 

@@ -153,6 +153,7 @@ complains basics/no_command.err 2 3 $quick play --help </dev/null
 complains basics/no_command.err 2 3 session now </dev/null
 answers
 names_itself
+made launcher.out "$examples/launcher.py"
 made signals.out "$examples/signals.py" $quick
 made terminal.out "$examples/terminal.py" $quick
 

@@ -1,6 +1,6 @@
 -- The record of a planned flip has a spelling.
 use Rattle.std.proofs.Common.{◌≡◌, ℕ, suc, ◌+◌, ◌^◌, ◌<◌, ◌≤◌, List, [], ◌∷◌, length, take, drop, get_or, Some, sym, ap, ◌∙◌, subst, arith}
-use Rattle.std.specs.Prelude.{slice_index}
+use Rattle.std.specs.Prelude.{slice_index, Contains}
 use Rattle.std.specs.List.{AllByRecursion}
 use Rattle.std.proofs.Math.Seq.{drop-cons}
 use Rattle.heap_words.specs.Header.{header_bits}
@@ -14,9 +14,14 @@ use Rattle.object_layout.proofs.LayoutLaws.{object_header, object_small, length-
 use Rattle.object_layout.proofs.ObjectLaws.{field_words_at}
 use Rattle.object_layout.proofs.WalkLaws.{Contains-head, Contains-rest}
 use Rattle.flip_copy.specs.Copied.{object_words_at, copies_from, with_base, root_copies, flip_record, copied_size}
-use Rattle.flip_copy.specs.Plan.{HasObjectSize, StoodInOrder, AreCopiesOf, AreRecorded}
+use Rattle.flip_copy.specs.Plan.{HasObjectSize, StoodInOrder, AreCopiesOf}
 use Rattle.flip_copy.proofs.CopiesLaws.{size_more, ordered_size, other_within, used_within, planned_size, planned_few}
 use Rattle.flip_copy.proofs.ObjectWordsLaws.{object_words, words_object}
+
+-- Words fit in 64 bits, and the fields of the objects at these addresses have field words.
+pub record AreRecorded (words ats : List ℕ) : Type 0 where
+  pub words_fit : (i : ℕ) → slice_index words i < 2 ^ 64
+  pub fields : (at : ℕ) → Contains ats at → AllByRecursion IsFieldWord (field_words words at)
 
 -- the words of an object are its header, its birth and its fields
 object_parts : (words : List ℕ) (at n : ℕ) → object_at words at ≡ Some n → object_words_at words at ≡ get_or words at 0 ∷ get_or words (suc at) 0 ∷ field_words words at

@@ -1,15 +1,13 @@
 -- What a flip plans, from the words before it.
-use Rattle.std.specs.Prelude.{◌≡◌, ℕ, ◌+◌, ◌^◌, ◌<◌, ◌≤◌, List, [], ◌∷◌, length, slice_index, Contains}
+use Rattle.std.specs.Prelude.{◌≡◌, ℕ, ◌+◌, ◌≤◌, List, [], ◌∷◌, length, Contains}
 use Rattle.std.specs.List.{AllByRecursion}
 use Rattle.std.specs.List.Sorted.{IsStrictlyIncreasing}
 use Rattle.heap_spaces.specs.Spaces.{SpacesState, flipped}
 use Rattle.heap_spaces.specs.declared.collection.CopiedObject.{CopiedObject}
-use Rattle.heap_words.specs.Word.{IsFieldWord}
 use Rattle.log_machine.specs.Collecting.{pairs_of}
 use Rattle.log_records.specs.declared.copies.ObjectCopy.{ObjectCopy}
 use Rattle.log_records.specs.declared.Record.{Record}
 use Rattle.log_records.specs.declared.Record.TheVariants.{Flip}
-use Rattle.object_layout.specs.Layout.{field_words}
 use Rattle.object_layout.specs.Walk.{IsFilled}
 use Rattle.relocation.specs.Relocation.{IsRelocation}
 use Rattle.flip_copy.specs.Copied.{copies_in, moved_objects}
@@ -52,8 +50,3 @@ pub record AreRootsIn (words : List ℕ) (spaces : SpacesState) (roots : List �
   pub filled : IsFilled words spaces.base spaces.used starts
   pub ascending : IsStrictlyIncreasing roots
   pub among : (at : ℕ) → Contains roots at → Contains starts at
-
--- Words fit in 64 bits, and the fields of the objects at these addresses have field words.
-pub record AreRecorded (words ats : List ℕ) : Type 0 where
-  pub words_fit : (i : ℕ) → slice_index words i < 2 ^ 64
-  pub fields : (at : ℕ) → Contains ats at → AllByRecursion IsFieldWord (field_words words at)

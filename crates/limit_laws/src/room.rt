@@ -1,15 +1,9 @@
 //! The room of the log.
-ghost use Rattle.limit_laws.specs.Room.{EndsTheorem, FitsTheorem, RollbackTheorem};
+ghost use Rattle.limit_laws.specs.Room.{FitsTheorem, RollbackTheorem};
 
 /// What the log uses, and what it keeps for the ends of active transactions, lies within it, whichever events were made.
 pub fn logs_keep_room_for_all_ends()
     ensures { FitsTheorem }
-{}
-
-/// An abort, a force, and a seal that makes no object stable are refused only where the disk failed before or the session has no transaction:
-/// never for lack of room.
-pub fn ends_never_lack_room()
-    ensures { EndsTheorem }
 {}
 
 /// The batch in which an opening takes back what had not ended has room.

@@ -18,8 +18,12 @@ use Rattle.collection_words.proofs.Copy.Named.{left_ascend}
 use Rattle.collection_words.proofs.Laid.Followed.{place_current}
 use Rattle.collection_words.proofs.Laid.Old.{old_in_other}
 use Rattle.collection_words.proofs.Laid.Sources.{IsCollecting, here_ends, left_object}
-use Rattle.seen_laws.specs.Heap.{AreNames, IsHeap}
+use Rattle.seen_laws.specs.Heap.{IsHeap}
 use Rattle.seen_laws.proofs.Kept.{heap_cases}
+
+-- these names are those of the objects at their addresses
+abbrev pub AreNames : (ℕ → Id) → Places → Type 0
+AreNames name places = (id : Id) (at : ℕ) → address_of places id ≡ Some at → name at ≡ id
 
 first_name : (p : Id × ℕ) (ps : Places) (at : ℕ) → p.1 ≡ at → name_at (p ∷ ps) at ≡ p.0
 first_name p ps at same = ap (λ b. if b then p.0 else name_at ps at) (eq-eqb p.1 at same)

@@ -14,8 +14,9 @@ use Rattle.collection_words.specs.Completed.{StandsCompleted, completed}
 use Rattle.collection_words.specs.Writes.{AreBacked}
 use Rattle.collection_words.proofs.Copy.Stands.{completed_own}
 use Rattle.collection_words.proofs.Laid.Completed.{completed_none}
-use Rattle.seen_laws.specs.Heap.{AreNames, IsHeap}
+use Rattle.seen_laws.specs.Heap.{IsHeap}
 use Rattle.seen_laws.proofs.Kept.{back, heap_cases}
+use Rattle.seen_laws.proofs.Names.{AreNames}
 use Rattle.seen_laws.proofs.Seen.{committed_seen}
 
 -- A graph that stands in words without a collection stands in the used words.

@@ -34,7 +34,7 @@ use Rattle.collection_words.proofs.Laid.Filled.{filling}
 use Rattle.collection_words.proofs.Laid.Old.{old_in_other}
 use Rattle.collection_words.proofs.Laid.Sources.{IsCollecting, source_object}
 use Rattle.collection_words.proofs.Moves.Ends.{addresses-append}
-use Rattle.seen_laws.specs.Heap.{AreNames}
+use Rattle.seen_laws.proofs.Names.{AreNames}
 use Rattle.seen_laws.proofs.Referred.{field_leads, plain_leads, refers_leads, stored}
 
 -- What is met.

@@ -15,9 +15,10 @@ use Rattle.collection_words.specs.Completed.{StandsCompleted, completed, future}
 use Rattle.collection_words.specs.LaidOut.{is_gray_field}
 use Rattle.collection_words.specs.Writes.{AreBacked, IsHereWrite}
 use Rattle.collection_words.proofs.Laid.TakenBack.{each_taken_back-list}
-use Rattle.seen_laws.specs.Heap.{AreAllBacked, AreNames, IsFieldHere, IsHeap, IsUnwritten, IsUnwrittenByOthers, StandsSealed, StandsViewed}
+use Rattle.seen_laws.specs.Heap.{AreAllBacked, IsFieldHere, IsHeap, IsUnwritten, IsUnwrittenByOthers, StandsSealed, StandsViewed}
 use Rattle.seen_laws.proofs.Births.{over_born}
 use Rattle.seen_laws.proofs.Kept.{none_wrote}
+use Rattle.seen_laws.proofs.Names.{AreNames}
 use Rattle.seen_laws.proofs.Over.{over_seen}
 use Rattle.seen_laws.proofs.Reading.{field_here, object_here}
 

@@ -22,10 +22,6 @@ pub record IsHeap (s : State) (places remaining : Places) (words : List ℕ) : T
   pub long : length words ≡ words_in s.pages
   pub laid : IsLaidOut s places remaining words
 
--- these names are those of the objects at their addresses
-abbrev pub AreNames : (ℕ → Id) → Places → Type 0
-AreNames name places = (id : Id) (at : ℕ) → address_of places id ≡ Some at → name at ≡ id
-
 -- none of these writes wrote the word at an address
 abbrev pub IsUnwritten : List UndoEntry → ℕ → Type 0
 IsUnwritten us at = AllByRecursion (λ u. at ≢ field_at u.object u.field) us

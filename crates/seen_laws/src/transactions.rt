@@ -2,20 +2,15 @@
 ghost use Rattle.std.specs.Prelude.{◌≡◌, ◌<◌, ◌++◌, ℕ, List, length, Some, false};
 ghost use Rattle.graph_model.specs.Graph.{Graph, fields};
 ghost use Rattle.graph_model.specs.declared.id.Id.{Id};
-ghost use Rattle.object_layout.specs.Layout.{IsSeen, IsSeenAs, object_at};
+ghost use Rattle.object_layout.specs.Layout.{IsSeen, object_at};
 ghost use Rattle.log_machine.specs.Machine.{State, all_taken_back, field_at};
 ghost use Rattle.graph_words.specs.Places.{Places, address_of};
 ghost use Rattle.graph_words.specs.Stands.{AreNamedByBirth};
 ghost use Rattle.collection_words.specs.Completed.{completed, future};
 ghost use Rattle.collection_words.specs.LaidOut.{is_gray_field};
-ghost use Rattle.seen_laws.specs.Heap.{AreAllBacked, AreNames, IsFieldHere, IsHeap, IsUnwrittenByOthers, StandsSealed, StandsViewed};
+ghost use Rattle.seen_laws.specs.Heap.{AreAllBacked, IsFieldHere, IsHeap, IsUnwrittenByOthers, StandsSealed, StandsViewed};
 
-/// The graph of the transactions that have ended is seen in the words as they stand without the writes of the others.
-pub fn sealed_graphs_are_seen()
-    ensures { (s : State) (places remaining : Places) (words : List ℕ) (g : Graph) (name : ℕ → Id) → IsHeap s places remaining words → AreAllBacked s places words → StandsSealed places remaining g words s → AreNames name (places ++ remaining) → IsSeenAs name (all_taken_back s words) s.base g }
-{}
-
-/// It is seen by births where these give the names in the completed words.
+/// The sealed graph is seen by births where these give the names in the completed words.
 pub fn sealed_graphs_are_seen_by_birth()
     ensures { (s : State) (places remaining : Places) (words : List ℕ) (g : Graph) → IsHeap s places remaining words → AreAllBacked s places words → StandsSealed places remaining g words s → AreNamedByBirth (places ++ future s words remaining) (all_taken_back s (completed s places remaining words)) → IsSeen (all_taken_back s words) s.base g }
 {}

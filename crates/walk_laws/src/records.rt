@@ -1,5 +1,5 @@
 //! What the records of a collection leave of births.
-ghost use Rattle.std.specs.Prelude.{◌≡◌, ◌++◌, ℕ, List, [], None, Some};
+ghost use Rattle.std.specs.Prelude.{◌≡◌, ◌++◌, ℕ, List, Some};
 ghost use Rattle.std.specs.List.{AllByRecursion};
 ghost use Rattle.heap_spaces.specs.Collection.{Collection};
 ghost use Rattle.heap_spaces.specs.Copying.{with_scanned};
@@ -30,9 +30,4 @@ pub fn copies_keep_births()
 /// So does the scan of a page.
 pub fn scans_keep_births()
     ensures { (s : State) (k : Collection) (places remaining : Places) (words : List ℕ) (page : ℕ) (writes : List (ℕ × ℕ)) → IsUnderway s k places remaining words → AllByRecursion (IsScanWrite s places remaining words) writes → TellsBirths s places remaining words → TellsBirths (record s { collection = Some (with_scanned k page) }) places remaining (put_all words writes) }
-{}
-
-/// The end of a collection leaves those of the current objects.
-pub fn ended_collections_keep_births()
-    ensures { (s : State) (places remaining : Places) (words : List ℕ) → TellsBirths s places remaining words → TellsBirths (record s { collection = None }) places [] words }
 {}

@@ -1,5 +1,0 @@
-use Rattle.limit_laws.proofs.Progress.Ends.{end_law}
-use Rattle.limit_laws.proofs.collections.collections_end.Goals as goal
-
-pub returns : goal.returns
-returns c = end_law

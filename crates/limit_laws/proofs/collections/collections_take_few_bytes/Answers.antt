@@ -1,5 +1,0 @@
-use Rattle.limit_laws.proofs.Bytes.Runs.{bytes_law}
-use Rattle.limit_laws.proofs.collections.collections_take_few_bytes.Goals as goal
-
-pub returns : goal.returns
-returns c = bytes_law
