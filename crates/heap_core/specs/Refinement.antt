@@ -53,9 +53,9 @@ module _ {D : Type 0} (g : Ghosts D) where
     pub engine : heap.failed ≡ None → IsEngine g c heap.engine disk
 
   -- With a modelled disk it is a core, in memory and on the disk, where births name its objects.
-  pub record IsHeapOn (s : Super) (c : Core) (heap : HeapCore) (disk : D) : Type 0 where
-    pub core : IsCoreOn c heap disk
-    pub disk : DiskHolds s c (g.bytes disk) (g.may_leave disk)
+  pub record IsHeapOn (s : Super) (c : Core) (heap : HeapCore) (device : D) : Type 0 where
+    pub core : IsCoreOn c heap device
+    pub disk : DiskHolds s c (g.bytes device) (g.may_leave device)
 
 module _ {D : Type 0} {g : Ghosts D} where
   -- An open heap is a core, on every disk.

@@ -9,7 +9,7 @@ use Rattle.heap_engine.specs.EngineState.{memory}
 use Rattle.heap_core.proofs.in_memory.HeapCore.graph.Goals as goal
 
 pub returns-clause-text : goal.returns-clause-text
-returns-clause-text g c core heap reached =
+returns-clause-text c core heap reached =
     let none = no_failure_at c.args.self.now.failed c.requires.unfailed in
     let valid = unfailed_valid core _ heap.memory.failure none reached in
     let gr = serial core.g0 (sealed core.history) in
@@ -18,7 +18,7 @@ returns-clause-text g c core heap reached =
     (subst (λ (ws : List ℕ). IsSeenAs (names_of core) ws (memory c.args.self.now.engine).spaces.base gr) (sym c.in_ok-words.ensures) (memory_seen core c.args.self.now.engine valid reached.locked (heap.engine none))))
 
 pub returns-clause-error : goal.returns-clause-error
-returns-clause-error g c core heap reached =
+returns-clause-error c core heap reached =
     let none = no_failure_at c.args.self.now.failed c.requires.unfailed in
     let valid = unfailed_valid core _ heap.memory.failure none reached in
     let gr = serial core.g0 (sealed core.history) in
