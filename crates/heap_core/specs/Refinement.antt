@@ -36,21 +36,22 @@ pub record DiskHolds (s : Super) (c : Core) (image : List ℕ) (may_leave : List
   pub unfailed : (account c.history).failed ≡ None → OnDisk s c image may_leave
   pub failed : (account c.history).failed ≢ None → (left : List ℕ) → may_leave left → IsLeftByStep c image left
 
--- What an open heap keeps is a core in memory: its history, the commits at the opening, at which entry the disk stopped or failed, and until then what
--- its engine keeps.
-pub record IsCoreInMemory (c : Core) (heap : HeapCore) : Type 0 where
+-- What an open heap keeps is a core: its history, the commits at the opening, at which entry the disk stopped or failed, and until then what its engine
+-- is to be.
+pub record IsCoreWith (engine_is : Engine → Type 0) (c : Core) (heap : HeapCore) : Type 0 where
   pub history : heap.history.entries ≡ c.history
   pub before : heap.before ≡ c.before
-  pub engine : heap.failed ≡ None → IsMemory (memory heap.engine) (account c.history) c
   pub memory : Remembers c heap.engine heap.failed
+  pub engine : heap.failed ≡ None → engine_is heap.engine
+
+-- It is a core in memory, whatever its disk holds.
+abbrev pub IsCoreInMemory : Core → HeapCore → Type 0
+IsCoreInMemory c heap = IsCoreWith (λ e. IsMemory (memory e) (account c.history) c) c heap
 
 module _ {D : Type 0} (g : Ghosts D) where
-  -- With its disk it is that core, on every disk: until the disk stopped or failed, its engine is.
-  pub record IsCoreOn (c : Core) (heap : HeapCore) (disk : D) : Type 0 where
-    pub history : heap.history.entries ≡ c.history
-    pub before : heap.before ≡ c.before
-    pub memory : Remembers c heap.engine heap.failed
-    pub engine : heap.failed ≡ None → IsEngine g c heap.engine disk
+  -- With its disk it is that core, on every disk.
+  abbrev pub IsCoreOn : Core → HeapCore → D → Type 0
+  IsCoreOn c heap disk = IsCoreWith (λ e. IsEngine g c e disk) c heap
 
   -- With a modelled disk it is a core, in memory and on the disk, where births name its objects.
   pub record IsHeapOn (s : Super) (c : Core) (heap : HeapCore) (device : D) : Type 0 where

@@ -24,7 +24,6 @@ ghost use Rattle.heap_engine.specs.Refinement.{IsLeftByStep};
 ghost use Rattle.heap_core.specs.Collects.{CollectsAsTold};
 ghost use Rattle.committed_words.specs.Committed.{words_of};
 
-
 use crate::errors::GraphError;
 use committed_words::CommittedWords;
 use disk_model::{Disk, DiskError};

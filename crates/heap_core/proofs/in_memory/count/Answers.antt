@@ -1,5 +1,4 @@
-use Rattle.std.proofs.Common.{◌≡◌, ℕ, List, Err, refl, sym, ap, ◌∙◌, subst, rules}
-use Rattle.object_layout.specs.Layout.{IsSeenAs}
+use Rattle.std.proofs.Common.{◌≡◌, Err, refl, ap, ◌∙◌, rules}
 use Rattle.heap_core.specs.Causes.{graph_error}
 use Rattle.graph_print.specs.PrintFailure.{print_failure}
 use Rattle.heap_core.proofs.PrintErrors.{only_memory}
