@@ -1,6 +1,6 @@
 -- The events that need no memory find room for their entries.
-use Rattle.std.proofs.Common.{◌≡◌, ℕ, ◌+◌, ◌<◌, ◌≤◌, inl, inr, max, List, [], ◌∷◌, ◌++◌, length, Option, None, Some, refl, sym, ap, ◌∙◌, subst, arith}
-use Rattle.std.specs.Prelude.{◌⊎◌, IsSome, is_some, sum_by}
+use Rattle.std.proofs.Common.{◌≡◌, ℕ, ◌+◌, ◌<◌, ◌≤◌, inl, inr, max, List, [], ◌∷◌, ◌++◌, length, Option, None, Some, refl, ap, ◌∙◌, arith}
+use Rattle.std.specs.Prelude.{◌⊎◌, IsSome, sum_by}
 use Rattle.std.proofs.lemmas.Bool.Decides.{nat_tests}
 use Rattle.std.proofs.lemmas.List.Sums.{sum_by-cons}
 use Rattle.graph_model.specs.declared.event.Event.{Event}
@@ -9,22 +9,14 @@ use Rattle.graph_model.specs.declared.reply.Entry.{Entry}
 use Rattle.graph_model.specs.declared.reply.Reply.{Reply}
 use Rattle.graph_model.specs.History.{Account, account, account_after, acknowledged, sessions}
 use Rattle.graph_model.proofs.Runs.History.{account-append}
-use Rattle.graph_model.specs.Plain.{view}
-use Rattle.graph_model.specs.Transaction.{Transaction}
-use Rattle.graph_words.specs.Promotion.{written_fields}
-use Rattle.graph_words.proofs.Promotion.Nothing.{AreSettled, seal_none}
 use Rattle.txn_table.specs.Table.{TransactionState, TableState, transaction_of, new_table}
-use Rattle.log_records.specs.declared.Record.TheVariants.{Commit}
-use Rattle.heap_memory.specs.Memory.{Memory, own}
-use Rattle.heap_model.specs.Core.{Core, ground, all_words, undo_with, next_word, area_in, seal_of, call_records, event_records}
-use Rattle.memory_laws.specs.CoreMemory.{kept_of, IsMemory}
+use Rattle.heap_memory.specs.Memory.{Memory}
 use Rattle.heap_engine.specs.declared.engine.Engine.{Engine}
 use Rattle.heap_engine.specs.Ending.{SealsAlone, NeedsNoMemory, Ends}
 use Rattle.heap_engine.specs.EngineState.{memory}
 use Rattle.heap_engine.specs.Reserve.{one_if, active_count}
-use Rattle.heap_engine.proofs.Alone.{alone_settled}
 use Rattle.heap_engine.proofs.ReserveLaws.{count_ended, total_none}
-use Rattle.heap_core.specs.Ending.{TakesNoMemory, IsReady, kept_entries, entries_kept}
+use Rattle.heap_core.specs.Ending.{IsReady, kept_entries, entries_kept}
 
 one_few : (o : Option TransactionState) → one_if o ≤ 1
 one_few None = omega arith

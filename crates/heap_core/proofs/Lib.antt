@@ -4,6 +4,7 @@ mod KeptEntries
 mod Outside
 mod PrintErrors
 mod RefinementGraph
+mod RefinementMemory
 mod RefinementOpen
 mod StepCore
 mod Undamaged

@@ -1,5 +1,5 @@
 -- The graph in memory: the words without what active transactions wrote are those in which the sealed transactions' graph is seen.
-use Rattle.std.proofs.Common.{◌≡◌, ℕ, List, [], ◌∷◌, ◌++◌, length, Option, Some, None, refl, sym, ap, ◌∙◌, subst}
+use Rattle.std.proofs.Common.{◌≡◌, ℕ, List, [], ◌∷◌, ◌++◌, Option, Some, None, refl, sym, ap, ◌∙◌, subst}
 use Rattle.commit_order.proofs.OrderLaws.{two_phase_ordered}
 use Rattle.core_laws.proofs.Sessions.TakenBack.{session_undo, taken_by, committed_by_session}
 use Rattle.core_laws.specs.Valid.{RunsLocked, IsValid}
@@ -8,7 +8,6 @@ use Rattle.graph_model.specs.History.{Account, account, sealed, sessions}
 use Rattle.graph_model.specs.Transaction.{Transaction, serial}
 use Rattle.log_machine.specs.declared.UndoEntry.{UndoEntry}
 use Rattle.log_machine.specs.Machine.{State, undo_of, taken_back, all_taken_back}
-use Rattle.log_machine.proofs.WordsLaws.{length-taken_back}
 use Rattle.object_layout.specs.Layout.{IsSeenAs}
 use Rattle.graph_words.proofs.Places.Names.{name_at}
 use Rattle.graph_model.specs.declared.id.Id.{Id}

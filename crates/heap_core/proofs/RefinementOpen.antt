@@ -48,7 +48,9 @@ use Rattle.heap_engine.specs.EngineState as state
 use Rattle.heap_engine.specs.EngineState.{memory}
 use Rattle.disk_model.specs.declared.disk.Disk.{Ghosts}
 use Rattle.heap_engine.specs.Refinement.{KnowsPages, IsEngine}
-use Rattle.heap_core.specs.Refinement.{DiskHolds}
+use Rattle.heap_core.specs.Refinement.{DiskHolds, IsCoreOn}
+use Rattle.heap_core.specs.declared.in_memory.HeapCore.{HeapCore}
+use Rattle.heap_core.proofs.StepCore.{remembers}
 
 -- what was handed on is what the log says once it is rolled back
 state_found : (s : Super) (batches : List (List Record)) (stored : Pages) (found : Recovered) (shaped : IsShapedLog s batches stored) → IsRecovered s batches stored found → found.state ≡ settled shaped.state
@@ -170,6 +172,17 @@ opened_engine d s batches stored gates born places g found e disk shaped recover
   pages = λ told. opened_pages s batches stored gates born places g found (memory e) (d.bytes disk) fresh (knows told) (are told);
   memory = fresh_memory s batches stored gates born places g found (memory e) shaped recovered fresh;
 }
+
+-- and a heap that is made of that engine
+pub opened_core : {D : Type 0} (d : Ghosts D) (s : Super) (batches : List (List Record)) (stored : Pages) (gates : ℕ → ℕ) (born : Bool) (places : Places) (g : Graph) (found : Recovered) (e : Engine) (core : HeapCore) (disk : D)
+    → (shaped : IsShapedLog s batches stored) → IsRecovered s batches stored found → IsFresh found (memory e) → (IsTrue d.tells → Knows (cache_store found.cache) (d.bytes disk))
+    → (IsTrue d.tells → (p : ℕ) → open_gates s.log_bytes (d.bytes disk) p ≡ gates p) → core.engine ≡ e → core.history.entries ≡ [] → core.before ≡ found.state.commits → core.failed ≡ None
+    → IsCoreOn d (opened s batches stored gates born places g) core disk
+opened_core d s batches stored gates born places g found e core disk shaped recovered fresh knows are same entries before none =
+    let c = opened s batches stored gates born places g in
+    let is = opened_engine d s batches stored gates born places g found e disk shaped recovered fresh knows are in
+    let here = subst (λ (x : Engine). IsEngine d c x disk) (sym same) is in
+    record { history = entries; before = before ∙ commits_found s batches stored found shaped recovered; memory = remembers d c core.engine disk core.failed none here; engine = λ still. here }
 
 -- its words are those that a legal log leaves, beside pages that may stand there
 opened_logged : (s : Super) (batches : List (List Record)) (stored : Pages) → IsLegalLog s batches stored → (gates : ℕ → ℕ) (places : Places) (g : Graph) → IsLogged (opened s batches stored gates true places g) stored

@@ -21,7 +21,7 @@ use Rattle.heap_model.specs.Core.{Core, granted_by, answer, with_entry, after, A
 use Rattle.heap_model.proofs.Run.Calls.{failed_refusal, failed_after, calls-asks, calls-unfailed, after_history, step_history}
 use Rattle.heap_model.proofs.Outside.{outside_between}
 use Rattle.heap_core.specs.Causes.{reply_device}
-use Rattle.heap_core.specs.declared.heap.Failure.{Failure}
+use Rattle.heap_core.specs.declared.in_memory.Failure.{Failure}
 use Rattle.heap_core.specs.HeapState.{entry_of}
 use Rattle.heap_core.specs.Refinement.{Remembers, DiskHolds}
 use Rattle.heap_core.proofs.RefinementLeft.{keeps_refused, cut_account, keeps_cut}

@@ -4,7 +4,7 @@ use Rattle.std.specs.Option.{option_map}
 use Rattle.heap_history.specs.Recorded.{Recorded}
 use Rattle.disk_model.specs.declared.disk.Disk.{Ghosts}
 use Rattle.graph_model.specs.declared.reply.Entry.{Entry}
-use Rattle.heap_core.specs.declared.heap.Failure.{Failure}
+use Rattle.heap_core.specs.declared.in_memory.Failure.{Failure}
 use Rattle.heap_core.specs.declared.heap.Heap.{Heap}
 use Rattle.heap_core.specs.declared.errors.OpenError.{OpenError}
 
@@ -23,7 +23,7 @@ entry_of failed = option_map (λ failure. failure.entry) failed
 
 -- that of a heap
 abbrev pub failed_at : {D : Type 0} {g : Ghosts D} → Heap D g → Option ℕ
-failed_at heap = entry_of heap.failed
+failed_at heap = entry_of heap.core.failed
 
 -- the entries of a history
 abbrev pub entries_of : Recorded → List Entry
@@ -31,4 +31,4 @@ entries_of history = history.entries
 
 -- those of a heap, since it was opened
 abbrev pub history_of : {D : Type 0} {g : Ghosts D} → Heap D g → List Entry
-history_of heap = entries_of heap.history
+history_of heap = entries_of heap.core.history

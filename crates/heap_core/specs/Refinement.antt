@@ -7,8 +7,9 @@ use Rattle.graph_words.specs.Places.{Places}
 use Rattle.log_records.specs.declared.Record.{Record}
 use Rattle.page_redo.specs.Pages.{Pages}
 use Rattle.image_plan.specs.declared.superblock.Super.{Super}
-use Rattle.heap_core.specs.declared.heap.Failure.{Failure}
+use Rattle.heap_core.specs.declared.in_memory.Failure.{Failure}
 use Rattle.heap_core.specs.declared.heap.Heap.{Heap}
+use Rattle.heap_core.specs.declared.in_memory.HeapCore.{HeapCore}
 use Rattle.heap_core.specs.HeapState.{entry_of}
 use Rattle.heap_engine.specs.declared.engine.Engine.{Engine}
 use Rattle.heap_engine.specs.EngineState.{memory}
@@ -16,6 +17,7 @@ use Rattle.heap_engine.specs.Refinement.{IsEngine, OnDisk}
 pub use Rattle.heap_engine.specs.Refinement.{SameBehind, IsLeftByStep}
 use Rattle.heap_memory.specs.Memory.{own}
 use Rattle.heap_model.specs.Core.{Core}
+use Rattle.memory_laws.specs.CoreMemory.{IsMemory}
 use Rattle.heap_model.specs.Image.{IsShapedLog}
 use Rattle.heap_model.specs.Opening.{opened, IsFound}
 
@@ -34,26 +36,38 @@ pub record DiskHolds (s : Super) (c : Core) (image : List ℕ) (may_leave : List
   pub unfailed : (account c.history).failed ≡ None → OnDisk s c image may_leave
   pub failed : (account c.history).failed ≢ None → (left : List ℕ) → may_leave left → IsLeftByStep c image left
 
+-- What an open heap keeps is a core: its history, the commits at the opening, at which entry the disk stopped or failed, and until then what its engine
+-- is to be.
+pub record IsCoreWith (engine_is : Engine → Type 0) (c : Core) (heap : HeapCore) : Type 0 where
+  pub history : heap.history.entries ≡ c.history
+  pub before : heap.before ≡ c.before
+  pub memory : Remembers c heap.engine heap.failed
+  pub engine : heap.failed ≡ None → engine_is heap.engine
+
+-- It is a core in memory, whatever its disk holds.
+abbrev pub IsCoreInMemory : Core → HeapCore → Type 0
+IsCoreInMemory c heap = IsCoreWith (λ e. IsMemory (memory e) (account c.history) c) c heap
+
+module _ {D : Type 0} (g : Ghosts D) where
+  -- With its disk it is that core, on every disk.
+  abbrev pub IsCoreOn : Core → HeapCore → D → Type 0
+  IsCoreOn c heap disk = IsCoreWith (λ e. IsEngine g c e disk) c heap
+
+  -- With a modelled disk it is a core, in memory and on the disk, where births name its objects.
+  pub record IsHeapOn (s : Super) (c : Core) (heap : HeapCore) (device : D) : Type 0 where
+    pub core : IsCoreOn c heap device
+    pub disk : DiskHolds s c (g.bytes device) (g.may_leave device)
+
 module _ {D : Type 0} {g : Ghosts D} where
-  -- An open heap is a core, on every disk: its history, the commits at the opening, at which entry the disk stopped or failed, and until then its
-  -- engine.
-  pub record IsCore (c : Core) (heap : Heap D g) : Type 0 where
-    pub history : heap.history.entries ≡ c.history
-    pub before : heap.before ≡ c.before
-    pub memory : Remembers c heap.engine heap.failed
-    pub engine : heap.failed ≡ None → IsEngine g c heap.engine heap.disk
+  -- An open heap is a core, on every disk.
+  abbrev pub IsCore : Core → Heap D g → Type 0
+  IsCore c heap = IsCoreOn g c heap.core heap.disk
 
   -- An open heap is the core that a shaped log encodes beside stored pages, in frames of which this many gates are open, whatever graph stands in it,
   -- under whatever names.
   abbrev pub IsCoreOfLog : (s : Super) (batches : List (List Record)) (stored : Pages) → IsShapedLog s batches stored → (ℕ → ℕ) → Heap D g → Type 0
   IsCoreOfLog s batches stored shaped gates heap = (born : Bool) (places : Places) (graph : Graph) → IsFound s batches stored shaped born places graph → IsCore (opened s batches stored gates born places graph) heap
 
-  -- The disk of an open heap holds a core's image, and a crash leaves nothing else; of a core whose disk stopped or failed a
-  -- crash leaves a commit prefix, and the bytes past the plan.
-  abbrev pub HoldsCore : Super → Core → Heap D g → Type 0
-  HoldsCore s c heap = DiskHolds s c (g.bytes heap.disk) (g.may_leave heap.disk)
-
-  -- A heap on a modelled disk is a core, in memory and on the disk, where births name its objects.
-  pub record IsHeap (s : Super) (c : Core) (heap : Heap D g) : Type 0 where
-    pub core : IsCore c heap
-    pub disk : HoldsCore s c heap
+  -- A heap on a modelled disk is a core, in memory and on the disk.
+  abbrev pub IsHeap : Super → Core → Heap D g → Type 0
+  IsHeap s c heap = IsHeapOn g s c heap.core heap.disk

@@ -1,5 +1,5 @@
 //! The heap: events on an image, each of them one step.
-ghost use Rattle.std.specs.Prelude.{◌≡◌, ◌≢◌, ◌⊎◌, ◌↔◌, ◌+◌, ◌≤◌, ◌<◌, ℕ, List, [], ◌∷◌, ◌++◌, length, min, is_some, true, None, Some, Ok, Err, IsTrue, IsOk, IfOk, IfErr, MatchResult, OnOk, OnErr};
+ghost use Rattle.std.specs.Prelude.{◌≡◌, ◌≢◌, ◌↔◌, ◌+◌, ◌<◌, ℕ, List, [], ◌∷◌, ◌++◌, length, min, is_some, true, None, Ok, Err, IsTrue, IsOk, IfOk, IfErr, MatchResult, OnErr};
 ghost use Rattle.counts.specs.Count.{greatest};
 ghost use Rattle.disk_model.specs.Disk.{Only};
 ghost use Rattle.disk_model.specs.Keeps.{KeepsDisk};
@@ -11,129 +11,40 @@ ghost use Rattle.graph_model.specs.Text.{canon_text};
 ghost use Rattle.graph_model.specs.History.{IsOfSession};
 ghost use Rattle.graph_model.specs.History.{account, commits, sealed};
 ghost use Rattle.graph_model.specs.Transaction.{serial, serial_replies};
-ghost use Rattle.graph_model.specs.declared.reply.Refusal.TheVariants.{DiskFault, Stopped};
 ghost use Rattle.image_plan.specs.declared.superblock.Super.{Super};
 ghost use Rattle.log_records.specs.declared.Record.{Record};
 ghost use Rattle.page_redo.specs.Pages.{Pages};
 ghost use Rattle.heap_model.specs.Image.{IsShapedLog, IsShaped, IsLegal};
-ghost use Rattle.graph_model.specs.declared.id.Id.{Id};
 ghost use Rattle.graph_words.specs.Places.{Places};
-ghost use Rattle.object_layout.specs.Layout.{IsSeenAs};
 ghost use Rattle.heap_model.specs.Opening.{opened, IsFound};
-ghost use Rattle.heap_core.specs.Ending.{EndsAsTold, TakesNoMemory, IsReady, entries_kept};
+ghost use Rattle.heap_core.specs.Ending.{EndsAsTold, TakesNoMemory};
 ghost use Rattle.limit_laws.specs.Room.{IsEnd};
 ghost use Rattle.heap_core.specs.Causes.{step_device, reply_device, opened_outcome};
 ghost use Rattle.heap_model.specs.Core.{Core, IsStep, calls, is_dirty};
 ghost use Rattle.page_store.specs.Gates.{open_gates};
 ghost use Rattle.core_laws.specs.Valid.{IsReached};
-ghost use Rattle.heap_engine.specs.EngineState.{memory, LiesWithin, HasNotFailed};
+ghost use Rattle.heap_engine.specs.EngineState.{memory, LiesWithin};
 ghost use Rattle.heap_engine.specs.Refinement.{IsLeftByStep};
 ghost use Rattle.commit_order.specs.Heard.{replies_of_commits};
 ghost use Rattle.heap_core.specs.Collects.{CollectsAsTold};
-ghost use Rattle.committed_words.specs.Committed.{words_of};
 ghost use Rattle.commit_order.specs.SerialOrder.{IsCommitOrdered};
 
 use crate::errors::{GraphError, OpenError};
-use committed_words::CommittedWords;
-use disk_model::{Disk, DiskError};
-use graph_model::{Event, Refusal, Reply};
-use heap_engine::{Engine, StepError};
+use crate::in_memory::HeapCore;
+use disk_model::Disk;
+use graph_model::{Event, Reply};
+use heap_engine::Engine;
 use heap_history::History;
 use heap_recovery::{Recovered, recover};
 use std::alloc::{AllocError, Global};
-use txn_table::{SESSIONS, TxnTable};
-
-/// The most entries for which the history keeps room: for each session the end of its transaction and a force after it, and a force of what is
-/// sealed already.
-const MOST_KEPT: usize = 2 * SESSIONS as usize + 1;
+use txn_table::TxnTable;
 
 /// A heap on a disk, for sessions 1 to 32 side by side.
 #[derive(Debug, Drop)]
 pub struct Heap<D: Disk> {
     disk: D,
-    engine: Engine,
-    history: History,
-    // How many transactions were committed when the heap was opened.
-    before: u64,
-    // Where the disk failed or stopped.
-    failed: Option<Failure>,
-    ghost inside: { LiesWithin engine (D.extent disk) },
-    ghost works: { failed ≡ None → HasNotFailed engine },
-    // The events that need no memory find room for their entries.
-    ghost kept: { failed ≡ None → entries_kept (memory engine) history.entries ≤ history.room },
-}
-
-/// Where the disk failed or stopped.
-#[derive(Clone, Copy, Debug)]
-struct Failure {
-    /// The entry, from 1.
-    entry: u64,
-    /// Whether records were pending before it.
-    pending: bool,
-}
-
-/// The reply to an event that the disk cut short.
-fn cut_short(e: DiskError) -> Reply
-    ensures device { reply_device result ≡ Err e }
-    ensures told { (result ≡ Reply.Refused DiskFault) ⊎ (result ≡ Reply.Refused Stopped) }
-{
-    let why = match e {
-        DiskError::Failed => Refusal::DiskFault,
-        DiskError::Stopped => Refusal::Stopped,
-    };
-    Reply::Refused { why }
-}
-
-/// Adds an event to the history with its reply, for which there is room, and returns the reply.
-fn entered(history: &mut History, event: Event, reply: Reply) -> Reply
-    requires { 0 < history.old.room }
-    ensures entries { history.new.entries ≡ history.old.entries ++ record { event = event; reply = reply } ∷ [] }
-    ensures room { history.new.room + 1 ≡ history.old.room }
-    ensures reply { result ≡ reply }
-{
-    history.push(event, reply);
-    reply
-}
-
-/// Whether an event needs no memory: it ends a transaction and promotes nothing, or forces commits that were not acknowledged.
-fn is_ready(history: &History, engine: &Engine, event: Event) -> bool
-    ensures { IsTrue result ↔ IsReady (memory engine.now) history.now.entries event }
-{
-    match event {
-        Event::Abort { s } => engine.active(s),
-        Event::Seal { s } => engine.seals_alone(s),
-        Event::Force => history.acked() < engine.sealed(),
-        _ => false,
-    }
-}
-
-/// Makes room for the entry of an event, and after it for those of the events that need no memory, which find it there.
-fn make_room(history: &mut History, engine: &Engine, event: Event) -> Result<(), AllocError>
-    ensures same { history.new.entries ≡ history.old.entries }
-    ensures kept { history.old.room ≤ history.new.room }
-    ensures room { OnOk result ((65 < history.new.room) ⊎ IsReady (memory engine.now) history.old.entries event) }
-    ensures ready { IsReady (memory engine.now) history.old.entries event → IsOk result }
-{
-    if is_ready(history, engine, event) {
-        return Ok(());
-    }
-    history.reserve(MOST_KEPT + 1)
-}
-
-/// The text of the graph that is seen from the root object, which stands at this word address.
-fn print(alloc: Global, mut words: CommittedWords<'_>, root: u32) -> Result<Vec<u8>, GraphError>
-    ensures text { (name : ℕ → Id) (g : Graph) → IsSeenAs name (words_of words.entry) root g → IfOk result (λ text. text.items ≡ canon_text (canon g)) }
-    ensures error { (name : ℕ → Id) (g : Graph) → IsSeenAs name (words_of words.entry) root g → IfErr result (λ e. e ≡ GraphError.NoMemory) }
-{
-    Ok(graph_print::canon_text(alloc, &mut words, root)?)
-}
-
-/// How many objects that graph has.
-fn count(alloc: Global, mut words: CommittedWords<'_>, root: u32) -> Result<u64, GraphError>
-    ensures count { (name : ℕ → Id) (g : Graph) → IsSeenAs name (words_of words.entry) root g → IfOk result (λ count. count ≡ length (canon g)) }
-    ensures error { (name : ℕ → Id) (g : Graph) → IsSeenAs name (words_of words.entry) root g → IfErr result (λ e. e ≡ GraphError.NoMemory) }
-{
-    Ok(graph_print::canon_count(alloc, &mut words, root)?)
+    core: HeapCore,
+    ghost inside: { LiesWithin core.engine (D.extent disk) },
 }
 
 impl<D: Disk> Heap<D> {
@@ -170,13 +81,8 @@ impl<D: Disk> Heap<D> {
                 let spaces = state.spaces();
                 let collection = state.into_collection();
                 let engine = Engine::new(alloc, log, cache, spaces, collection, table);
-                Ok(Heap {
-                    disk,
-                    engine,
-                    history: History::new(alloc),
-                    before: commits,
-                    failed: None,
-                })
+                let core = HeapCore::new(alloc, engine, commits);
+                Ok(Heap { disk, core })
             }
             Err(e) => Err((OpenError::from(e), disk)),
         }
@@ -210,24 +116,7 @@ impl<D: Disk> Heap<D> {
         // When memory runs out, transactions can still be ended and commits forced.
         ensures memory { (c : Core) → IsCore c self.old → IsReached c → (account c.history).failed ≡ None → TakesNoMemory c event → IsOk result }
     {
-        if let Some(failure) = self.failed {
-            self.history.reserve(1)?;
-            let why = Refusal::Failed {
-                entry: failure.entry,
-            };
-            return Ok(entered(&mut self.history, event, Reply::Refused { why }));
-        }
-        make_room(&mut self.history, &self.engine, event)?;
-        let pending = self.engine.pending();
-        match self.engine.step_on(&mut self.disk, event) {
-            Ok(reply) => Ok(entered(&mut self.history, event, reply)),
-            Err(StepError::NoMemory) => Err(AllocError),
-            Err(StepError::Disk(e)) => {
-                let entry = self.history.len() as u64 + 1;
-                self.failed = Some(Failure { entry, pending });
-                Ok(entered(&mut self.history, event, cut_short(e)))
-            }
-        }
+        self.core.step_on(&mut self.disk, event)
     }
 
     /// The entries since the heap was opened.
@@ -241,7 +130,7 @@ impl<D: Disk> Heap<D> {
         // So each commit had the replies of that run, also after the disk has failed.
         ensures committed { (c : Core) → IsCore c self.now → IsReached c → replies_of_commits (entries_of result.now) ≡ serial_replies c.g0 (commits (entries_of result.now)) }
     {
-        &self.history
+        self.core.history()
     }
 
     /// The entry, from 1, at which the disk failed or stopped.
@@ -249,17 +138,14 @@ impl<D: Disk> Heap<D> {
         ensures value { result ≡ failed_at self.now }
         ensures exact { (c : Core) → IsCore c self.now → result ≡ (account c.history).failed }
     {
-        match self.failed {
-            Some(failure) => Some(failure.entry),
-            None => None,
-        }
+        self.core.failed()
     }
 
     /// How many transactions are committed since the heap was made, up to the limit of 64 bits.
     pub fn commits(&self) -> u64
         ensures { (c : Core) → IsCore c self.now → result ≡ min (c.before + length (sealed c.history)) greatest }
     {
-        self.before.saturating_add(self.engine.sealed())
+        self.core.commits()
     }
 
     /// Whether records have been appended that are not known to be on the disk. If it stopped or failed in an event, they are those
@@ -267,10 +153,7 @@ impl<D: Disk> Heap<D> {
     pub fn pending(&self) -> bool
         ensures { (c : Core) → IsCore c self.now → IsTrue result ↔ (c.pending ≢ []) }
     {
-        match self.failed {
-            Some(failure) => failure.pending,
-            None => self.engine.pending(),
-        }
+        self.core.pending()
     }
 
     /// Whether page `p` has changed since it was stored, in memory or by what an opening redid and rolled back. There are two spaces of
@@ -279,14 +162,14 @@ impl<D: Disk> Heap<D> {
         requires unfailed { failed_at self.now ≡ None }
         ensures { (c : Core) → IsCore c self.now → result ≡ is_dirty c p }
     {
-        self.engine.dirty(p)
+        self.core.dirty(p)
     }
 
     /// Whether a session, of 1 to 32, has a transaction. No other number has one.
     pub fn active(&self, session: u32) -> bool
         ensures { (c : Core) → IsCore c self.now → result ≡ is_some ((account c.history).active session) }
     {
-        self.engine.active(session)
+        self.core.active(session)
     }
 
     /// The text of the graph, without what active transactions wrote. Requires that the disk has neither failed nor stopped.
@@ -295,8 +178,7 @@ impl<D: Disk> Heap<D> {
         ensures text { (c : Core) → IsCore c self.now → IsReached c → IfOk result (λ text. text.items ≡ canon_text (canon (serial c.g0 (sealed c.history)))) }
         ensures error { (c : Core) → IsCore c self.now → IsReached c → IfErr result (λ e. e ≡ GraphError.NoMemory) }
     {
-        let words = self.engine.committed_words(alloc)?;
-        print(alloc, words, self.engine.root_address())
+        self.core.graph(alloc)
     }
 
     /// How many objects that graph has; no text is made. Requires that the disk has neither failed nor stopped.
@@ -305,21 +187,14 @@ impl<D: Disk> Heap<D> {
         ensures count { (c : Core) → IsCore c self.now → IsReached c → IfOk result (λ count. count ≡ length (canon (serial c.g0 (sealed c.history)))) }
         ensures error { (c : Core) → IsCore c self.now → IsReached c → IfErr result (λ e. e ≡ GraphError.NoMemory) }
     {
-        let words = self.engine.committed_words(alloc)?;
-        count(alloc, words, self.engine.root_address())
+        self.core.objects(alloc)
     }
 
     /// Gives the disk back.
     pub fn close(self) -> D
         ensures { result ≡ heap_disk self }
     {
-        let Heap {
-            disk,
-            engine: _,
-            history: _,
-            before: _,
-            failed: _,
-        } = self;
+        let Heap { disk, core: _ } = self;
         disk
     }
 }

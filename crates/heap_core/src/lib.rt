@@ -7,8 +7,10 @@
 mod errors;
 mod formatting;
 mod heap;
+mod in_memory;
 
 pub use errors::{FormatError, GraphError, OpenError};
 pub use heap::Heap;
 pub use heap_history::{Entries, History};
 pub use heap_recovery::At;
+pub use in_memory::HeapCore;

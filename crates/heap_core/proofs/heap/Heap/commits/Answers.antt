@@ -1,5 +1,5 @@
-use Rattle.std.proofs.Common.{arith}
+use Rattle.heap_core.proofs.RefinementMemory.{in_memory}
 use Rattle.heap_core.proofs.heap.Heap.commits.Goals as goal
 
 pub returns : goal.returns
-returns g c = omega arith
+returns g c core heap = c.commits.ensures core (in_memory g.D.Disk core c.args.self.now.core c.args.self.now.disk heap)

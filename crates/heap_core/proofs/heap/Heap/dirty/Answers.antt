@@ -1,5 +1,5 @@
-use Rattle.heap_core.proofs.StepCore.{no_failure_at}
+use Rattle.heap_core.proofs.RefinementMemory.{in_memory}
 use Rattle.heap_core.proofs.heap.Heap.dirty.Goals as goal
 
 pub returns : goal.returns
-returns g c core heap = c.dirty.ensures core (heap.engine (no_failure_at c.args.self.now.failed c.requires.unfailed)).memory
+returns g c core heap = c.dirty.ensures core (in_memory g.D.Disk core c.args.self.now.core c.args.self.now.disk heap)

@@ -1,18 +1,15 @@
 use Rattle.log_machine.specs.Machine.{words_in}
-use Rattle.graph_model.specs.declared.reply.Entry.{Entry}
 use Rattle.heap_memory.specs.Memory.{Memory}
 use Rattle.heap_engine.specs.EngineState.{memory}
-use Rattle.heap_core.specs.Ending.{entries_kept}
 use Rattle.heap_core.proofs.KeptEntries.{kept_none}
-use Rattle.std.proofs.Common.{List, arith, ◌≤◌, ℕ, true, Err, refl, sym, ap, ◌∙◌, subst}
+use Rattle.std.proofs.Common.{◌≤◌, ℕ, true, Err, refl, sym, ap, ◌∙◌, subst}
 use Rattle.disk_model.proofs.KeepsLaws.{reads_none}
 use Rattle.heap_recovery.specs.declared.error.RecoverError.{RecoverError}
 use Rattle.heap_recovery.specs.declared.error.RecoverError.TheVariants.{NoMemory}
 use Rattle.heap_recovery.specs.Opens.{OpensImage}
 use Rattle.heap_recovery.proofs.OpensLaws.{only_read}
 use Rattle.heap_model.proofs.Shaped.{shaped_image}
-use Rattle.heap_core.proofs.RefinementOpen.{commits_found, opened_bounds, opened_engine, opened_disk_holds, is_fresh}
-use Rattle.heap_core.proofs.StepCore.{remembers}
+use Rattle.heap_core.proofs.RefinementOpen.{opened_bounds, opened_core, opened_disk_holds, is_fresh}
 use Rattle.page_store.specs.Gates.{open_gates}
 use Rattle.heap_engine.specs.Barrier.{IsSoundCollection}
 use Rattle.heap_spaces.specs.Spaces.{SpacesState}
@@ -59,8 +56,7 @@ returns-in-Ok-recover-clause-opens g c =
       gates,
       found.3,
       λ born places gr stands.
-          let is = opened_engine g.D.Disk found.0 found.1 found.2 gates born places gr c.in-Ok-recover.found c.new-engine.result c.recover.new.disk found.3 found.4 fresh c.in-Ok-recover.ensures.known (λ told p. refl) in
-          record { history = c.new-in-Ok-recover.ensures.entries; before = c.commits-commits.ensures ∙ commits_found found.0 found.1 found.2 c.in-Ok-recover.found found.3 found.4; memory = remembers g.D.Disk _ c.new-engine.result c.recover.new.disk _ refl is; engine = λ none. is },
+          opened_core g.D.Disk found.0 found.1 found.2 gates born places gr c.in-Ok-recover.found c.new-engine.result c.new-core.result c.recover.new.disk found.3 found.4 fresh c.in-Ok-recover.ensures.known (λ told p. refl) c.new-core.ensures.engine c.new-core.ensures.entries (c.new-core.ensures.before ∙ c.commits-commits.ensures) c.new-core.ensures.unfailed,
     )
 
 pub returns-in-Ok-recover-clause-sound : goal.returns-in-Ok-recover-clause-sound
@@ -74,8 +70,7 @@ returns-in-Ok-recover-clause-sound g c tells =
       found.2,
       found.3,
       λ born places gr stands.
-          let is = opened_engine g.D.Disk found.0 found.1 found.2 gates born places gr c.in-Ok-recover.found c.new-engine.result c.recover.new.disk found.3.log found.4 fresh c.in-Ok-recover.ensures.known (λ told. still) in
-          record { history = c.new-in-Ok-recover.ensures.entries; before = c.commits-commits.ensures ∙ commits_found found.0 found.1 found.2 c.in-Ok-recover.found found.3.log found.4; memory = remembers g.D.Disk _ c.new-engine.result c.recover.new.disk _ refl is; engine = λ none. is },
+          opened_core g.D.Disk found.0 found.1 found.2 gates born places gr c.in-Ok-recover.found c.new-engine.result c.new-core.result c.recover.new.disk found.3.log found.4 fresh c.in-Ok-recover.ensures.known (λ told. still) c.new-core.ensures.engine c.new-core.ensures.entries (c.new-core.ensures.before ∙ c.commits-commits.ensures) c.new-core.ensures.unfailed,
     )
 
 pub returns-in-Ok-recover-clause-found : goal.returns-in-Ok-recover-clause-found
@@ -84,8 +79,7 @@ returns-in-Ok-recover-clause-found g c tells s batches stored shaped born places
     let fresh = is_fresh c.in-Ok-recover.found c.spaces-spaces.result c.into_collection-collection.result c.set_next.new.self c.in-Ok.table _ c.new-engine.ensures c.spaces-spaces.ensures c.into_collection-collection.ensures (c.set_next.ensures ∙ ap (λ (n : ℕ). let t : TableState = record { next = n; active = c.in-Ok.table.active } in t) c.next.ensures) in
     let gates = open_gates s.log_bytes (g.D.Disk.bytes c.args.disk) in
     let still = (c.in-Ok-recover.ensures.image.shaped tells s batches stored shaped).gates in
-    let is = opened_engine g.D.Disk s batches stored gates born places gr c.in-Ok-recover.found c.new-engine.result c.recover.new.disk shaped.log found fresh c.in-Ok-recover.ensures.known (λ told. still) in
-    record { history = c.new-in-Ok-recover.ensures.entries; before = c.commits-commits.ensures ∙ commits_found s batches stored c.in-Ok-recover.found shaped.log found; memory = remembers g.D.Disk _ c.new-engine.result c.recover.new.disk _ refl is; engine = λ none. is }
+    opened_core g.D.Disk s batches stored gates born places gr c.in-Ok-recover.found c.new-engine.result c.new-core.result c.recover.new.disk shaped.log found fresh c.in-Ok-recover.ensures.known (λ told. still) c.new-core.ensures.engine c.new-core.ensures.entries (c.new-core.ensures.before ∙ c.commits-commits.ensures) c.new-core.ensures.unfailed
 
 pub returns-in-Ok-recover-clause-holds : goal.returns-in-Ok-recover-clause-holds
 returns-in-Ok-recover-clause-holds g c tells s batches stored legal only places gr stands =
@@ -111,8 +105,6 @@ returns-in-Err-recover-clause-image g c =
     let P : RecoverError → Type 0 = λ e. OpensImage g.D.Disk c.args.disk c.recover.new.disk (Err e) in
     subst P (sym c.from.ensures) c.in-Err-recover.ensures.image
 
-pub invariant_of-result-clause-kept : goal.invariant_of-result-clause-kept
-invariant_of-result-clause-kept g c still =
-    let m = memory c.new-engine.result in
-    let none = kept_none m c.set_next.new.self.next (ap (λ (x : Memory). x.table) c.new-engine.ensures) (ap (λ (x : Memory). x.sealed) c.new-engine.ensures) in
-    omega (arith, none, ap (λ (l : List Entry). entries_kept m l) c.new-in-Ok-recover.ensures.entries)
+-- it lies within the disk, and has no entry yet
+pub new-core-requires-clause-idle : goal.new-core-requires-clause-idle
+new-core-requires-clause-idle g c = kept_none (memory c.new-engine.result) c.set_next.new.self.next (ap (λ (x : Memory). x.table) c.new-engine.ensures) (ap (λ (x : Memory). x.sealed) c.new-engine.ensures)

@@ -1,10 +1,9 @@
-use Rattle.std.proofs.Common.{◌≡◌, ℕ, List, Err, refl, sym, ap, ◌∙◌, subst, rules}
-use Rattle.object_layout.specs.Layout.{IsSeenAs}
+use Rattle.std.proofs.Common.{◌≡◌, Err, refl, ap, ◌∙◌, rules}
 use Rattle.heap_core.specs.Causes.{graph_error}
 use Rattle.graph_print.specs.PrintFailure.{print_failure}
 use Rattle.heap_core.proofs.PrintErrors.{only_memory}
 use Rattle.heap_core.proofs.Undamaged.{undamaged, no_failure}
-use Rattle.heap_core.proofs.heap.print.Goals as goal
+use Rattle.heap_core.proofs.in_memory.print.Goals as goal
 
 pub returns-clause-text : goal.returns-clause-text
 returns-clause-text c name gr seen =

@@ -1,10 +1,9 @@
-use Rattle.std.proofs.Common.{◌≡◌, ℕ, List, Err, refl, sym, ap, ◌∙◌, subst, rules}
-use Rattle.object_layout.specs.Layout.{IsSeenAs}
+use Rattle.std.proofs.Common.{◌≡◌, Err, refl, ap, ◌∙◌, rules}
 use Rattle.heap_core.specs.Causes.{graph_error}
 use Rattle.graph_print.specs.PrintFailure.{print_failure}
 use Rattle.heap_core.proofs.PrintErrors.{only_memory}
 use Rattle.heap_core.proofs.Undamaged.{undamaged, no_failure}
-use Rattle.heap_core.proofs.heap.count.Goals as goal
+use Rattle.heap_core.proofs.in_memory.count.Goals as goal
 
 pub returns-clause-count : goal.returns-clause-count
 returns-clause-count c name gr seen =
