@@ -9,7 +9,7 @@ use Rattle.library_tests.proofs.library_loop.round.Goals as goal
 
 pub loop-event-init : goal.loop-event-init
 loop-event-init g c = (
-  counts_of _ _ _ c.in-Ok.ensures.disk,
+  counts_of _ _ _ c.in-Ok.ensures.image.disk,
   λ tells only gr k stands.
       let found = found_of stands in
       record {
