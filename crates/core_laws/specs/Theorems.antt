@@ -30,15 +30,11 @@ use Rattle.graph_model.specs.Graph.{Graph}
 use Rattle.graph_model.specs.History.{account, commits, acknowledged, IsOfSession}
 use Rattle.graph_model.specs.Plain.{plain_reply}
 use Rattle.graph_model.specs.Transaction.{serial, serial_replies}
-use Rattle.gated_log.specs.Log.{records_of}
-use Rattle.image_plan.specs.declared.superblock.Super.{Super}
-use Rattle.log_records.specs.declared.Record.{Record}
-use Rattle.page_redo.specs.Pages.{Pages}
 use Rattle.page_redo.specs.Prefix.{EachHoldsPrefix}
 use Rattle.commit_order.specs.Heard.{replies_of_commits}
 use Rattle.heap_model.specs.Core.{Core, log_origin, commits_on_disk, words_refusal, log_refusal, answer, IsRun}
 use Rattle.heap_model.specs.CoreCrash.{HasLogWords, IsOnDisk, IsSuperOf, IsCommitPrefix, StandsForFirst}
-use Rattle.heap_model.specs.Image.{IsShapedLog, IsLegal, Holds}
+use Rattle.heap_model.specs.Image.{StoredHeap, IsShapedLog, IsLegal, Holds, records_in}
 use Rattle.heap_model.specs.Opening.{next_behind, opened, IsFound}
 use Rattle.graph_words.specs.Places.{Places}
 use Rattle.core_laws.specs.Valid.{IsReached, IsSound}
@@ -64,9 +60,9 @@ AnswersTheorem =
 -- stored pages need not have the LSNs that the core knows: a crash while a page is stored leaves the old page or the new one.
 abbrev pub CrashTheorem : Type 0
 CrashTheorem =
-    (c : Core) (s : Super) (batches : List (List Record)) (stored : Pages) → IsSound c → IsTrue c.born → HasLogWords c → EachHoldsPrefix (log_origin c) (records_of batches) stored
-    → IsOnDisk c batches → IsSuperOf s c
-    → (image : List ℕ) → Holds s batches stored image → IsCommitPrefix c image
+    (c : Core) (stored : StoredHeap) → IsSound c → IsTrue c.born → HasLogWords c → EachHoldsPrefix (log_origin c) (records_in stored) stored.pages
+    → IsOnDisk c stored.batches → IsSuperOf stored.super c
+    → (image : List ℕ) → Holds stored image → IsCommitPrefix c image
 
 -- The calls of each commit had the replies of the serial run, in which the commits follow one another in the order of their seals.
 abbrev pub RepliesTheorem : Type 0
@@ -74,15 +70,15 @@ RepliesTheorem = (c : Core) → IsReached c → replies_of_commits c.history ≡
 
 -- What holds of an opening where the log held these batches, the pages were stored so in frames with these open gates, and this graph
 -- stands at these places.
-pub record Opens (s : Super) (batches : List (List Record)) (stored : Pages) (gates : ℕ → ℕ) (born : Bool) (places : Places) (g : Graph) : Type 0 where
-  pub reached : IsReached (opened s batches stored gates born places g)
-  pub next : (opened s batches stored gates born places g).first ≡ next_behind s.first (records_of batches)  -- the number of the next transaction
+pub record Opens (stored : StoredHeap) (gates : ℕ → ℕ) (born : Bool) (places : Places) (g : Graph) : Type 0 where
+  pub reached : IsReached (opened stored gates born places g)
+  pub next : (opened stored gates born places g).first ≡ next_behind stored.super.first (records_in stored)  -- the number of the next transaction
 
 -- A heap that is opened on any shaped log continues, under any names of its objects and with any gates open.
 abbrev pub OpeningTheorem : Type 0
 OpeningTheorem =
-    (s : Super) (batches : List (List Record)) (stored : Pages) (shaped : IsShapedLog s batches stored) (gates : ℕ → ℕ) (born : Bool) (places : Places) (g : Graph)
-    → IsFound s batches stored shaped born places g → Opens s batches stored gates born places g
+    (stored : StoredHeap) (shaped : IsShapedLog stored) (gates : ℕ → ℕ) (born : Bool) (places : Places) (g : Graph)
+    → IsFound stored shaped born places g → Opens stored gates born places g
 
 -- A core d continues where a crash left the first k commits of c since its opening, and all that was acknowledged or forced is among them.
 pub record GoesOnFrom (c : Core) (k : ℕ) (d : Core) : Type 0 where
@@ -98,5 +94,5 @@ pub record GoesOnFrom (c : Core) (k : ℕ) (d : Core) : Type 0 where
 abbrev pub AgainTheorem : Type 0
 AgainTheorem =
     (c : Core) (k : ℕ) (image : List ℕ) → StandsForFirst c k image
-    → (s : Super) (batches : List (List Record)) (stored : Pages) (gates : ℕ → ℕ) (places : Places) (g : Graph) → (legal : IsLegal s batches stored image) → IsFound s batches stored legal.log.shaped true places g
-    → GoesOnFrom c k (opened s batches stored gates true places g)
+    → (stored : StoredHeap) (gates : ℕ → ℕ) (places : Places) (g : Graph) → (legal : IsLegal stored image) → IsFound stored legal.log.shaped true places g
+    → GoesOnFrom c k (opened stored gates true places g)

@@ -1,10 +1,7 @@
 -- The words of a shaped image.
 use Rattle.std.specs.Prelude.{ℕ, List}
-use Rattle.image_plan.specs.declared.superblock.Super.{Super}
-use Rattle.log_records.specs.declared.Record.{Record}
-use Rattle.page_redo.specs.Pages.{Pages}
-use Rattle.heap_model.specs.Image.{IsShaped, IsLegal}
+use Rattle.heap_model.specs.Image.{StoredHeap, IsShaped, IsLegal}
 
 -- a legal image is shaped
-abbrev pub shaped_image : {s : Super} {batches : List (List Record)} {stored : Pages} {image : List ℕ} → IsLegal s batches stored image → IsShaped s batches stored image
+abbrev pub shaped_image : {stored : StoredHeap} {image : List ℕ} → IsLegal stored image → IsShaped stored image
 shaped_image legal = record { log = legal.log.shaped; held = legal.held }

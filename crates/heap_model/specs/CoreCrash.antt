@@ -10,7 +10,7 @@ use Rattle.log_machine.specs.Origin.{words_from}
 use Rattle.page_redo.specs.Pages.{Pages, pages_in, lsn_of}
 use Rattle.page_redo.specs.Prefix.{EachHoldsPrefix}
 use Rattle.heap_model.specs.Core.{Core, log_origin, commits_on_disk}
-use Rattle.heap_model.specs.Image.{StandsFor}
+use Rattle.heap_model.specs.Image.{StoredHeap, StandsFor}
 use Rattle.heap_model.specs.Opening.{next_of}
 
 -- A core's words are those that its log leaves.
@@ -22,6 +22,10 @@ pub record IsLogged (c : Core) (stored : Pages) : Type 0 where
   pub words : HasLogWords c
   pub prefixes : EachHoldsPrefix (log_origin c) (records_of c.batches) stored
   pub lsns : (p : ℕ) → p < pages_in c.pages → lsn_of stored p ≡ c.stored_lsns p
+
+-- what is stored of a core's heap where its log holds its batches, with this superblock and these pages
+abbrev pub held_of : Super → Core → Pages → StoredHeap
+held_of s c pages = record { super = s; batches = c.batches; pages = pages }
 
 -- The disk holds the batches that were forced, or the pending ones as one more.
 abbrev pub IsOnDisk : Core → List (List Record) → Type 0
@@ -38,8 +42,8 @@ pub record IsSuperOf (s : Super) (c : Core) : Type 0 where
 -- though no reply says so. It has the core's superblock, and its next transaction number is not below the core's first.
 pub record StandsForFirst (c : Core) (k : ℕ) (image : List ℕ) : Type 0 where
   pub stands : StandsFor (serial c.g0 (take k (commits c.history))) (c.before + k) image
-  pub of : IsSuperOf stands.super c
-  pub next : c.first ≤ next_of stands.super stands.batches
+  pub of : IsSuperOf stands.stored.super c
+  pub next : c.first ≤ next_of stands.stored
   pub kept : acknowledged c.history ≤ k
   pub forced : commits_on_disk c ≤ c.before + k
   pub some : k ≤ length (commits c.history)

@@ -7,12 +7,11 @@ use Rattle.disk_model.specs.declared.disk.DiskError.{DiskError}
 use Rattle.disk_model.specs.Disk.{part, Only, Narrows, SameOutside}
 use Rattle.gate_slot.specs.Passing.{Passes}
 use Rattle.gated_log.specs.declared.log.Log.{Log}
-use Rattle.gated_log.specs.Log.{records_of, with_batch, HoldsBatches, batches_bytes}
+use Rattle.gated_log.specs.Log.{with_batch, HoldsBatches, batches_bytes}
 use Rattle.gated_log.proofs.LogLaws.{buffer_size-Keeps}
 use Rattle.gated_log.specs.LogRoom.{used_bytes}
 use Rattle.gated_log.specs.LogState.{log_place, log_room, log_tail, buffer_size, log_used, log_used_with, log_count, is_waiting, IsBufferEmpty, Keeps}
 use Rattle.image_plan.specs.declared.plan.Plan.{Plan}
-use Rattle.image_plan.specs.declared.superblock.Super.{Super}
 use Rattle.image_plan.specs.Plan.{log_offset}
 use Rattle.log_records.specs.declared.Record.{Record}
 use Rattle.log_records.specs.Record.{spelling, spellings}
@@ -34,9 +33,9 @@ use Rattle.object_layout.proofs.CollectionLaws.{beside_walked_fault}
 use Rattle.walk_laws.specs.Heap.{IsStateWalked, from_space}
 use Rattle.heap_model.proofs.Step.Room.{records_of-with_batch}
 use Rattle.heap_model.specs.Bits.{AreOf64Bits}
-use Rattle.heap_model.specs.Image.{origin_of, redone_words, words_of, IsShapedLog, Holds}
+use Rattle.heap_model.specs.Image.{StoredHeap, origin_of, redone_words, words_of, IsShapedLog, Holds, records_in, state_in, log_part, SameOutsideLog}
 use Rattle.heap_model.specs.Core.{force_calls}
-use Rattle.heap_model.specs.Opening.{state_of, opening_calls, rollback_in, rollback_of, rolled_back}
+use Rattle.heap_model.specs.Opening.{opening_calls, rollback_in, rollback_of, rolled_back}
 use Rattle.heap_recovery.specs.declared.error.RecoverError.{RecoverError}
 use Rattle.heap_recovery.specs.declared.error.RecoverError.TheVariants.{NoMemory, NotHeap, Damaged, Disk}
 use Rattle.heap_recovery.specs.declared.reading.Reading.{Reading}
@@ -93,64 +92,64 @@ no_fault : (words : List ℕ) (base used : ℕ) (from : Option FromSpace) (fault
 no_fault words base used from None walked faults = refl
 no_fault words base used from (Some at) walked faults = absurd (beside_walked_fault words base used from at walked (faults at refl))
 
-module _ (s : Super) (batches : List (List Record)) (stored : Pages) (read : Reading) (is : IsRead s batches stored read) where
+module _ (stored : StoredHeap) (read : Reading) (is : IsRead stored read) where
   -- the records that roll back are those of what was read
-  pub same_rollback : rollback_of s batches ≡ rollback read.state
+  pub same_rollback : rollback_of stored ≡ rollback read.state
   same_rollback = ap rollback_in is.state
 
-  pub in_log : (P : ℕ → ℕ → Type 0) → P (log_place read.log) (log_room read.log) → P log_offset s.log_bytes
+  pub in_log : (P : ℕ → ℕ → Type 0) → P (log_place read.log) (log_room read.log) → P log_offset stored.super.log_bytes
   in_log P h = subst (P log_offset) is.room (let Q : ℕ → Type 0 = λ n. P n (log_room read.log) in subst Q is.place h)
 
-  to_log : (P : ℕ → ℕ → Type 0) → P log_offset s.log_bytes → P (log_place read.log) (log_room read.log)
+  to_log : (P : ℕ → ℕ → Type 0) → P log_offset stored.super.log_bytes → P (log_place read.log) (log_room read.log)
   to_log P h = let Q : ℕ → Type 0 = λ n. P n (log_room read.log) in subst Q (sym is.place) (subst (P log_offset) (sym is.room) h)
 
   -- the batches stand where the log was read
-  pub held_there : (image now : List ℕ) → HoldsBatches (part image log_offset s.log_bytes) batches → now ≡ image → HoldsBatches (part now (log_place read.log) (log_room read.log)) batches
-  held_there image now holds same = to_log (λ n m. HoldsBatches (part now n m) batches) (subst (λ (l : List ℕ). HoldsBatches (part l log_offset s.log_bytes) batches) (sym same) holds)
+  pub held_there : (image now : List ℕ) → HoldsBatches (log_part stored.super image) stored.batches → now ≡ image → HoldsBatches (part now (log_place read.log) (log_room read.log)) stored.batches
+  held_there image now holds same = to_log (λ n m. HoldsBatches (part now n m) stored.batches) (subst (λ (l : List ℕ). HoldsBatches (log_part stored.super l) stored.batches) (sym same) holds)
 
-  pub held : (image now : List ℕ) → Holds s batches stored image → now ≡ image → HoldsBatches (part now (log_place read.log) (log_room read.log)) batches
+  pub held : (image now : List ℕ) → Holds stored image → now ≡ image → HoldsBatches (part now (log_place read.log) (log_room read.log)) stored.batches
   held image now holds same = held_there image now holds.log same
 
-  pub outside_log : (image now new : List ℕ) → now ≡ image → SameOutside (log_place read.log) (log_place read.log + log_room read.log) now new → SameOutside log_offset (log_offset + s.log_bytes) image new
-  outside_log image now new same outside = subst (λ (l : List ℕ). SameOutside log_offset (log_offset + s.log_bytes) l new) same (in_log (λ n m. SameOutside n (n + m) now new) outside)
+  pub outside_log : (image now new : List ℕ) → now ≡ image → SameOutside (log_place read.log) (log_place read.log + log_room read.log) now new → SameOutsideLog stored.super image new
+  outside_log image now new same outside = subst (λ (l : List ℕ). SameOutsideLog stored.super l new) same (in_log (λ n m. SameOutside n (n + m) now new) outside)
 
-  pub rolled_held : (new : List ℕ) → HoldsBatches (part new (log_place read.log) (log_room read.log)) (with_batch batches (rollback read.state)) → HoldsBatches (part new log_offset s.log_bytes) (rolled_back s batches)
+  pub rolled_held : (new : List ℕ) → HoldsBatches (part new (log_place read.log) (log_room read.log)) (with_batch stored.batches (rollback read.state)) → HoldsBatches (log_part stored.super new) (rolled_back stored).batches
   rolled_held new holds =
-      subst (λ (l : List Record). HoldsBatches (part new log_offset s.log_bytes) (with_batch batches l)) (sym same_rollback)
-      (in_log (λ n m. HoldsBatches (part new n m) (with_batch batches (rollback read.state))) holds)
+      subst (λ (l : List Record). HoldsBatches (log_part stored.super new) (with_batch stored.batches l)) (sym same_rollback)
+      (in_log (λ n m. HoldsBatches (part new n m) (with_batch stored.batches (rollback read.state))) holds)
 
   -- the words without what is rolled back
-  pub committed : all_taken_back read.state (cached read.cache).words ≡ words_of s batches stored
+  pub committed : all_taken_back read.state (cached read.cache).words ≡ words_of stored
   committed =
       ap (λ (pages : Pages). all_taken_back read.state pages.words) is.cache.pages
-      ∙ sym (ap (λ (o : Option State). each_taken_back (losing_in o) (redone_words s batches stored)) is.state)
+      ∙ sym (ap (λ (o : Option State). each_taken_back (losing_in o) (redone_words stored)) is.state)
 
   -- the records that roll back are redone after those of the log
-  pub rolled_pages : redo_all (log_count read.log + 1) (cached read.cache) (rollback read.state) ≡ redone (origin_of s) stored (records_of (rolled_back s batches))
+  pub rolled_pages : redo_all (log_count read.log + 1) (cached read.cache) (rollback read.state) ≡ redone (origin_of stored) stored.pages (records_in (rolled_back stored))
   rolled_pages =
-      let first : log_count read.log + 1 ≡ 1 + length (records_of batches) = omega (arith, is.log.count) in
+      let first : log_count read.log + 1 ≡ 1 + length (records_in stored) = omega (arith, is.log.count) in
       ap (λ (n : ℕ). redo_all n (cached read.cache) (rollback read.state)) first
-      ∙ ap (λ (pages : Pages). redo_all (1 + length (records_of batches)) pages (rollback read.state)) is.cache.pages
-      ∙ sym (redo_all-append 1 stored (records_of batches) (rollback read.state))
-      ∙ ap (λ (rs : List Record). redone (origin_of s) stored (records_of batches ++ rs)) (sym same_rollback)
-      ∙ ap (redone (origin_of s) stored) (sym (records_of-with_batch batches (rollback_of s batches)))
+      ∙ ap (λ (pages : Pages). redo_all (1 + length (records_in stored)) pages (rollback read.state)) is.cache.pages
+      ∙ sym (redo_all-append 1 stored.pages (records_in stored) (rollback read.state))
+      ∙ ap (λ (rs : List Record). redone (origin_of stored) stored.pages (records_in stored ++ rs)) (sym same_rollback)
+      ∙ ap (redone (origin_of stored) stored.pages) (sym (records_of-with_batch stored.batches (rollback_of stored)))
 
   -- the pages that are stored are known still where only bytes of the log were written
   pub known_still : (cache : PageCache) (image now new : List ℕ) → cache_store cache ≡ cache_store read.cache → Knows (cache_store read.cache) image → now ≡ image
       → SameOutside (log_place read.log) (log_place read.log + log_room read.log) now new → Knows (cache_store cache) new
   known_still cache image now new same knows still outside =
-      let bytes : s.log_bytes ≡ store_log (cache_store read.cache) = sym (ap (λ (of : Plan). of.log_bytes) is.cache.plan) in
+      let bytes : stored.super.log_bytes ≡ store_log (cache_store read.cache) = sym (ap (λ (of : Plan). of.log_bytes) is.cache.plan) in
       let there = subst (λ (n : ℕ). SameOutside log_offset (log_offset + n) image new) bytes (outside_log image now new still outside) in
       subst (λ (store : PageStore). Knows store new) (sym same) (knows_behind_log (cache_store read.cache) image new knows there)
 
   -- what was read is a shaped log, if the walk of its words passes
-  pub read_shaped : (used : log_used read.log + reserve read.state ≤ log_room read.log) (now : List ℕ) → now ≡ all_taken_back read.state (cached read.cache).words → AreOf64Bits now → IsStateWalked read.state now → IsShapedLog s batches stored
+  pub read_shaped : (used : log_used read.log + reserve read.state ≤ log_room read.log) (now : List ℕ) → now ≡ all_taken_back read.state (cached read.cache).words → AreOf64Bits now → IsStateWalked read.state now → IsShapedLog stored
   read_shaped room now rolled fit walked = record {
     limits = is.limits;
     good = is.good;
     state = read.state;
     reached = is.state;
-    room = omega (arith, room, used_of read.log batches is.log, is.room);
+    room = omega (arith, room, used_of read.log stored.batches is.log, is.room);
     size = is.cache.size;
     lsns_size = is.cache.lsns_size;
     behind = is.cache.behind;
@@ -159,31 +158,31 @@ module _ (s : Super) (batches : List (List Record)) (stored : Pages) (read : Rea
   }
 
   -- a shaped log has the room for its rollback, and its walk passes
-  shaped_walk : (shaped : IsShapedLog s batches stored) (state : State) → state ≡ read.state → (now : List ℕ) → now ≡ all_taken_back read.state (cached read.cache).words → IsStateWalked state now
+  shaped_walk : (shaped : IsShapedLog stored) (state : State) → state ≡ read.state → (now : List ℕ) → now ≡ all_taken_back read.state (cached read.cache).words → IsStateWalked state now
   shaped_walk shaped state same now rolled =
       let one : shaped.state ≡ state = (let both : Some shaped.state ≡ Some read.state = sym shaped.reached ∙ is.state in cc) in
       subst (λ (x : State). IsStateWalked x now) one (subst (λ (l : List ℕ). IsStateWalked shaped.state l) (sym (rolled ∙ committed)) shaped.walked)
 
   -- so that finds no fault
-  pub shaped_fault : (shaped : IsShapedLog s batches stored) (state : State) → state ≡ read.state → (now : List ℕ) → now ≡ all_taken_back read.state (cached read.cache).words
+  pub shaped_fault : (shaped : IsShapedLog stored) (state : State) → state ≡ read.state → (now : List ℕ) → now ≡ all_taken_back read.state (cached read.cache).words
       → (fault : Option ℕ) → ((at : ℕ) → fault ≡ Some at → IsWalkFaultBeside now state.base state.used (from_space state) at) → fault ≡ None
   shaped_fault shaped state same now rolled fault faults = no_fault now state.base state.used (from_space state) fault (shaped_walk shaped state same now rolled) faults
 
   -- what the log says once it is rolled back
-  rolled_state : state_of s (rolled_back s batches) ≡ Some (settled read.state)
+  rolled_state : state_in (rolled_back stored) ≡ Some (settled read.state)
   rolled_state =
-      ap (λ (rs : List Record). after_all (origin_of s).state rs) (records_of-with_batch batches (rollback_of s batches) ∙ ap (λ (rs : List Record). records_of batches ++ rs) same_rollback)
-      ∙ after_all-append2 (origin_of s).state read.state (records_of batches) (rollback read.state) is.state
-      ∙ rollback_reaches read.state (can_roll_back s.pages s.first read.state (records_of batches) is.limits.some_pages is.limits.few_pages is.good is.state).sound
+      ap (λ (rs : List Record). after_all (origin_of stored).state rs) (records_of-with_batch stored.batches (rollback_of stored) ∙ ap (λ (rs : List Record). records_in stored ++ rs) same_rollback)
+      ∙ after_all-append2 (origin_of stored).state read.state (records_in stored) (rollback read.state) is.state
+      ∙ rollback_reaches read.state (can_roll_back stored.super.pages stored.super.first read.state (records_in stored) is.limits.some_pages is.limits.few_pages is.good is.state).sound
 
   -- what is opened
   pub recovered : (r : Result Recovered RecoverError) (log : Log) (cache : PageCache) (state : State) → state ≡ read.state → log_place log ≡ log_place read.log → log_room log ≡ log_room read.log
-      → cached cache ≡ redo_all (log_count read.log + 1) (cached read.cache) (rollback read.state) → cache_store cache ≡ cache_store read.cache → Keeps log (with_batch batches (rollback read.state)) []
+      → cached cache ≡ redo_all (log_count read.log + 1) (cached read.cache) (rollback read.state) → cache_store cache ≡ cache_store read.cache → Keeps log (with_batch stored.batches (rollback read.state)) []
       → IfOk r (λ found. found.log ≡ log) → IfOk r (λ found. found.cache ≡ cache)
-      → IfOk r (λ found. found.state ≡ settled state) → IfOk r (IsRecovered s batches stored)
+      → IfOk r (λ found. found.state ≡ settled state) → IfOk r (IsRecovered stored)
   recovered (Err e) log cache state same_state at room pages store keeps same_log same_cache same_end = tt
   recovered (Ok found) log cache state same_state at room pages store keeps same_log same_cache same_end = record {
-    log = subst (λ (x : Log). Keeps x (rolled_back s batches) []) (sym same_log) (subst (λ (l : List Record). Keeps log (with_batch batches l) []) (sym same_rollback) keeps);
+    log = subst (λ (x : Log). Keeps x (rolled_back stored).batches []) (sym same_log) (subst (λ (l : List Record). Keeps log (with_batch stored.batches l) []) (sym same_rollback) keeps);
     place = ap log_place same_log ∙ at ∙ is.place;
     room = ap log_room same_log ∙ room ∙ is.room;
     cached = ap cached same_cache ∙ pages ∙ rolled_pages;
@@ -194,14 +193,14 @@ module _ (s : Super) (batches : List (List Record)) (stored : Pages) (read : Rea
   }
 
 -- what is opened is a shaped log
-pub opened_shaped : (s : Super) (batches : List (List Record)) (stored : Pages) (read : Reading) (is : IsRead s batches stored read) (r : Result Recovered RecoverError) (now : List ℕ) (state : State) (fault : Option ℕ)
+pub opened_shaped : (stored : StoredHeap) (read : Reading) (is : IsRead stored read) (r : Result Recovered RecoverError) (now : List ℕ) (state : State) (fault : Option ℕ)
     → log_used read.log + reserve read.state ≤ log_room read.log → state ≡ read.state → now ≡ all_taken_back read.state (cached read.cache).words
-    → AreOf64Bits now → (fault ≡ None → IsStateWalked state now) → IfOk r (λ found. fault ≡ None) → IfOk r (IsRecovered s batches stored)
-    → IfOk r (λ found. (t : Super) × (bs : List (List Record)) × (pages : Pages) × IsShapedLog t bs pages × IsRecovered t bs pages found)
-opened_shaped s batches stored read is (Err e) now state fault room same taken fit passes none found = tt
-opened_shaped s batches stored read is (Ok f) now state fault room same taken fit passes none found =
+    → AreOf64Bits now → (fault ≡ None → IsStateWalked state now) → IfOk r (λ found. fault ≡ None) → IfOk r (IsRecovered stored)
+    → IfOk r (λ found. (other : StoredHeap) × IsShapedLog other × IsRecovered other found)
+opened_shaped stored read is (Err e) now state fault room same taken fit passes none found = tt
+opened_shaped stored read is (Ok f) now state fault room same taken fit passes none found =
     let walked = subst (λ (x : State). IsStateWalked x now) same (passes none) in
-    (s, batches, stored, read_shaped s batches stored read is room now taken fit walked, found)
+    (stored, read_shaped stored read is room now taken fit walked, found)
 
 -- what is known of the pages is known of those that were opened
 pub known_found : (r : Result Recovered RecoverError) (cache : PageCache) (image : List ℕ) → IfOk r (λ found. found.cache ≡ cache) → Knows (cache_store cache) image → IfOk r (λ found. Knows (cache_store found.cache) image)
@@ -216,14 +215,14 @@ waiting_calls : (n : ℕ) (rs : List Record) → n ≡ 4 + length (spellings rs)
 waiting_calls n [] is = ap (λ (k : ℕ). if nat_lt 4 k then 4 else 0) is
 waiting_calls n (r ∷ rs) is = ap (λ b. cond b 4 0) (lt-ltb 4 n (omega (arith, is, some_bytes r rs)))
 
-module _ (s : Super) (batches : List (List Record)) (stored : Pages) (read : Reading) (is : IsRead s batches stored read) (log : Log) (keeps : Keeps log batches (rollback read.state)) where
+module _ (stored : StoredHeap) (read : Reading) (is : IsRead stored read) (log : Log) (keeps : Keeps log stored.batches (rollback read.state)) where
   -- so the calls of an opening are those of its force
-  pub forced_passes : (before mid now : ℕ) (r : Result (Unit {0}) DiskError) → mid ≡ before → Passes (if is_waiting log then 4 else 0) mid now r → Passes (opening_calls s batches) before now r
+  pub forced_passes : (before mid now : ℕ) (r : Result (Unit {0}) DiskError) → mid ≡ before → Passes (if is_waiting log then 4 else 0) mid now r → Passes (opening_calls stored) before now r
   forced_passes before mid now r same passes =
-      let calls : (if is_waiting log then 4 else 0) ≡ opening_calls s batches =
-      waiting_calls (buffer_size log) (rollback read.state) (buffer_size-Keeps log batches (rollback read.state) keeps) ∙ ap force_calls (sym (same_rollback s batches stored read is)) in
+      let calls : (if is_waiting log then 4 else 0) ≡ opening_calls stored =
+      waiting_calls (buffer_size log) (rollback read.state) (buffer_size-Keeps log stored.batches (rollback read.state) keeps) ∙ ap force_calls (sym (same_rollback stored read is)) in
       subst (λ (n : ℕ). Passes n before now r) calls (subst (λ (n : ℕ). Passes (if is_waiting log then 4 else 0) n now r) same passes)
 
   -- and no record is pending where nothing is rolled back
-  pub nothing_waits : rollback_of s batches ≡ [] → IsBufferEmpty log
-  nothing_waits none = none_waits log batches (subst (λ (rs : List Record). Keeps log batches rs) (sym (same_rollback s batches stored read is) ∙ none) keeps)
+  pub nothing_waits : rollback_of stored ≡ [] → IsBufferEmpty log
+  nothing_waits none = none_waits log stored.batches (subst (λ (rs : List Record). Keeps log stored.batches rs) (sym (same_rollback stored read is) ∙ none) keeps)

@@ -1,18 +1,15 @@
 -- What an opening answers to an image, and does to it: one that ends before a write, and one that ends with its force or after it.
-use Rattle.std.proofs.Common.{inl, inr, ◌≡◌, ◌≢◌, ◌⊎◌, ⊎_elim, ℕ, ◌≤◌, List, [], Result, Ok, Err, sym, ◌∙◌, subst}
+use Rattle.std.proofs.Common.{◌≡◌, ◌≢◌, ◌⊎◌, ⊎_elim, ℕ, ◌≤◌, List, [], Result, Ok, Err, sym, ◌∙◌, subst}
 use Rattle.std.specs.Prelude.{IsTrue, IfErr, IsErrAnd, OnOk}
 use Rattle.disk_model.specs.declared.disk.Disk.{Ghosts}
 use Rattle.disk_model.specs.Disk.{Only}
 use Rattle.disk_model.specs.Keeps.{KeepsDisk, OnlyReads}
 use Rattle.disk_model.specs.Moments.{LeavesOnly}
 use Rattle.disk_model.proofs.MomentLaws.{weaker}
-use Rattle.image_plan.specs.declared.superblock.Super.{Super}
-use Rattle.log_records.specs.declared.Record.{Record}
 use Rattle.log_machine.specs.Machine.{State}
-use Rattle.page_redo.specs.Pages.{Pages}
-use Rattle.page_cache.proofs.ImageLaws.{stored_behind_log}
+use Rattle.heap_model.proofs.Opening.Held.{left_as_found}
 use Rattle.page_store.specs.Gates.{open_gates}
-use Rattle.heap_model.specs.Image.{Holds, IsShaped}
+use Rattle.heap_model.specs.Image.{StoredHeap, Holds, IsShaped}
 use Rattle.heap_model.specs.Opening.{rollback_of, rolled_back, opening_calls, IsLeftByOpening}
 use Rattle.heap_recovery.specs.declared.at.At.{At}
 use Rattle.heap_recovery.specs.declared.at.At.TheVariants.{Address}
@@ -26,14 +23,9 @@ use Rattle.heap_recovery.proofs.FaultLaws.{one_opening, told_not_heap, told_dama
 use Rattle.heap_recovery.proofs.Opening.{error_passes, only_still}
 use Rattle.heap_recovery.proofs.Refusals.{err_outside, told_outside, readable_outside, still_moments, left_readable, left_damaged}
 
--- an opening of a shaped image leaves its log, or that rolled back, beside its pages
-pub left_shaped : (s : Super) (batches : List (List Record)) (stored : Pages) (image c : List ℕ) → IsShaped s batches stored image → IsLogLeft s batches image c → IsLeftByOpening s batches stored c
-left_shaped s batches stored image c shaped left =
-    let pages = stored_behind_log s.pages s.log_bytes image c left.1 ∙ shaped.held.pages in
-    ⊎_elim
-    (λ (log : HoldsLog s batches c). inl (let held : Holds s batches stored c = record { size = log.super.size; super = log.super.super; log = log.held; pages = pages } in held))
-    (λ (log : HoldsLog s (rolled_back s batches) c). inr (let held : Holds s (rolled_back s batches) stored c = record { size = log.super.size; super = log.super.super; log = log.held; pages = pages } in held))
-    left.0
+-- an opening of a shaped image leaves its heap, or that rolled back
+pub left_shaped : (stored : StoredHeap) (image c : List ℕ) → IsLogLeft stored image c → IsLeftByOpening stored c
+left_shaped stored image c (later, is_later, log, outside) = (later, is_later, record { size = log.super.size; super = log.super.super; log = log.held; pages = log.pages })
 
 module _ {D : Type 0} (g : Ghosts D) (old new : D) where
   -- An opening that ended with an error before any write.
@@ -41,8 +33,8 @@ module _ {D : Type 0} (g : Ghosts D) (old new : D) where
     stays : (P : List ℕ → Type 0) → IsTrue g.tells → P (g.bytes old) → Only (g.bytes old) (g.may_leave old) → LeavesOnly g.moment g.left_since old new P
     stays P tells here only = still_moments g.moment g.left_since old new (g.bytes old) (g.may_leave old) P only here (reads.contents tells).moments
 
-    no_call : IsTrue g.tells → (s : Super) (batches : List (List Record)) (state : State) → IsReadable s batches state (g.bytes old) → OpenPasses {T = Unit {0}} (opening_calls s batches) (g.passed old) (g.passed new) (Err e)
-    no_call tells s batches state readable = error_passes (opening_calls s batches) (g.passed old) (g.passed new) e (reads.contents tells).passed (readable_outside s batches state (g.bytes old) e readable never (told tells))
+    no_call : IsTrue g.tells → (stored : StoredHeap) (state : State) → IsReadable stored state (g.bytes old) → OpenPasses {T = Unit {0}} (opening_calls stored) (g.passed old) (g.passed new) (Err e)
+    no_call tells stored state readable = error_passes (opening_calls stored) (g.passed old) (g.passed new) e (reads.contents tells).passed (readable_outside stored state (g.bytes old) e readable never (told tells))
 
     pub only_read : OpensImage g old new (Err e)
     only_read = record {
@@ -51,19 +43,19 @@ module _ {D : Type 0} (g : Ghosts D) (old new : D) where
       refused = told;
       not_heap = λ tells none. record { told = told_not_heap e (g.bytes old) (told tells) none; reads = reads; moments = stays IsNoHeap tells none };
       damaged = λ tells at fault. record { told = told_damaged e (g.bytes old) at (told tells) fault; reads = λ early. reads; moments = stays (IsFaultAt at) tells fault };
-      readable = λ tells s batches state readable. record {
-        moments = stays (IsLogLeft s batches (g.bytes old)) tells (left_same s batches state (g.bytes old) readable);
-        passes = no_call tells s batches state readable;
+      readable = λ tells stored state readable. record {
+        moments = stays (IsLogLeft stored (g.bytes old)) tells (left_same stored state (g.bytes old) readable);
+        passes = no_call tells stored state readable;
       };
-      shaped = λ tells s batches stored shaped.
+      shaped = λ tells stored shaped.
           let contents = reads.contents tells in
           record {
-            error = told_outside s batches stored (g.bytes old) e shaped (told tells);
+            error = told_outside stored (g.bytes old) e shaped (told tells);
             holds = tt;
             gates = tt;
-            moments = stays (IsLeftByOpening s batches stored) tells (inl shaped.held);
-            crash = λ only image left. subst (IsLeftByOpening s batches stored) (sym (only image (contents.crash image left))) (inl shaped.held);
-            passes = no_call tells s batches shaped.log.state (shaped_readable s batches stored (g.bytes old) shaped);
+            moments = stays (IsLeftByOpening stored) tells (left_as_found shaped.held);
+            crash = λ only image left. subst (IsLeftByOpening stored) (sym (only image (contents.crash image left))) (left_as_found shaped.held);
+            passes = no_call tells stored shaped.log.state (shaped_readable stored (g.bytes old) shaped);
             no_first_stop = λ none stops. reads.no_first_stop stops;
           };
       durable = λ tells only. tt;
@@ -72,23 +64,22 @@ module _ {D : Type 0} (g : Ghosts D) (old new : D) where
 
   -- An opening that came to its force: it read a log of the image.
   pub record IsForced (result : Result (Unit {0}) RecoverError) : Type 0 where
-    pub s : Super
-    pub batches : List (List Record)
+    pub stored : StoredHeap
     pub state : State
-    pub readable : IsReadable s batches state (g.bytes old)
+    pub readable : IsReadable stored state (g.bytes old)
     pub told : IfErr result (λ e. IsToldOf e (g.bytes old))
     pub whole : OnOk result ((at : At) → ¬ IsFaultAt at (g.bytes old))
-    pub left : Only (g.bytes old) (g.may_leave old) → LeavesOnly g.moment g.left_since old new (IsLogLeft s batches (g.bytes old))
-    pub passes : OpenPasses (opening_calls s batches) (g.passed old) (g.passed new) result
+    pub left : Only (g.bytes old) (g.may_leave old) → LeavesOnly g.moment g.left_since old new (IsLogLeft stored (g.bytes old))
+    pub passes : OpenPasses (opening_calls stored) (g.passed old) (g.passed new) result
     pub now : g.moment old ≤ g.moment new → (image : List ℕ) → g.may_leave new image → g.left_since new (g.moment old) image
     pub synced : Only (g.bytes old) (g.may_leave old) → OnOk result (Only (g.bytes new) (g.may_leave new))
     pub synced_damaged : Only (g.bytes old) (g.may_leave old) → IfErr result (λ e. (at : At) → e ≡ Damaged at → Only (g.bytes new) (g.may_leave new))
 
   -- what it leaves of a shaped image
-  pub record LeavesShaped (result : Result (Unit {0}) RecoverError) (s : Super) (batches : List (List Record)) (stored : Pages) : Type 0 where
-    pub holds : OnOk result (Holds s (rolled_back s batches) stored (g.bytes new))
-    pub gates : OnOk result ((p : ℕ) → open_gates s.log_bytes (g.bytes new) p ≡ open_gates s.log_bytes (g.bytes old) p)
-    pub no_first_stop : rollback_of s batches ≡ [] → g.stops old ≡ 0 → g.stops new ≡ 0
+  pub record LeavesShaped (result : Result (Unit {0}) RecoverError) (stored : StoredHeap) : Type 0 where
+    pub holds : OnOk result (Holds (rolled_back stored) (g.bytes new))
+    pub gates : OnOk result ((p : ℕ) → open_gates stored.super.log_bytes (g.bytes new) p ≡ open_gates stored.super.log_bytes (g.bytes old) p)
+    pub no_first_stop : rollback_of stored ≡ [] → g.stops old ≡ 0 → g.stops new ≡ 0
 
   -- what is damaged is not opened, and an error reports where
   whole_or_told : (result : Result (Unit {0}) RecoverError) (image : List ℕ) (at : At) → OnOk result ((at : At) → ¬ IsFaultAt at image) → IfErr result (λ e. IsToldOf e image) → IsFaultAt at image → IsErrAnd result (IsErrorOrOutside (Damaged at))
@@ -101,35 +92,35 @@ module _ {D : Type 0} (g : Ghosts D) (old new : D) where
     alone (Err e) never = λ early. absurd (never early)
 
     module _ (is : IsTrue g.tells → IsForced result) where
-      readable_of : (tells : IsTrue g.tells) (s : Super) (batches : List (List Record)) (state : State) → IsReadable s batches state (g.bytes old) → OpensReadable g old new result s batches
-      readable_of tells s batches state readable =
+      readable_of : (tells : IsTrue g.tells) (stored : StoredHeap) (state : State) → IsReadable stored state (g.bytes old) → OpensReadable g old new result stored
+      readable_of tells stored state readable =
           let it = is tells in
           record {
-            moments = λ only. left_readable g.moment g.left_since it.s it.batches it.state (g.bytes old) it.readable old new (it.left only) s batches state readable;
-            passes = subst (λ (n : ℕ). OpenPasses n (g.passed old) (g.passed new) result) (one_opening s it.s batches it.batches state it.state (g.bytes old) readable it.readable) it.passes;
+            moments = λ only. left_readable g.moment g.left_since it.stored it.state (g.bytes old) it.readable old new (it.left only) stored state readable;
+            passes = subst (λ (n : ℕ). OpenPasses n (g.passed old) (g.passed new) result) (one_opening stored it.stored state it.state (g.bytes old) readable it.readable) it.passes;
           }
 
-      pub opens_forced : (IsTrue g.tells → (s : Super) (batches : List (List Record)) (stored : Pages) → IsShaped s batches stored (g.bytes old) → LeavesShaped result s batches stored) → OpensImage g old new result
+      pub opens_forced : (IsTrue g.tells → (stored : StoredHeap) → IsShaped stored (g.bytes old) → LeavesShaped result stored) → OpensImage g old new result
       opens_forced leaves = record {
         disk = keeps;
         left_alone = alone result late;
         refused = λ tells. (is tells).told;
-        not_heap = λ tells none. let it = is tells in absurd (readable_heap it.s it.batches it.state (g.bytes old) it.readable none);
+        not_heap = λ tells none. let it = is tells in absurd (readable_heap it.stored it.state (g.bytes old) it.readable none);
         damaged = λ tells at fault.
             let it = is tells in
             record {
               told = whole_or_told result (g.bytes old) at it.whole it.told fault;
-              reads = λ early. absurd (readable_late it.s it.batches it.state (g.bytes old) at it.readable fault early);
-              moments = λ only. left_damaged g.moment g.left_since it.s it.batches it.state (g.bytes old) it.readable old new (it.left only) at fault;
+              reads = λ early. absurd (readable_late it.stored it.state (g.bytes old) at it.readable fault early);
+              moments = λ only. left_damaged g.moment g.left_since it.stored it.state (g.bytes old) it.readable old new (it.left only) at fault;
             };
         readable = readable_of;
-        shaped = λ tells s batches stored shaped.
+        shaped = λ tells stored shaped.
             let it = is tells in
-            let opens = readable_of tells s batches shaped.log.state (shaped_readable s batches stored (g.bytes old) shaped) in
-            let run = λ (only : Only (g.bytes old) (g.may_leave old)). weaker g.moment g.left_since old new (IsLogLeft s batches (g.bytes old)) (IsLeftByOpening s batches stored) (opens.moments only) (λ c. left_shaped s batches stored (g.bytes old) c shaped) in
-            let leaves_it = leaves tells s batches stored shaped in
+            let opens = readable_of tells stored shaped.log.state (shaped_readable stored (g.bytes old) shaped) in
+            let run = λ (only : Only (g.bytes old) (g.may_leave old)). weaker g.moment g.left_since old new (IsLogLeft stored (g.bytes old)) (IsLeftByOpening stored) (opens.moments only) (left_shaped stored (g.bytes old)) in
+            let leaves_it = leaves tells stored shaped in
             record {
-              error = err_outside s batches stored (g.bytes old) result shaped it.told;
+              error = err_outside stored (g.bytes old) result shaped it.told;
               holds = leaves_it.holds;
               gates = leaves_it.gates;
               moments = run;

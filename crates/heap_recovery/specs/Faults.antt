@@ -3,15 +3,12 @@
 -- holds is a page's LSN and words, whatever they are.
 use Rattle.std.specs.Prelude.{◌≡◌, ◌⊎◌, ℕ, ◌+◌, ◌-◌, ◌<◌, ◌≤◌, List, length, take, Some}
 use Rattle.std.specs.List.{AllByRecursion}
-use Rattle.disk_model.specs.Disk.{part, SameOutside}
-use Rattle.gated_log.specs.Log.{HoldsBatches, BreaksAt, batches_bytes, records_of}
+use Rattle.gated_log.specs.Log.{HoldsBatches, BreaksAt, batches_bytes}
 use Rattle.image_plan.specs.declared.superblock.Super.{Super}
-use Rattle.image_plan.specs.Plan.{log_offset, image_size}
+use Rattle.image_plan.specs.Plan.{image_size}
 use Rattle.image_plan.specs.Super.{IsSuper, superblock}
-use Rattle.log_records.specs.declared.Record.{Record}
 use Rattle.log_records.specs.Record.{IsRecord}
 use Rattle.log_machine.specs.Machine.{State, reserve}
-use Rattle.log_machine.specs.Origin.{next_lsn, state_from}
 use Rattle.log_machine.specs.Replay.{IsFirstUnshaped}
 use Rattle.page_redo.specs.Pages.{Pages}
 use Rattle.page_redo.specs.Redo.{EachLacks}
@@ -19,8 +16,8 @@ use Rattle.page_cache.specs.CacheState.{IsFirstPast}
 use Rattle.page_cache.specs.Stored.{stored_pages}
 use Rattle.object_layout.specs.CollectionWalk.{IsWalkFaultBeside}
 use Rattle.walk_laws.specs.Heap.{from_space}
-use Rattle.heap_model.specs.Image.{origin_of, words_of}
-use Rattle.heap_model.specs.Opening.{rolled_back}
+use Rattle.heap_model.specs.Image.{StoredHeap, origin_of, records_in, state_in, next_lsn_of, words_of, log_part, SameOutsideLog}
+use Rattle.heap_model.specs.Opening.{IsLater}
 use Rattle.heap_recovery.specs.declared.at.At.{At}
 use Rattle.heap_recovery.specs.declared.at.At.TheVariants.{Batch, Rec, Reserve, Page, Address}
 use Rattle.heap_recovery.specs.declared.error.RecoverError.{RecoverError}
@@ -41,36 +38,35 @@ pub record HasSuper (s : Super) (image : List ℕ) : Type 0 where
 abbrev pub IsNoHeap : List ℕ → Type 0
 IsNoHeap image = (s : Super) → ¬ HasSuper s image
 
--- Its log holds these batches, of whole records.
-pub record HoldsLog (s : Super) (batches : List (List Record)) (image : List ℕ) : Type 0 where
-  pub super : HasSuper s image
-  pub held : HoldsBatches (part image log_offset s.log_bytes) batches
-  pub good : AllByRecursion IsRecord (records_of batches)
+-- It holds this heap, whose log is of whole records.
+pub record HoldsLog (stored : StoredHeap) (image : List ℕ) : Type 0 where
+  pub super : HasSuper stored.super image
+  pub held : HoldsBatches (log_part stored.super image) stored.batches
+  pub pages : stored_in stored.super image ≡ stored.pages
+  pub good : AllByRecursion IsRecord (records_in stored)
 
--- Their records follow one another, and leave this state.
-pub record IsReplayed (s : Super) (batches : List (List Record)) (state : State) (image : List ℕ) : Type 0 where
-  pub log : HoldsLog s batches image
-  pub reached : state_from (origin_of s) (records_of batches) ≡ Some state
+-- They follow one another, and leave this state.
+pub record IsReplayed (stored : StoredHeap) (state : State) (image : List ℕ) : Type 0 where
+  pub log : HoldsLog stored image
+  pub reached : state_in stored ≡ Some state
 
 -- And the log has room for the rollback of what has not ended.
-pub record HasRoom (s : Super) (batches : List (List Record)) (state : State) (image : List ℕ) : Type 0 where
-  pub replayed : IsReplayed s batches state image
-  pub room : length (batches_bytes batches) + 1 + reserve state ≤ s.log_bytes
+pub record HasRoom (stored : StoredHeap) (state : State) (image : List ℕ) : Type 0 where
+  pub replayed : IsReplayed stored state image
+  pub room : length (batches_bytes stored.batches) + 1 + reserve state ≤ stored.super.log_bytes
 
 -- And no page is ahead of it.
-pub record IsReadable (s : Super) (batches : List (List Record)) (state : State) (image : List ℕ) : Type 0 where
-  pub roomy : HasRoom s batches state image
-  pub behind : EachLacks (next_lsn (origin_of s) (records_of batches)) (stored_in s image)
+pub record IsReadable (stored : StoredHeap) (state : State) (image : List ℕ) : Type 0 where
+  pub roomy : HasRoom stored state image
+  pub behind : EachLacks (next_lsn_of stored) stored.pages
 
 -- Where an image is damaged: what comes first in the order in which it is checked.
 abbrev pub IsFaultAt : At → List ℕ → Type 0
-IsFaultAt (Batch offset) image = (s : Super) × HasSuper s image × BreaksAt (part image log_offset s.log_bytes) offset
-IsFaultAt (Rec lsn) image = (s : Super) × (batches : List (List Record)) × HoldsLog s batches image × IsFirstUnshaped (origin_of s) (records_of batches) lsn
-IsFaultAt Reserve image = (s : Super) × (batches : List (List Record)) × (state : State) × IsReplayed s batches state image × (s.log_bytes < length (batches_bytes batches) + 1 + reserve state)
-IsFaultAt (Page page) image =
-    (s : Super) × (batches : List (List Record)) × (state : State) × HasRoom s batches state image × IsFirstPast (next_lsn (origin_of s) (records_of batches) - 1) page (stored_in s image)
-IsFaultAt (Address address) image =
-    (s : Super) × (batches : List (List Record)) × (state : State) × IsReadable s batches state image × IsWalkFaultBeside (words_of s batches (stored_in s image)) state.base state.used (from_space state) address
+IsFaultAt (Batch offset) image = (s : Super) × HasSuper s image × BreaksAt (log_part s image) offset
+IsFaultAt (Rec lsn) image = (stored : StoredHeap) × HoldsLog stored image × IsFirstUnshaped (origin_of stored) (records_in stored) lsn
+IsFaultAt Reserve image = (stored : StoredHeap) × (state : State) × IsReplayed stored state image × (stored.super.log_bytes < length (batches_bytes stored.batches) + 1 + reserve state)
+IsFaultAt (Page page) image = (stored : StoredHeap) × (state : State) × HasRoom stored state image × IsFirstPast (next_lsn_of stored - 1) page stored.pages
+IsFaultAt (Address address) image = (stored : StoredHeap) × (state : State) × IsReadable stored state image × IsWalkFaultBeside (words_of stored) state.base state.used (from_space state) address
 
 -- what an error reports of the image
 abbrev pub IsToldOf : RecoverError → List ℕ → Type 0
@@ -94,10 +90,10 @@ ComesBeforeWrites (Damaged (Address address)) = ⊥
 ComesBeforeWrites (Disk e) = ⊥
 ComesBeforeWrites e = Unit {0}
 
--- An opening of an image that holds this log leaves one that holds it, or the log after the opening. Each byte outside of the log is as it was.
-abbrev pub IsLogLeft : Super → List (List Record) → List ℕ → List ℕ → Type 0
-IsLogLeft s batches old image = (HoldsLog s batches image ⊎ HoldsLog s (rolled_back s batches) image) × SameOutside log_offset (log_offset + s.log_bytes) old image
+-- An opening of an image that holds this heap leaves one that holds it, or what it is after the opening. Each byte outside of the log is as it was.
+abbrev pub IsLogLeft : StoredHeap → List ℕ → List ℕ → Type 0
+IsLogLeft stored old image = (later : StoredHeap) × IsLater stored later × HoldsLog later image × SameOutsideLog stored.super old image
 
 -- What openings leave of an image whose log can be read, whatever its words.
 abbrev pub IsLeftOf : List ℕ → List ℕ → Type 0
-IsLeftOf old image = (s : Super) × (batches : List (List Record)) × (state : State) × IsReadable s batches state old × IsLogLeft s batches old image
+IsLeftOf old image = (stored : StoredHeap) × (state : State) × IsReadable stored state old × IsLogLeft stored old image

@@ -1,11 +1,10 @@
 //! What an image says before anything is rolled back: its superblock, its pages, and its log, whose records are redone on them.
 ghost use Rattle.std.specs.Prelude.{◌≡◌, ◌≢◌, ℕ, ◌+◌, ◌^◌, ◌<◌, ◌≤◌, List, [], take, Ok, Err, IsTrue, IfOk, IfErr};
-ghost use Rattle.disk_model.specs.Disk.{part};
 ghost use Rattle.disk_model.specs.Keeps.{OnlyReads};
 ghost use Rattle.gated_log.specs.Log.{HoldsBatches};
 ghost use Rattle.gated_log.specs.LogState.{log_place, log_room, log_used, log_count};
 ghost use Rattle.image_plan.specs.declared.superblock.Super.{Super};
-ghost use Rattle.image_plan.specs.Plan.{log_offset, image_size};
+ghost use Rattle.image_plan.specs.Plan.{image_size};
 ghost use Rattle.image_plan.specs.Super.{IsSuper, superblock};
 ghost use Rattle.log_records.specs.declared.Record.{Record};
 ghost use Rattle.log_machine.specs.Machine.{reserve};
@@ -13,15 +12,15 @@ ghost use Rattle.page_redo.specs.Pages.{Pages};
 ghost use Rattle.page_redo.specs.Redo.{EachLacks};
 ghost use Rattle.page_store.specs.StoreState.{Knows};
 ghost use Rattle.page_cache.specs.CacheState.{cached, cache_store, cache_size};
-ghost use Rattle.heap_model.specs.Image.{IsShaped};
+ghost use Rattle.heap_model.specs.Image.{StoredHeap, log_part, IsShaped};
 ghost use Rattle.heap_model.specs.Lsns.{log_next_lsn};
 ghost use Rattle.heap_recovery.specs.declared.at.At.{At};
 ghost use Rattle.heap_recovery.specs.declared.at.At.TheVariants.{Address};
 ghost use Rattle.heap_recovery.specs.declared.error.RecoverError.TheVariants.{Damaged};
 ghost use Rattle.heap_recovery.specs.Causes.{open_device};
-ghost use Rattle.heap_recovery.specs.Faults.{stored_in, HasSuper, IsReadable, IsToldOf, IsToldOfLog};
+ghost use Rattle.heap_recovery.specs.Faults.{HasSuper, IsReadable, IsToldOf, IsToldOfLog};
 ghost use Rattle.heap_recovery.specs.Recovered.{IsRead, IsFromOutside};
-ghost use Rattle.heap_recovery.specs.Replayed.{HasReplayed, HasReplayedLog};
+ghost use Rattle.heap_recovery.specs.Replayed.{heap_of, HasReplayed, HasReplayedLog};
 
 use crate::error::RecoverError;
 use crate::reading::Reading;
@@ -35,7 +34,7 @@ use std::alloc::Global;
 /// Reads the image on the disk.
 pub fn read_image<D: Disk>(alloc: Global, disk: &mut D) -> Result<Reading, RecoverError>
     // What was read are the batches of some log, whose records follow one another and were redone on some pages.
-    ensures read { IfOk result (λ read. (batches : List (List Record)) × (stored : Pages) × IsRead read.of batches stored read) }
+    ensures read { IfOk result (λ read. (stored : StoredHeap) × IsRead stored read) }
     ensures inside { IfOk result (λ read. log_place read.log + log_room read.log ≤ D.extent disk.new) }
     ensures pages_inside { IfOk result (λ read. cache_size read.cache ≤ D.extent disk.new) }
     ensures room { IfOk result (λ read. log_used read.log + reserve read.state ≤ log_room read.log) }
@@ -43,13 +42,13 @@ pub fn read_image<D: Disk>(alloc: Global, disk: &mut D) -> Result<Reading, Recov
     ensures few { IfOk result (λ read. log_count read.log < 2 ^ 32) }
 
     // They are the image's own, and an error reports what is wrong with it.
-    ensures sound { IsTrue D.tells → IfOk result (λ read. (batches : List (List Record)) × IsRead read.of batches (stored_in read.of (D.bytes disk.old)) read × IsReadable read.of batches read.state (D.bytes disk.old)) }
+    ensures sound { IsTrue D.tells → IfOk result (λ read. (stored : StoredHeap) × IsRead stored read × IsReadable stored read.state (D.bytes disk.old)) }
     ensures refused { IsTrue D.tells → IfErr result (λ e. IsToldOf e (D.bytes disk.old)) }
     ensures known { IsTrue D.tells → IfOk result (λ read. Knows (cache_store read.cache) (D.bytes disk.old)) }
 
     // Of a shaped image, its own log and pages are read.
-    ensures found { IsTrue D.tells → (s : Super) (batches : List (List Record)) (stored : Pages) → IsShaped s batches stored (D.bytes disk.old) → IfOk result (IsRead s batches stored) }
-    ensures shaped { IsTrue D.tells → (s : Super) (batches : List (List Record)) (stored : Pages) → IsShaped s batches stored (D.bytes disk.old) → IfErr result IsFromOutside }
+    ensures found { IsTrue D.tells → (stored : StoredHeap) → IsShaped stored (D.bytes disk.old) → IfOk result (IsRead stored) }
+    ensures shaped { IsTrue D.tells → (stored : StoredHeap) → IsShaped stored (D.bytes disk.old) → IfErr result IsFromOutside }
     // The words are not checked yet.
     ensures no_address { (address : ℕ) → result ≢ Err (Damaged (Address address)) }
     ensures disk { OnlyReads D.Disk disk.old disk.new (open_device result) }
@@ -85,13 +84,13 @@ fn read_log<D: Disk>(alloc: Global, disk: &mut D, of: Super) -> Result<Reading, 
     requires good { IsSuper of }
     requires fits { image_size of.pages of.log_bytes ≤ D.extent disk.old }
 
-    ensures read { IfOk result (λ read. (batches : List (List Record)) × (stored : Pages) × IsRead of batches stored read) }
+    ensures read { IfOk result (λ read. (stored : StoredHeap) × IsRead stored read) }
     ensures inside { IfOk result (λ read. log_place read.log + log_room read.log ≤ D.extent disk.new) }
     ensures pages_inside { IfOk result (λ read. cache_size read.cache ≤ D.extent disk.new) }
     ensures room { IfOk result (λ read. log_used read.log + reserve read.state ≤ log_room read.log) }
     ensures next { IfOk result (λ read. EachLacks (log_next_lsn read.log) (cached read.cache)) }
     ensures few { IfOk result (λ read. log_count read.log < 2 ^ 32) }
-    ensures sound { IsTrue D.tells → HasSuper of (D.bytes disk.old) → IfOk result (λ read. (batches : List (List Record)) × IsRead read.of batches (stored_in read.of (D.bytes disk.old)) read × IsReadable read.of batches read.state (D.bytes disk.old)) }
+    ensures sound { IsTrue D.tells → HasSuper of (D.bytes disk.old) → IfOk result (λ read. (stored : StoredHeap) × IsRead stored read × IsReadable stored read.state (D.bytes disk.old)) }
     ensures refused { IsTrue D.tells → HasSuper of (D.bytes disk.old) → IfErr result (λ e. IsToldOf e (D.bytes disk.old)) }
     ensures known { IsTrue D.tells → IfOk result (λ read. Knows (cache_store read.cache) (D.bytes disk.old)) }
     ensures no_address { (address : ℕ) → result ≢ Err (Damaged (Address address)) }
@@ -113,9 +112,9 @@ fn replay_log<D: Disk>(
 ) -> Result<Log, RecoverError>
     requires good { IsSuper of }
     requires fits { image_size of.pages of.log_bytes ≤ D.extent disk.old }
-    requires none { (stored : Pages) × HasReplayed of stored [] replay.old }
-    ensures found { (stored : Pages) → HasReplayed of stored [] replay.old → IfOk result (λ log. (batches : List (List Record)) × HasReplayedLog of batches stored log replay.new × (IsTrue D.tells → HoldsBatches (part (D.bytes disk.old) log_offset of.log_bytes) batches)) }
-    ensures refused { IsTrue D.tells → IfErr result (IsToldOfLog (part (D.bytes disk.old) log_offset of.log_bytes)) }
+    requires none { (at : Pages) × HasReplayed of at [] replay.old }
+    ensures found { (at : Pages) → HasReplayed of at [] replay.old → IfOk result (λ log. (batches : List (List Record)) × HasReplayedLog (heap_of of at batches) log replay.new × (IsTrue D.tells → HoldsBatches (log_part of (D.bytes disk.old)) batches)) }
+    ensures refused { IsTrue D.tells → IfErr result (IsToldOfLog (log_part of (D.bytes disk.old))) }
     ensures inside { IfOk result (λ log. log_place log + log_room log ≤ D.extent disk.new) }
     ensures few { IfOk result (λ log. log_count log < 2 ^ 32) }
     ensures store { cache_store replay.new.cache ≡ cache_store replay.old.cache }

@@ -2,17 +2,15 @@
 ghost use Rattle.std.specs.Prelude.{◌≡◌, ◌+◌, ◌^◌, ◌<◌, ◌≤◌, ℕ, List, [], None, Some, Ok, Err, IsTrue, IsOk, IfOk, IfErr, IfSome, OnOk};
 ghost use Rattle.std.specs.Option.{option_map};
 ghost use Rattle.gated_log.specs.LogState.{log_place, log_room, log_used, log_count, Keeps};
-ghost use Rattle.image_plan.specs.declared.superblock.Super.{Super};
 ghost use Rattle.log_records.specs.declared.Record.{Record};
 ghost use Rattle.log_machine.specs.Machine.{settled, rollback, all_taken_back, reserve, words_in};
-ghost use Rattle.page_redo.specs.Pages.{Pages};
 ghost use Rattle.page_redo.specs.Redo.{EachLacks, redo_all};
 ghost use Rattle.page_store.specs.StoreState.{Knows};
 ghost use Rattle.page_cache.specs.CacheState.{cached, cache_store, cache_size};
 ghost use Rattle.object_layout.specs.CollectionWalk.{IsWalkFaultBeside, given};
 ghost use Rattle.walk_laws.specs.Heap.{IsStateWalked, from_space};
 ghost use Rattle.heap_model.specs.Bits.{AreOf64Bits};
-ghost use Rattle.heap_model.specs.Image.{IsShapedLog, IsShaped};
+ghost use Rattle.heap_model.specs.Image.{StoredHeap, IsShapedLog, IsShaped};
 ghost use Rattle.heap_model.specs.Lsns.{log_next_lsn};
 ghost use Rattle.heap_recovery.specs.Causes.{open_device};
 ghost use Rattle.heap_recovery.specs.declared.at.At.{At};
@@ -51,13 +49,13 @@ pub fn recover<D: Disk>(alloc: Global, disk: &mut D) -> Result<Recovered, Recove
     ensures image { OpensImage D.Disk disk.old disk.new (outcome result) }
 
     // On every disk what is opened is a log that is shaped beside some pages, rolled back.
-    ensures opens { IfOk result (λ found. (s : Super) × (batches : List (List Record)) × (stored : Pages) × IsShapedLog s batches stored × IsRecovered s batches stored found) }
+    ensures opens { IfOk result (λ found. (stored : StoredHeap) × IsShapedLog stored × IsRecovered stored found) }
     ensures inside { IfOk result (λ found. log_place found.log + log_room found.log ≤ D.extent disk.new) }
     ensures pages_inside { IfOk result (λ found. cache_size found.cache ≤ D.extent disk.new) }
 
     // They are the log and the pages of the image. A shaped image is opened as it is, and the pages that it stores are known.
-    ensures sound { IsTrue D.tells → IfOk result (λ found. (s : Super) × (batches : List (List Record)) × (stored : Pages) × IsShaped s batches stored (D.bytes disk.old) × IsRecovered s batches stored found) }
-    ensures found { IsTrue D.tells → (s : Super) (batches : List (List Record)) (stored : Pages) → IsShaped s batches stored (D.bytes disk.old) → IfOk result (IsRecovered s batches stored) }
+    ensures sound { IsTrue D.tells → IfOk result (λ found. (stored : StoredHeap) × IsShaped stored (D.bytes disk.old) × IsRecovered stored found) }
+    ensures found { IsTrue D.tells → (stored : StoredHeap) → IsShaped stored (D.bytes disk.old) → IfOk result (IsRecovered stored) }
     ensures known { IsTrue D.tells → IfOk result (λ found. Knows (cache_store found.cache) (D.bytes disk.new)) }
 {
     let mut read = read_image(alloc, disk)?;

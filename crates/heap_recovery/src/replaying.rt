@@ -32,8 +32,8 @@ impl Replay {
     ghost use Rattle.image_plan.specs.Super.{IsSuper};
     ghost use Rattle.log_records.specs.declared.Record.{Record};
     ghost use Rattle.log_machine.specs.Machine.{reserve};
-    ghost use Rattle.log_machine.specs.Origin.{next_lsn};
-    ghost use Rattle.heap_model.specs.Image.{origin_of};
+    ghost use Rattle.log_machine.specs.Origin.{heap_origin, next_lsn};
+    ghost use Rattle.heap_model.specs.Image.{StoredHeap};
     ghost use Rattle.heap_model.specs.Lsns.{log_next_lsn};
     ghost use Rattle.page_redo.specs.Pages.{Pages, pages_in, lsn_of};
     ghost use Rattle.page_redo.specs.Redo.{EachLacks};
@@ -42,7 +42,7 @@ impl Replay {
     ghost use Rattle.heap_recovery.specs.declared.at.At.TheVariants.{Address};
     ghost use Rattle.heap_recovery.specs.declared.error.RecoverError.TheVariants.{NoMemory, Damaged};
     ghost use Rattle.heap_recovery.specs.Causes.{open_device};
-    ghost use Rattle.heap_recovery.specs.Faults.{stored_in, HoldsLog, IsReadable, IsToldOf};
+    ghost use Rattle.heap_recovery.specs.Faults.{HoldsLog, IsReadable, IsToldOf};
     ghost use Rattle.heap_recovery.specs.Recovered.{plan_of, IsRead};
     ghost use Rattle.heap_recovery.specs.Replayed.{HasReplayed, HasReplayedLog};
 
@@ -68,7 +68,7 @@ impl Replay {
     pub fn take(&mut self, alloc: Global, lsn: u64, rec: &Record) -> Result<(), RecoverError>
         requires commits { self.old.state.commits + 1 < 2 ^ 64 }
         requires room { reserve self.old.state + 29 < 2 ^ 64 }
-        ensures on { (of : Super) (stored : Pages) (records : List Record) → lsn ≡ next_lsn (origin_of of) records → HasReplayed of stored records self.old → OnOk result (HasReplayed of stored (records ++ rec.now ∷ []) self.new) }
+        ensures on { (of : Super) (at : Pages) (records : List Record) → lsn ≡ next_lsn (heap_origin of.pages of.first) records → HasReplayed of at records self.old → OnOk result (HasReplayed of at (records ++ rec.now ∷ []) self.new) }
         ensures store { cache_store self.new.cache ≡ cache_store self.old.cache }
         ensures error { IfErr result (λ e. e ≡ NoMemory) }
     {
@@ -93,9 +93,9 @@ impl Replay {
         requires good { IsSuper of }
         requires few { reserve self.state < 2 ^ 63 }
         requires pages { self.state.pages ≡ of.pages }
-        ensures read { (batches : List (List Record)) (stored : Pages) → HasReplayedLog of batches stored log self → IfOk result (IsRead of batches stored) }
-        ensures readable { (batches : List (List Record)) (image : List ℕ) → HoldsLog of batches image → HasReplayedLog of batches (stored_in of image) log self → IfOk result (λ read. IsReadable of batches read.state image) }
-        ensures refused { (batches : List (List Record)) (image : List ℕ) → HoldsLog of batches image → HasReplayedLog of batches (stored_in of image) log self → IfErr result (λ e. IsToldOf e image) }
+        ensures read { (stored : StoredHeap) → of ≡ stored.super → HasReplayedLog stored log self → IfOk result (IsRead stored) }
+        ensures readable { (stored : StoredHeap) (image : List ℕ) → HoldsLog stored image → HasReplayedLog stored log self → IfOk result (λ read. IsReadable stored read.state image) }
+        ensures refused { (stored : StoredHeap) (image : List ℕ) → HoldsLog stored image → HasReplayedLog stored log self → IfErr result (λ e. IsToldOf e image) }
         ensures no_address { (address : ℕ) → result ≢ Err (Damaged (Address address)) }
         ensures next { IfOk result (λ read. EachLacks (log_next_lsn read.log) (cached read.cache)) }
         ensures room { IfOk result (λ read. log_used read.log + reserve read.state ≤ log_room read.log) }

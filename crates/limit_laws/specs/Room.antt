@@ -10,12 +10,9 @@ use Rattle.graph_model.specs.History.{account, session_of, IsOfSession}
 use Rattle.graph_model.specs.Plain.{refusal_of}
 use Rattle.graph_model.specs.Transaction.{Transaction}
 use Rattle.gated_log.specs.Log.{batches_bytes}
-use Rattle.image_plan.specs.declared.superblock.Super.{Super}
-use Rattle.log_records.specs.declared.Record.{Record}
-use Rattle.page_redo.specs.Pages.{Pages}
 use Rattle.graph_words.specs.Places.{Places}
 use Rattle.heap_model.specs.Core.{Core, IsRun, all_records, core_refusal, event_places, reserved, undo_behind, used}
-use Rattle.heap_model.specs.Image.{IsShapedLog}
+use Rattle.heap_model.specs.Image.{StoredHeap, IsShapedLog}
 use Rattle.heap_model.specs.Opening.{IsFound, rolled_back}
 use Rattle.core_laws.specs.Active.{active_in}
 use Rattle.core_laws.specs.Valid.{IsReached}
@@ -55,5 +52,5 @@ EndsTheorem =
 -- The batch in which an opening takes back what had not ended has room, with a gate after it.
 abbrev pub RollbackTheorem : Type 0
 RollbackTheorem =
-    (s : Super) (batches : List (List Record)) (stored : Pages) (shaped : IsShapedLog s batches stored) (born : Bool) (places : Places) (g : Graph)
-    → IsFound s batches stored shaped born places g → length (batches_bytes (rolled_back s batches)) + 1 ≤ s.log_bytes
+    (stored : StoredHeap) (shaped : IsShapedLog stored) (born : Bool) (places : Places) (g : Graph)
+    → IsFound stored shaped born places g → length (batches_bytes (rolled_back stored).batches) + 1 ≤ stored.super.log_bytes

@@ -5,7 +5,6 @@ use Rattle.std.specs.Option.{option_to_list}
 use Rattle.std.proofs.lemmas.List.{append-nil}
 use Rattle.graph_model.specs.Transaction.{Transaction, serial}
 use Rattle.graph_model.specs.History.{Account, account, sealed, commits, acknowledged}
-use Rattle.image_plan.specs.declared.superblock.Super.{Super}
 use Rattle.log_records.specs.declared.Record.{Record}
 use Rattle.gated_log.specs.Log.{batches_bytes, records_of}
 use Rattle.log_machine.specs.Machine.{State, start, reserve}
@@ -21,7 +20,7 @@ use Rattle.heap_model.proofs.Step.Goes.{told_sound}
 use Rattle.heap_model.proofs.Opening.Legal.{told_says}
 use Rattle.heap_model.proofs.Step.Logged.{super_origin, all_logged}
 use Rattle.heap_model.proofs.Step.Room.{records_of-with_batch, length-with_batch}
-use Rattle.heap_model.specs.Image.{origin_of, Says}
+use Rattle.heap_model.specs.Image.{StoredHeap, origin_of, Says, records_in}
 use Rattle.heap_model.specs.Opening.{next_of, next_in}
 use Rattle.core_laws.proofs.Step.Goes.{known_on}
 use Rattle.core_laws.proofs.Step.GrantedEnds.{all_on_disk}
@@ -106,38 +105,38 @@ tell_first c batches h logged (inr is) =
     let forced = forced_commits a c b in
     (all, tell_sealed c all batches c.places c.remaining (all_words c) b.behind h told words (omega arith) known (omega arith) (omega arith) (omega arith))
 
-module _ (c : Core) (s : Super) (batches : List (List Record)) (stored : Pages) (h : IsSound c) (logged : HasLogWords c) (beside : EachHoldsPrefix (log_origin c) (records_of batches) stored) (on : IsOnDisk c batches) (of : IsSuperOf s c) where
-  first : (k : ℕ) × TellFirst c k batches
-  first = tell_first c batches h logged on
+module _ (c : Core) (stored : StoredHeap) (h : IsSound c) (logged : HasLogWords c) (beside : EachHoldsPrefix (log_origin c) (records_in stored) stored.pages) (on : IsOnDisk c stored.batches) (of : IsSuperOf stored.super c) where
+  first : (k : ℕ) × TellFirst c k stored.batches
+  first = tell_first c stored.batches h logged on
 
-  told : IsTold (origin_of s).state c.born first.1.places first.1.remaining (serial c.g0 (take first.0 (commits c.history))) (c.before + first.0) (records_of batches) first.1.words first.1.state
+  told : IsTold (origin_of stored).state c.born first.1.places first.1.remaining (serial c.g0 (take first.0 (commits c.history))) (c.before + first.0) (records_in stored) first.1.words first.1.state
   told =
-      let P : ℕ → ℕ → Type 0 = λ pages first_number. IsTold (start pages first_number) c.born first.1.places first.1.remaining (serial c.g0 (take first.0 (commits c.history))) (c.before + first.0) (records_of batches) first.1.words first.1.state in
-      subst (λ pages. P pages s.first) (sym of.pages) (subst (λ first_number. P c.pages first_number) (sym of.first) first.1.told)
+      let P : ℕ → ℕ → Type 0 = λ pages first_number. IsTold (start pages first_number) c.born first.1.places first.1.remaining (serial c.g0 (take first.0 (commits c.history))) (c.before + first.0) (records_in stored) first.1.words first.1.state in
+      subst (λ pages. P pages stored.super.first) (sym of.pages) (subst (λ first_number. P c.pages first_number) (sym of.first) first.1.told)
 
   -- the log on the disk begins where the core's does
-  same_origin : origin_of s ≡ log_origin c
-  same_origin = super_origin s c of
+  same_origin : origin_of stored ≡ log_origin c
+  same_origin = super_origin stored c of
 
-  fits : length (batches_bytes batches) + 1 + reserve first.1.state ≤ s.log_bytes
+  fits : length (batches_bytes stored.batches) + 1 + reserve first.1.state ≤ stored.super.log_bytes
   fits = let room = first.1.room in let same = of.room in omega arith
 
   -- the pages on the disk may stand beside the log there
-  prefixes : EachHoldsPrefix (origin_of s) (records_of batches) stored
-  prefixes = subst (λ (o : Origin). EachHoldsPrefix o (records_of batches) stored) (sym same_origin) beside
+  prefixes : EachHoldsPrefix (origin_of stored) (records_in stored) stored.pages
+  prefixes = subst (λ (o : Origin). EachHoldsPrefix o (records_in stored) stored.pages) (sym same_origin) beside
 
-  words_are : first.1.words ≡ words_from (origin_of s) (records_of batches)
-  words_are = first.1.logged ∙ ap (λ (o : Origin). words_from o (records_of batches)) (sym same_origin)
+  words_are : first.1.words ≡ words_from (origin_of stored) (records_in stored)
+  words_are = first.1.logged ∙ ap (λ (o : Origin). words_from o (records_in stored)) (sym same_origin)
 
   -- its next transaction number is not below the first of this opening
-  disk_next : c.first ≤ next_of s batches
-  disk_next = let same : next_of s batches ≡ first.1.state.next = ap next_in told.reached in let next = first.1.next in omega arith
+  disk_next : c.first ≤ next_of stored
+  disk_next = let same : next_of stored ≡ first.1.state.next = ap next_in told.reached in let next = first.1.next in omega arith
 
   -- where births give the names it is legal, and says the first k commits since the opening, with all that was acknowledged or forced
-  pub disk_says : IsTrue c.born → (k : ℕ) × Says (serial c.g0 (take k (commits c.history))) (c.before + k) s batches stored × (c.first ≤ next_of s batches) × (acknowledged c.history ≤ k) × (commits_on_disk c ≤ c.before + k) × (k ≤ length (commits c.history))
+  pub disk_says : IsTrue c.born → (k : ℕ) × Says (serial c.g0 (take k (commits c.history))) (c.before + k) stored × (c.first ≤ next_of stored) × (acknowledged c.history ≤ k) × (commits_on_disk c ≤ c.before + k) × (k ≤ length (commits c.history))
   disk_says by_birth = (
     first.0,
-    told_says s batches stored c.born first.1.places first.1.remaining (serial c.g0 (take first.0 (commits c.history))) (c.before + first.0) first.1.words first.1.state of.limits told words_are prefixes fits by_birth,
+    told_says stored c.born first.1.places first.1.remaining (serial c.g0 (take first.0 (commits c.history))) (c.before + first.0) first.1.words first.1.state of.limits told words_are prefixes fits by_birth,
     disk_next,
     first.1.kept,
     first.1.forced,
@@ -146,6 +145,6 @@ module _ (c : Core) (s : Super) (batches : List (List Record)) (stored : Pages) 
 
 -- A crash leaves an image of a commit prefix.
 pub crash_law : CrashTheorem
-crash_law c s batches stored sound by_birth logged beside on of image held =
-    let says = disk_says c s batches stored sound logged beside on of by_birth in
-    (says.0, record { stands = record { super = s; batches = batches; stored = stored; says = says.1; held = held }; of = of; next = says.2; kept = says.3; forced = says.4; some = says.5 })
+crash_law c stored sound by_birth logged beside on of image held =
+    let says = disk_says c stored sound logged beside on of by_birth in
+    (says.0, record { stands = record { stored = stored; says = says.1; held = held }; of = of; next = says.2; kept = says.3; forced = says.4; some = says.5 })

@@ -11,11 +11,11 @@ use Rattle.core_laws.specs.Theorems.{OpeningTheorem, AgainTheorem}
 
 -- A heap that is opened on a shaped log continues.
 pub opening_law : OpeningTheorem
-opening_law s batches stored shaped gates born places g found = record { reached = opened_reached s batches stored shaped gates born places g found; next = next_pinned s batches stored shaped }
+opening_law stored shaped gates born places g found = record { reached = opened_reached stored shaped gates born places g found; next = next_pinned stored shaped }
 
 -- A heap that is opened again on an image of a core's commit prefix continues from that.
 pub opened_again : AgainTheorem
-opened_again c k image first s batches stored gates places g legal found =
-    let read : StandsFor g (commits_of s batches) image = record { super = s; batches = batches; stored = stored; says = (says_found s batches stored legal.log places g found).found; held = legal.held } in
-    let same = one_graph g (serial c.g0 (take k (commits c.history))) (commits_of s batches) (c.before + k) image read first.stands in
-    record { reached = opened_reached s batches stored legal.log.shaped gates true places g found; graph = same.0; before = same.1; kept = first.kept; forced = first.forced; some = first.some }
+opened_again c k image first stored gates places g legal found =
+    let read : StandsFor g (commits_of stored) image = record { stored = stored; says = (says_found stored legal.log places g found).found; held = legal.held } in
+    let same = one_graph g (serial c.g0 (take k (commits c.history))) (commits_of stored) (c.before + k) image read first.stands in
+    record { reached = opened_reached stored legal.log.shaped gates true places g found; graph = same.0; before = same.1; kept = first.kept; forced = first.forced; some = first.some }

@@ -10,15 +10,12 @@ use Rattle.graph_model.specs.Graph.{Graph}
 use Rattle.graph_model.proofs.Whole.Names.{AreBelow}
 use Rattle.graph_model.specs.ClosedGraph.{IsUnused}
 use Rattle.graph_model.specs.History.{nothing_yet, sessions}
-use Rattle.image_plan.specs.declared.superblock.Super.{Super}
 use Rattle.log_records.specs.declared.Record.{Record}
 use Rattle.log_machine.specs.Machine.{State, owed, settled, start, undo_of}
 use Rattle.log_machine.proofs.MapLaws.{each_empty}
 use Rattle.log_machine.proofs.StateLaws.{leads_after_all}
 use Rattle.log_machine.proofs.TakenBackLaws.{taken_back-settled}
-use Rattle.page_redo.specs.Pages.{Pages}
 use Rattle.log_machine.specs.declared.UndoEntry.{UndoEntry}
-use Rattle.gated_log.specs.Log.{records_of}
 use Rattle.commit_order.proofs.PlaceLaws.{nothing_plain, nothing_two_phase}
 use Rattle.graph_words.specs.Places.{Places}
 use Rattle.graph_words.specs.Stands.{StandsCommitted}
@@ -33,8 +30,8 @@ use Rattle.graph_words.proofs.Stands.Closed.{stands_closed, placed_below}
 use Rattle.heap_model.proofs.Opening.Rolled.{next_is, commits_are, rolled_reached, rolled_fit, rolled_good, rolled_room, rolled_words-is, settled_reserve, shaped_spaces}
 use Rattle.heap_model.specs.CoreTold.{IsTold}
 use Rattle.heap_model.specs.Core.{kept_for}
-use Rattle.heap_model.specs.Image.{origin_of, words_of, IsShapedLog}
-use Rattle.heap_model.specs.Opening.{current_in, remaining_in, state_of, rolled_back, rolled_words, next_of, commits_of, opened, IsFound}
+use Rattle.heap_model.specs.Image.{StoredHeap, origin_of, words_of, IsShapedLog, records_in, state_in}
+use Rattle.heap_model.specs.Opening.{current_in, remaining_in, rolled_back, rolled_words, next_of, commits_of, opened, IsFound}
 use Rattle.core_laws.specs.Valid.{IsActive, RunsLocked, IsValid, IsReached}
 
 -- where each object is below a number, none is of a transaction from it on
@@ -56,9 +53,9 @@ none_kept undo (s ∷ ss) =
     let rest = none_kept undo ss in
     omega arith
 
-module _ (s : Super) (batches : List (List Record)) (stored : Pages) (shaped : IsShapedLog s batches stored) (gates : ℕ → ℕ) (born : Bool) (places : Places) (g : Graph) (found : IsFound s batches stored shaped born places g) where
+module _ (stored : StoredHeap) (shaped : IsShapedLog stored) (gates : ℕ → ℕ) (born : Bool) (places : Places) (g : Graph) (found : IsFound stored shaped born places g) where
   abbrev now : List ℕ
-  now = rolled_words s batches stored
+  now = rolled_words stored
 
   abbrev last : State
   last = settled shaped.state
@@ -73,33 +70,33 @@ module _ (s : Super) (batches : List (List Record)) (stored : Pages) (shaped : I
   -- the graph stands in the words after the opening
   opened_holds : HoldsGraph last current left now g
   opened_holds =
-      subst (λ (ws : List ℕ). HoldsGraph last current left ws g) (sym (rolled_words-is s batches stored shaped))
-      (holds_lists shaped.state finmap.empty shaped.state.commits shaped.state.next current left (words_of s batches stored) g found.whole.holds)
+      subst (λ (ws : List ℕ). HoldsGraph last current left ws g) (sym (rolled_words-is stored shaped))
+      (holds_lists shaped.state finmap.empty shaped.state.commits shaped.state.next current left (words_of stored) g found.whole.holds)
 
   opened_heap : AreHeapWords last current left now
   opened_heap =
-      let spaces = shaped_spaces s batches stored shaped in
+      let spaces = shaped_spaces stored shaped in
       record {
         spaced = record { first = spaces.spaced.first; room = spaces.spaced.room; within = spaces.spaced.within };
-        long = ap length (rolled_words-is s batches stored shaped) ∙ spaces.long;
+        long = ap length (rolled_words-is stored shaped) ∙ spaces.long;
         small = spaces.small;
         laid = opened_holds.laid;
       }
 
   opened_tells : IsTrue born → TellsBirths last current left now
   opened_tells by_birth =
-      subst (λ (ws : List ℕ). TellsBirths last current left ws) (sym (rolled_words-is s batches stored shaped))
-      (tells_lists shaped.state finmap.empty shaped.state.commits shaped.state.next current left (words_of s batches stored) (found.births by_birth))
+      subst (λ (ws : List ℕ). TellsBirths last current left ws) (sym (rolled_words-is stored shaped))
+      (tells_lists shaped.state finmap.empty shaped.state.commits shaped.state.next current left (words_of stored) (found.births by_birth))
 
-  opened_told : IsTold (origin_of s).state born current left g (commits_of s batches + 0) (records_of (rolled_back s batches)) now last
+  opened_told : IsTold (origin_of stored).state born current left g (commits_of stored + 0) (records_in (rolled_back stored)) now last
   opened_told =
-      let count = commits_are s batches stored shaped in
+      let count = commits_are stored shaped in
       record {
-        good = rolled_good s batches stored shaped;
-        reached = rolled_reached s batches stored shaped;
+        good = rolled_good stored shaped;
+        reached = rolled_reached stored shaped;
         count = omega arith;
         heap = opened_heap;
-        fit = rolled_fit s batches stored shaped;
+        fit = rolled_fit stored shaped;
         backed = each_empty (λ q us. AreBacked current now us);
         stands = subst (λ (ws : List ℕ). StandsCommitted (completed_places last current left now) g ws last.base (last.used + owed last)) (sym (taken_back-settled last (completed last current left now) refl)) opened_holds.stands;
         old = (completed_old last.next last current left now).1 (split_old shaped.state.next shaped.state places found.old);
@@ -108,21 +105,21 @@ module _ (s : Super) (batches : List (List Record)) (stored : Pages) (shaped : I
 
   -- what a core that was opened says of its places
   abbrev Tells : Option State → List Record → Type 0
-  Tells state records = IsTold (origin_of s).state born (current_in state places) (remaining_in state places) g (commits_of s batches + 0) records now last
+  Tells state records = IsTold (origin_of stored).state born (current_in state places) (remaining_in state places) g (commits_of stored + 0) records now last
 
-  core_told : Tells (state_of s batches) (records_of (rolled_back s batches))
-  core_told = subst (λ (o : Option State). Tells o (records_of (rolled_back s batches))) (sym shaped.reached) opened_told
+  core_told : Tells (state_in stored) (records_in (rolled_back stored))
+  core_told = subst (λ (o : Option State). Tells o (records_in (rolled_back stored))) (sym shaped.reached) opened_told
 
   -- the core is valid
-  pub opened_valid : IsValid (opened s batches stored gates born places g)
+  pub opened_valid : IsValid (opened stored gates born places g)
   opened_valid =
-      let to = leads_after_all (start s.pages s.first) shaped.state (records_of batches) shaped.reached in
-      let next = next_is s batches stored shaped in
+      let to = leads_after_all (start stored.super.pages stored.super.first) shaped.state (records_in stored) shaped.reached in
+      let next = next_is stored shaped in
       let some_first = shaped.limits.some_first in
       let small_first = shaped.limits.small_first in
       let grows = to.grows in
       let fits = to.next_in_range (omega arith) in
-      let room = rolled_room s batches stored shaped in
+      let room = rolled_room stored shaped in
       let none = settled_reserve shaped.state in
       let kept = none_kept (undo_of (settled shaped.state)) sessions in
       record {
@@ -144,7 +141,7 @@ module _ (s : Super) (batches : List (List Record)) (stored : Pages) (shaped : I
           has_room = omega arith;
         };
         behind = settled shaped.state;
-        told = subst (λ (rs : List Record). Tells (state_of s batches) rs) (sym (append-nil (records_of (rolled_back s batches)))) core_told;
+        told = subst (λ (rs : List Record). Tells (state_in stored) rs) (sym (append-nil (records_in (rolled_back stored)))) core_told;
         next_known = omega arith;
         losers = each_empty (λ q us. IsActive nothing_yet q);
         writers = λ session. tt;
@@ -152,15 +149,15 @@ module _ (s : Super) (batches : List (List Record)) (stored : Pages) (shaped : I
       }
 
   -- no transaction to come can give a name that an object has
-  opened_unused : (n : ℕ) → next_of s batches ≤ n → IsUnused g n
+  opened_unused : (n : ℕ) → next_of stored ≤ n → IsUnused g n
   opened_unused n more =
-      let next = next_is s batches stored shaped in
-      let grows = (leads_after_all (start s.pages s.first) shaped.state (records_of batches) shaped.reached).grows in
+      let next = next_is stored shaped in
+      let grows = (leads_after_all (start stored.super.pages stored.super.first) shaped.state (records_in stored) shaped.reached).grows in
       let some_first = shaped.limits.some_first in
       below_unused g shaped.state.next n
       (placed_below (current ++ left) g shaped.state.next found.whole.placed (split_old shaped.state.next shaped.state places found.old) (omega arith)) (omega arith)
 
-  opened_locked : RunsLocked g (next_of s batches) []
+  opened_locked : RunsLocked g (next_of stored) []
   opened_locked = record {
     plain = nothing_plain g (stands_closed found.whole.holds.stands found.whole.placed_in_completed);
     two_phase = nothing_two_phase g;
@@ -170,5 +167,5 @@ module _ (s : Super) (batches : List (List Record)) (stored : Pages) (shaped : I
   }
 
   -- A core that was opened on a shaped log is reached.
-  pub opened_reached : IsReached (opened s batches stored gates born places g)
+  pub opened_reached : IsReached (opened stored gates born places g)
   opened_reached = record { sound = inl opened_valid; locked = opened_locked }

@@ -31,7 +31,7 @@ use Rattle.heap_model.specs.Bits.{AreOf64Bits}
 use Rattle.heap_model.proofs.Step.Bits.{fit_first}
 use Rattle.heap_model.specs.Image.{origin_of, words_of, IsLegalLog}
 use Rattle.heap_model.specs.Opening.{IsFound}
-use Rattle.heap_model.specs.NewHeap.{root_place}
+use Rattle.heap_model.specs.NewHeap.{new_heap, root_place}
 
 -- the words of the root with null fields, and any words after it
 abbrev root_words : List ℕ → List ℕ
@@ -93,28 +93,28 @@ root_placed id there = elim (same_or_other id root) [
 ]
 
 module _ (s : Super) (limits : IsSuper s) where
-  new_words : words_of s [] (first_pages s.pages) ≡ root_words (replicate (words_in s.pages - 6) 0)
+  new_words : words_of (new_heap s) ≡ root_words (replicate (words_in s.pages - 6) 0)
   new_words =
       let some = limits.some_pages in
       taken_back-settled (start s.pages s.first) (first_contents s.pages) refl ∙ some_zeros (words_in s.pages) (words_in s.pages - 6) (omega arith)
 
   -- the root stands alone in the words of an empty log
-  pub new_stand : StandsCommitted root_place new_graph (words_of s [] (first_pages s.pages)) 0 6
+  pub new_stand : StandsCommitted root_place new_graph (words_of (new_heap s)) 0 6
   new_stand = subst (λ ws. StandsCommitted root_place new_graph ws 0 6) (sym new_words) (new_stands (replicate (words_in s.pages - 6) 0))
 
   -- where its birth gives its name
-  pub new_births : AreNamedByBirth root_place (words_of s [] (first_pages s.pages))
+  pub new_births : AreNamedByBirth root_place (words_of (new_heap s))
   new_births = subst (AreNamedByBirth root_place) (sym new_words) (refl, tt)
 
   -- so it does in the completed words
-  new_holds : HoldsGraph (start s.pages s.first) root_place [] (words_of s [] (first_pages s.pages)) new_graph
+  new_holds : HoldsGraph (start s.pages s.first) root_place [] (words_of (new_heap s)) new_graph
   new_holds = record {
-    laid = committed_laid (start s.pages s.first) root_place (words_of s [] (first_pages s.pages)) new_graph refl new_stand;
-    stands = stands_completed (start s.pages s.first) root_place (words_of s [] (first_pages s.pages)) new_graph refl new_stand;
+    laid = committed_laid (start s.pages s.first) root_place (words_of (new_heap s)) new_graph refl new_stand;
+    stands = stands_completed (start s.pages s.first) root_place (words_of (new_heap s)) new_graph refl new_stand;
   }
 
   -- an empty log is legal beside pages that were never stored
-  abbrev pub new_legal : IsLegalLog s [] (first_pages s.pages)
+  abbrev pub new_legal : IsLegalLog (new_heap s)
   new_legal =
       let some = limits.some_log in
       let none = reserve-start s.pages s.first in
@@ -128,7 +128,7 @@ module _ (s : Super) (limits : IsSuper s) where
           room = omega arith;
           size = prefixes.size;
           lsns_size = prefixes.lsns_size;
-          behind = EachLacks-prefixes (origin_of s) [] (first_pages s.pages) (omega arith) prefixes;
+          behind = EachLacks-prefixes (origin_of (new_heap s)) [] (first_pages s.pages) (omega arith) prefixes;
           fit = subst AreOf64Bits (sym (taken_back-settled (start s.pages s.first) (first_contents s.pages) refl)) (fit_first s.pages);
           walked = stands_walked new_stand;
         };
@@ -137,7 +137,7 @@ module _ (s : Super) (limits : IsSuper s) where
       }
 
   -- the root is found in it
-  pub new_found : IsFound s [] (first_pages s.pages) new_legal.shaped true root_place new_graph
+  pub new_found : IsFound (new_heap s) new_legal.shaped true root_place new_graph
   new_found =
-      found_of s [] (first_pages s.pages) new_legal.shaped true root_place [] new_graph (record { holds = new_holds; placed = root_placed; placed_in_completed = root_placed }) (inl refl, tt)
+      found_of (new_heap s) new_legal.shaped true root_place [] new_graph (record { holds = new_holds; placed = root_placed; placed_in_completed = root_placed }) (inl refl, tt)
       (λ by_birth. record { names = new_births; originals = tt })

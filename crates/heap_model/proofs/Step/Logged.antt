@@ -6,7 +6,6 @@ use Rattle.graph_model.specs.declared.event.Event.{Event}
 use Rattle.graph_model.specs.declared.event.Event.TheVariants.{Force, Flip, Scan, Flush}
 use Rattle.graph_model.specs.declared.reply.Refusal.{Refusal}
 use Rattle.graph_model.specs.declared.reply.Reply.{Reply}
-use Rattle.image_plan.specs.declared.superblock.Super.{Super}
 use Rattle.log_records.specs.declared.Record.{Record}
 use Rattle.log_machine.specs.Machine.{put_record}
 use Rattle.log_machine.specs.Origin.{heap_origin, words_from}
@@ -17,13 +16,13 @@ use Rattle.page_redo.specs.Prefix.{EachHoldsPrefix}
 use Rattle.page_redo.proofs.PrefixLaws.{EachHoldsPrefix-append}
 use Rattle.heap_model.specs.Core.{Core, log_origin, all_words, all_records, answer, core_refusal, with_entry, is_dirty, is_ahead, forced, forced_if, page_stored, moved, own_records, barrier_records, done, after_refusal, after, IsStep, IsRun}
 use Rattle.heap_model.specs.CoreCrash.{HasLogWords, IsLogged, IsSuperOf}
-use Rattle.heap_model.specs.Image.{origin_of}
+use Rattle.heap_model.specs.Image.{StoredHeap, origin_of}
 use Rattle.heap_model.proofs.Step.Moved.{moved_keeps}
 use Rattle.heap_model.proofs.Step.Room.{records_of-append}
 
 -- the log of a core begins where that of its superblock does
-pub super_origin : (s : Super) (c : Core) → IsSuperOf s c → origin_of s ≡ log_origin c
-super_origin s c of = ap (λ (pages : ℕ). heap_origin pages s.first) of.pages ∙ ap (heap_origin c.pages) of.first
+pub super_origin : (stored : StoredHeap) (c : Core) → IsSuperOf stored.super c → origin_of stored ≡ log_origin c
+super_origin stored c of = ap (λ (pages : ℕ). heap_origin pages stored.super.first) of.pages ∙ ap (heap_origin c.pages) of.first
 
 -- the words after all records are those that all of them leave
 pub all_logged : (c : Core) → HasLogWords c → all_words c ≡ words_from (log_origin c) (all_records c)

@@ -52,9 +52,9 @@ pub fits_law : FitsTheorem
 fits_law c d events reached sessions run = reached_fits d (run_reached c d events reached sessions run)
 
 pub rollback_law : RollbackTheorem
-rollback_law s batches stored shaped born places g found =
-    let opens = opening_law s batches stored shaped (λ p. 0) born places g found in
-    omega (arith, reached_fits (opened s batches stored (λ p. 0) born places g) opens.reached)
+rollback_law stored shaped born places g found =
+    let opens = opening_law stored shaped (λ p. 0) born places g found in
+    omega (arith, reached_fits (opened stored (λ p. 0) born places g) opens.reached)
 
 -- A seal that makes no object stable.
 

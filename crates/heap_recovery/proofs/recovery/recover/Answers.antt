@@ -23,21 +23,20 @@ pub returns-clause-opens : goal.returns-clause-opens
 returns-clause-opens g c =
     let read = c.in_ok-read.read in
     let found = c.in_ok-read.ensures.read in
-    let batches = found.0 in
-    let stored = found.1 in
-    let is = found.2 in
+    let stored = found.0 in
+    let is = found.1 in
     let roll = c.in_ok-roll_back.ensures in
-    let keeps = c.in_ok-force.ensures.kept batches (rollback read.state) (roll.kept batches is.log) in
-    let opened = recovered read.of batches stored read is c.finish.result c.force.new.self c.roll_back.new.self.cache c.roll_back.new.self.state roll.state (c.force.ensures.at ∙ roll.place) (c.force.ensures.same_room ∙ roll.same_room) roll.pages roll.store keeps c.finish.ensures.log c.finish.ensures.cache c.finish.ensures.state in
-    opened_shaped read.of batches stored read is c.finish.result (cached c.roll_back.new.self.cache).words c.roll_back.new.self.state c.in_ok-fault.fault c.in_ok-read.ensures.room roll.state roll.words c.in_ok-fault.ensures.fit c.in_ok-fault.ensures.passes c.finish.ensures.walked opened
+    let keeps = c.in_ok-force.ensures.kept stored.batches (rollback read.state) (roll.kept stored.batches is.log) in
+    let opened = recovered stored read is c.finish.result c.force.new.self c.roll_back.new.self.cache c.roll_back.new.self.state roll.state (c.force.ensures.at ∙ roll.place) (c.force.ensures.same_room ∙ roll.same_room) roll.pages roll.store keeps c.finish.ensures.log c.finish.ensures.cache c.finish.ensures.state in
+    opened_shaped stored read is c.finish.result (cached c.roll_back.new.self.cache).words c.roll_back.new.self.state c.in_ok-fault.fault c.in_ok-read.ensures.room roll.state roll.words c.in_ok-fault.ensures.fit c.in_ok-fault.ensures.passes c.finish.ensures.walked opened
 
 pub returns-clause-found : goal.returns-clause-found
-returns-clause-found g c tells s batches stored shaped =
+returns-clause-found g c tells stored shaped =
     let read = c.in_ok-read.read in
-    let is = c.in_ok-read.ensures.found tells s batches stored shaped in
+    let is = c.in_ok-read.ensures.found tells stored shaped in
     let roll = c.in_ok-roll_back.ensures in
-    let keeps = c.in_ok-force.ensures.kept batches (rollback read.state) (roll.kept batches is.log) in
-    recovered s batches stored read is c.finish.result c.force.new.self c.roll_back.new.self.cache c.roll_back.new.self.state roll.state (c.force.ensures.at ∙ roll.place) (c.force.ensures.same_room ∙ roll.same_room) roll.pages roll.store keeps c.finish.ensures.log c.finish.ensures.cache c.finish.ensures.state
+    let keeps = c.in_ok-force.ensures.kept stored.batches (rollback read.state) (roll.kept stored.batches is.log) in
+    recovered stored read is c.finish.result c.force.new.self c.roll_back.new.self.cache c.roll_back.new.self.state roll.state (c.force.ensures.at ∙ roll.place) (c.force.ensures.same_room ∙ roll.same_room) roll.pages roll.store keeps c.finish.ensures.log c.finish.ensures.cache c.finish.ensures.state
 
 -- a force writes into the log alone, so the pages are still stored as they were
 pub returns-clause-known : goal.returns-clause-known
@@ -51,19 +50,19 @@ returns-clause-known g c tells =
     let new = d.bytes c.force.new.disk in
     let outside = placed_there read.log c.roll_back.new.self.log (λ n m. SameOutside n (n + m) now new) roll.place roll.same_room (c.in_ok-force.ensures.outside tells) in
     known_found c.finish.result c.roll_back.new.self.cache new c.finish.ensures.cache
-    (known_still read.of found.0 (stored_in read.of image) read found.1 c.roll_back.new.self.cache image now new roll.store (c.in_ok-read.ensures.known tells) (c.read_image.ensures.disk.contents tells).bytes outside)
+    (known_still found.0 read found.1 c.roll_back.new.self.cache image now new roll.store (c.in_ok-read.ensures.known tells) (c.read_image.ensures.disk.contents tells).bytes outside)
 
 pub returns-clause-sound : goal.returns-clause-sound
 returns-clause-sound g c tells =
     let read = c.in_ok-read.read in
     let found = c.in_ok-read.ensures.sound tells in
-    let batches = found.0 in
+    let stored = found.0 in
     let image = g.D.Disk.bytes c.args.disk.now in
     let is = found.1 in
     let roll = c.in_ok-roll_back.ensures in
-    let keeps = c.in_ok-force.ensures.kept batches (rollback read.state) (roll.kept batches is.log) in
-    let opened = recovered read.of batches (stored_in read.of image) read is c.finish.result c.force.new.self c.roll_back.new.self.cache c.roll_back.new.self.state roll.state (c.force.ensures.at ∙ roll.place) (c.force.ensures.same_room ∙ roll.same_room) roll.pages roll.store keeps c.finish.ensures.log c.finish.ensures.cache c.finish.ensures.state in
-    found_on read.of batches image read is found.2 c.finish.result (cached c.roll_back.new.self.cache).words c.roll_back.new.self.state c.in_ok-fault.fault c.in_ok-read.ensures.room roll.state roll.words c.in_ok-fault.ensures.fit c.in_ok-fault.ensures.passes c.finish.ensures.walked opened
+    let keeps = c.in_ok-force.ensures.kept stored.batches (rollback read.state) (roll.kept stored.batches is.log) in
+    let opened = recovered stored read is c.finish.result c.force.new.self c.roll_back.new.self.cache c.roll_back.new.self.state roll.state (c.force.ensures.at ∙ roll.place) (c.force.ensures.same_room ∙ roll.same_room) roll.pages roll.store keeps c.finish.ensures.log c.finish.ensures.cache c.finish.ensures.state in
+    found_on stored image read is found.2 c.finish.result (cached c.roll_back.new.self.cache).words c.roll_back.new.self.state c.in_ok-fault.fault c.in_ok-read.ensures.room roll.state roll.words c.in_ok-fault.ensures.fit c.in_ok-fault.ensures.passes c.finish.ensures.walked opened
 
 -- Until the force the disk is only read.
 
@@ -105,24 +104,23 @@ returns-in_err-force-clause-image g c =
     let found = c.in_ok-read.ensures.sound tells in
     let contents = c.read_image.ensures.disk.contents tells in
     record {
-      s = read.of;
-      batches = found.0;
+      stored = found.0;
       state = read.state;
       readable = found.2;
       told = tt;
       whole = tt;
-      left = λ only. forced_run d.moment d.left_since read.of found.0 (d.bytes old) read found.1 found.2 old mid new (d.may_leave old) (d.may_leave mid) (d.bytes mid) log roll.place roll.same_room (roll.kept found.0 found.1.log) only contents.bytes contents.crash contents.moments (c.force.ensures.moments tells);
-      passes = forced_passes read.of found.0 (stored_in read.of (d.bytes old)) read found.1 log (roll.kept found.0 found.1.log) _ _ _ (Err e) contents.passed (c.in_err-force.ensures.passes tells);
+      left = λ only. forced_run d.moment d.left_since found.0 (d.bytes old) read found.1 found.2 old mid new (d.may_leave old) (d.may_leave mid) (d.bytes mid) log roll.place roll.same_room (roll.kept found.0.batches found.1.log) only contents.bytes contents.crash contents.moments (c.force.ensures.moments tells);
+      passes = forced_passes found.0 read found.1 log (roll.kept found.0.batches found.1.log) _ _ _ (Err e) contents.passed (c.in_err-force.ensures.passes tells);
       now = λ later image left. g.met.D.Disk.counts_now tells new _ image later left;
       synced = λ only. tt;
       synced_damaged = λ only at is. absurd (cc is);
     })
-    (λ tells s batches stored shaped. record {
+    (λ tells stored shaped. record {
       holds = tt;
       gates = tt;
       no_first_stop = λ none stops.
-          let is = c.in_ok-read.ensures.found tells s batches stored shaped in
-          let idle = c.force.ensures.idle (nothing_waits s batches stored read is log (roll.kept batches is.log) none) in
+          let is = c.in_ok-read.ensures.found tells stored shaped in
+          let idle = c.force.ensures.idle (nothing_waits stored read is log (roll.kept stored.batches is.log) none) in
           ap d.stops idle.1 ∙ c.read_image.ensures.disk.no_first_stop stops;
     }))
 
@@ -144,32 +142,31 @@ returns-clause-image g c =
     let contents = c.read_image.ensures.disk.contents tells in
     let synced = λ (only : Only (d.bytes old) (d.may_leave old)). c.in_ok-force.ensures.durable tells (only_still (d.bytes old) (d.bytes mid) (d.may_leave old) (d.may_leave mid) only contents.bytes contents.crash) in
     record {
-      s = read.of;
-      batches = found.0;
+      stored = found.0;
       state = read.state;
       readable = found.2;
       told = finish_told c.finish.result c.in_ok-fault.fault ended.damaged ended.whole (d.bytes old)
-          (λ at is. walk_told read.of found.0 (d.bytes old) read found.1 found.2 c.roll_back.new.self.state roll.state (cached c.roll_back.new.self.cache).words roll.words at (c.in_ok-fault.ensures.fault at is));
+          (λ at is. walk_told found.0 (d.bytes old) read found.1 found.2 c.roll_back.new.self.state roll.state (cached c.roll_back.new.self.cache).words roll.words at (c.in_ok-fault.ensures.fault at is));
       whole = found_whole c.finish.result (d.bytes old) (returns-clause-sound g c tells);
-      left = λ only. forced_run d.moment d.left_since read.of found.0 (d.bytes old) read found.1 found.2 old mid new (d.may_leave old) (d.may_leave mid) (d.bytes mid) log roll.place roll.same_room (roll.kept found.0 found.1.log) only contents.bytes contents.crash contents.moments (c.force.ensures.moments tells);
-      passes = finish_passes c.finish.result c.in_ok-fault.fault ended.damaged ended.whole _ _ _ (forced_passes read.of found.0 (stored_in read.of (d.bytes old)) read found.1 log (roll.kept found.0 found.1.log) _ _ _ (Ok tt) contents.passed (c.in_ok-force.ensures.passes tells));
+      left = λ only. forced_run d.moment d.left_since found.0 (d.bytes old) read found.1 found.2 old mid new (d.may_leave old) (d.may_leave mid) (d.bytes mid) log roll.place roll.same_room (roll.kept found.0.batches found.1.log) only contents.bytes contents.crash contents.moments (c.force.ensures.moments tells);
+      passes = finish_passes c.finish.result c.in_ok-fault.fault ended.damaged ended.whole _ _ _ (forced_passes found.0 read found.1 log (roll.kept found.0.batches found.1.log) _ _ _ (Ok tt) contents.passed (c.in_ok-force.ensures.passes tells));
       now = λ later image left. g.met.D.Disk.counts_now tells new _ image later left;
       synced = λ only. on_ok c.finish.result _ (synced only);
       synced_damaged = λ only. on_damaged c.finish.result _ (synced only);
     })
-    (λ tells s batches stored shaped.
-    let is = c.in_ok-read.ensures.found tells s batches stored shaped in
+    (λ tells stored shaped.
+    let is = c.in_ok-read.ensures.found tells stored shaped in
     let image = d.bytes old in
     let same = (c.read_image.ensures.disk.contents tells).bytes in
-    let stand = placed_there log read.log (λ n m. HoldsBatches (part (d.bytes mid) n m) batches) (sym roll.place) (sym roll.same_room) (held s batches stored read is image (d.bytes mid) shaped.held same) in
-    let holds = (c.in_ok-force.ensures.held tells batches (rollback read.state) (roll.kept batches is.log) stand).1 in
-    let there = placed_there read.log log (λ n m. HoldsBatches (part (d.bytes new) n m) (with_batch batches (rollback read.state))) roll.place roll.same_room holds in
-    let outside = outside_log s batches stored read is image (d.bytes mid) (d.bytes new) same (placed_there read.log log (λ n m. SameOutside n (n + m) (d.bytes mid) (d.bytes new)) roll.place roll.same_room (c.in_ok-force.ensures.outside tells)) in
+    let stand = placed_there log read.log (λ n m. HoldsBatches (part (d.bytes mid) n m) stored.batches) (sym roll.place) (sym roll.same_room) (held stored read is image (d.bytes mid) shaped.held same) in
+    let holds = (c.in_ok-force.ensures.held tells stored.batches (rollback read.state) (roll.kept stored.batches is.log) stand).1 in
+    let there = placed_there read.log log (λ n m. HoldsBatches (part (d.bytes new) n m) (with_batch stored.batches (rollback read.state))) roll.place roll.same_room holds in
+    let outside = outside_log stored read is image (d.bytes mid) (d.bytes new) same (placed_there read.log log (λ n m. SameOutside n (n + m) (d.bytes mid) (d.bytes new)) roll.place roll.same_room (c.in_ok-force.ensures.outside tells)) in
     record {
-      holds = on_ok c.finish.result _ (held_with s batches (rolled_back s batches) stored image (d.bytes new) shaped.held outside (rolled_held s batches stored read is (d.bytes new) there));
+      holds = on_ok c.finish.result _ (held_with stored (rolled_back stored).batches image (d.bytes new) shaped.held outside (rolled_held stored read is (d.bytes new) there));
       -- a force writes into the log alone, so the frames stay as they are
-      gates = on_ok c.finish.result _ (gates_behind_log s.log_bytes image (d.bytes new) outside);
+      gates = on_ok c.finish.result _ (gates_behind_log stored.super.log_bytes image (d.bytes new) outside);
       no_first_stop = λ none stops.
-          let idle = c.force.ensures.idle (nothing_waits s batches stored read is log (roll.kept batches is.log) none) in
+          let idle = c.force.ensures.idle (nothing_waits stored read is log (roll.kept stored.batches is.log) none) in
           ap d.stops idle.1 ∙ c.read_image.ensures.disk.no_first_stop stops;
     })

@@ -7,24 +7,24 @@ use Rattle.heap_recovery.proofs.LogReplay.{was_read, reserve_told, page_told, al
 use Rattle.heap_recovery.proofs.replaying.Replay.finish.Goals as goal
 
 pub returns-then-used-reserve-clause-refused : goal.returns-then-used-reserve-clause-refused
-returns-then-used-reserve-clause-refused c batches image holds is =
+returns-then-used-reserve-clause-refused c stored image holds is =
     let lack : log_room c.args.log < log_used c.args.log + reserve c.args.self.state = omega (arith, c.used.ensures.value, c.reserve.ensures, c.room.ensures, c.if-used-reserve.true) in
-    reserve_told c.args.of batches image c.args.log c.args.self holds is c.in_default.is lack
+    reserve_told stored c.args.log c.args.self is image holds c.in_default.is lack
 
 pub returns-in-Some-first_past-clause-refused : goal.returns-in-Some-first_past-clause-refused
-returns-in-Some-first_past-clause-refused c batches image holds is =
+returns-in-Some-first_past-clause-refused c stored image holds is =
     let enough : log_used c.args.log + reserve c.args.self.state ≤ log_room c.args.log = omega (arith, c.used.ensures.value, c.reserve.ensures, c.room.ensures, c.if-used-reserve.false) in
     let page = c.in-Some-first_past.page in
-    page_told c.args.of batches image c.args.log c.args.self holds is page c.in_default.is enough
+    page_told stored c.args.log c.args.self is image holds page c.in_default.is enough
     (subst (λ (n : ℕ). IsFirstPast n page (cached c.args.self.cache)) c.records.ensures (c.in-Some-first_past.ensures.found page refl))
 
 pub returns-clause-read : goal.returns-clause-read
-returns-clause-read c batches stored is =
+returns-clause-read c stored of is =
     let lacking = subst (λ (n : ℕ). EachLacks (n + 1) (cached c.args.self.cache)) c.records.ensures (c.first_past.ensures.none c.in_default-first_past.is) in
-    was_read c.args.of batches stored c.args.log c.args.self is _ refl refl refl refl c.in_default.is lacking
+    was_read stored c.args.log c.args.self is _ of refl refl refl c.in_default.is lacking
 
 pub returns-clause-readable : goal.returns-clause-readable
-returns-clause-readable c batches image holds is =
+returns-clause-readable c stored image holds is =
     let enough : log_used c.args.log + reserve c.args.self.state ≤ log_room c.args.log = omega (arith, c.used.ensures.value, c.reserve.ensures, c.room.ensures, c.if-used-reserve.false) in
     let lacking = subst (λ (n : ℕ). EachLacks (n + 1) (cached c.args.self.cache)) c.records.ensures (c.first_past.ensures.none c.in_default-first_past.is) in
-    all_readable c.args.of batches image c.args.log c.args.self holds is c.args.self.state refl c.in_default.is enough lacking
+    all_readable stored c.args.log c.args.self is image holds c.args.self.state refl c.in_default.is enough lacking
