@@ -11,12 +11,10 @@ use Rattle.graph_model.specs.Graph.{Graph}
 use Rattle.graph_model.specs.Text.{canon_text}
 use Rattle.graph_words.specs.Places.{Places}
 use Rattle.image_plan.specs.declared.superblock.Super.{Super}
-use Rattle.log_records.specs.declared.Record.{Record}
-use Rattle.page_redo.specs.Pages.{Pages, first_pages}
 use Rattle.heap_core.specs.Format.{IsFormatting}
 use Rattle.heap_model.specs.Core.{Core}
 use Rattle.heap_model.specs.CoreCrash.{IsCommitPrefix}
-use Rattle.heap_model.specs.Image.{IsShaped, IsLegalLog, Holds, Shows}
+use Rattle.heap_model.specs.Image.{StoredHeap, IsShaped, IsLegalLog, Holds, Shows}
 use Rattle.heap_model.specs.Opening.{IsFound, rolled_back}
 use Rattle.heap_model.proofs.Opening.Opened.{legal_shows, saying_law, says_found}
 use Rattle.heap_recovery.specs.Faults.{IsNoHeap}
@@ -29,6 +27,7 @@ use Rattle.heap_program.specs.Stored.{IsStored}
 use Rattle.heap_program.proofs.RefusalLaws.{at_end}
 use Rattle.black_box.specs.Stores.{IsSameDisk, Stores, StoresWritten}
 use Rattle.black_box.specs.Told.{text_of}
+use Rattle.heap_model.specs.NewHeap.{new_heap}
 
 -- an image whose gate is closed is no heap
 closed_no_heap : (image : List ℕ) → IsGateClosed 0 image → IsNoHeap image
@@ -65,17 +64,17 @@ module _ {D : Type 0} (g : Ghosts D) where
   -- The graph that is read from a disk, whatever is found there.
   abbrev pub PrintsEach : D → D → Status → Bool → List ℕ → List ℕ → Type 0
   PrintsEach old new result told text text' =
-      (s : Super) (batches : List (List Record)) (stored : Pages) → (shaped : IsShaped s batches stored (g.bytes old)) → (born : Bool) (places : Places) (graph : Graph) → IsFound s batches stored shaped.log born places graph
-      → PrintsGraph g s batches stored graph old new result told text text'
+      (stored : StoredHeap) → (shaped : IsShaped stored (g.bytes old)) → (born : Bool) (places : Places) (graph : Graph) → IsFound stored shaped.log born places graph
+      → PrintsGraph g stored graph old new result told text text'
 
   -- a disk with a legal log stores the graph that the log shows
-  pub legal_stores : (disk : D) (s : Super) (batches : List (List Record)) (stored : Pages) (legal : IsLegalLog s batches stored) (seen : Graph) → Shows s batches stored legal seen → Holds s batches stored (g.bytes disk) → Only (g.bytes disk) (g.may_leave disk)
+  pub legal_stores : (disk : D) (stored : StoredHeap) (legal : IsLegalLog stored) (seen : Graph) → Shows stored legal seen → Holds stored (g.bytes disk) → Only (g.bytes disk) (g.may_leave disk)
       → (graph : Graph) × Stores g graph disk × (canon graph ≡ canon seen)
-  legal_stores disk s batches stored legal seen shows held only =
-      let found = saying_law s batches stored legal seen shows in (
+  legal_stores disk stored legal seen shows held only =
+      let found = saying_law stored legal seen shows in (
         found.1,
         record {
-          stored = record { super = s; batches = batches; pages = stored; legal = record { log = legal; held = held }; places = found.0; graph = found.1; found = found.2 };
+          stored = record { heap = stored; legal = record { log = legal; held = held }; places = found.0; graph = found.1; found = found.2 };
           is = refl;
           only = only;
         },
@@ -86,7 +85,7 @@ module _ {D : Type 0} (g : Ghosts D) where
   pub prefix_stores : (disk : D) (c : Core) → IsCommitPrefix c (g.bytes disk) → Only (g.bytes disk) (g.may_leave disk) → (graph : Graph) × Stores g graph disk
   prefix_stores disk c kept only =
       let stands = kept.1.stands in
-      let left = legal_stores disk stands.super stands.batches stands.stored stands.says.legal stands.says.seen stands.says.shows stands.held only in
+      let left = legal_stores disk stands.stored stands.says.legal stands.says.seen stands.says.shows stands.held only in
       (left.0, left.1)
 
   -- what is printed of a stored graph is its text, and the disk stores it still
@@ -95,11 +94,11 @@ module _ {D : Type 0} (g : Ghosts D) where
   prints_stored graph old new result told text text' sink stores prints done =
       let it = stores.stored in
       let log = it.legal.log in
-      let shaped : IsShaped it.super it.batches it.pages (g.bytes old) = record { log = log.shaped; held = it.legal.held } in
-      let printed = prints it.super it.batches it.pages shaped true it.places it.graph it.found in
+      let shaped : IsShaped it.heap (g.bytes old) = record { log = log.shaped; held = it.legal.held } in
+      let printed = prints it.heap shaped true it.places it.graph it.found in
       let held = printed.holds done in
-      let says = (says_found it.super it.batches it.pages log it.places it.graph it.found).left in
-      let left = legal_stores new it.super (rolled_back it.super it.batches) it.pages says.legal says.seen says.shows held.0 held.1 in
+      let says = (says_found it.heap log it.places it.graph it.found).left in
+      let left = legal_stores new (rolled_back it.heap) says.legal says.seen says.shows held.0 held.1 in
       let wrote = (printed.written sink).whole done in (
         wrote ∙ ap (λ (x : Graph). text ++ text_of x) stores.is,
         (left.0, left.1, wrote ∙ ap (λ cs. text ++ canon_text cs) (sym (left.2 ∙ says.graph))),
@@ -112,8 +111,8 @@ module _ {D : Type 0} (g : Ghosts D) where
       let there : IsStored (g.bytes again) = subst IsStored (sym same) was in
       (there.graph, record { stored = there; is = refl; only = only })
   formatting_stores s old again was (inr (inr legal)) only heap =
-      let shown = legal_shows s [] (first_pages s.pages) legal.log in
-      let left = legal_stores again s [] (first_pages s.pages) legal.log shown.0 shown.1 legal.held only in
+      let shown = legal_shows (new_heap s) legal.log in
+      let left = legal_stores again (new_heap s) legal.log shown.0 shown.1 legal.held only in
       (left.0, left.1)
 
   -- so it is where a run made no heap

@@ -86,7 +86,7 @@ module _ {D : Type 0} (g : Ghosts D) where
       let kept = played.disk.kept (g.bytes again) leaves in
       let first = kept.1 in
       let stands = first.stands in
-      let there = legal_stores g again stands.super stands.batches stands.stored stands.says.legal stands.says.seen stands.says.shows stands.held only in
+      let there = legal_stores g again stands.stored stands.says.legal stands.says.seen stands.says.shows stands.held only in
       let written = played.prints.written sink in
       let Front : Graph → List Transaction → Type 0 = λ x ts. WroteFront before (lines_text d.history ++ text_of (serial x ts)) after in
       let last = ap (λ n. take n (commits d.history)) (played.prints.all refl) ∙ sealed_first d in

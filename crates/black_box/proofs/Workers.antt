@@ -72,7 +72,7 @@ module _ {D : Type 0} (g : Ghosts D) where
       let kept = played.disk.kept (g.bytes again) leaves in
       let first = kept.1 in
       let stands = first.stands in
-      let there = legal_stores g again stands.super stands.batches stands.stored stands.says.legal stands.says.seen stands.says.shows stands.held only in
+      let there = legal_stores g again stands.stored stands.says.legal stands.says.seen stands.says.shows stands.held only in
       let written = runs.written sink in
       let none = ap (λ (h : List Entry). length h) fresh in (
         plays.lines,

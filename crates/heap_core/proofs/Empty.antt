@@ -19,13 +19,14 @@ use Rattle.image_plan.specs.Super.{IsSuper, superblock}
 use Rattle.heap_core.proofs.Calls.{then_err}
 use Rattle.heap_core.specs.Format.{AreZero, IsEmptyHeap, IsFormatting, zero_writes, format_calls}
 use Rattle.heap_model.proofs.Opening.New.{new_legal}
-use Rattle.page_redo.specs.Pages.{pages_in, first_pages}
+use Rattle.page_redo.specs.Pages.{pages_in}
 use Rattle.page_store.specs.declared.frame.Frame.{Frame}
 use Rattle.page_store.specs.declared.frame.Frame.TheVariants.{First, Second}
 use Rattle.page_store.specs.Frame.{is_frame_open}
 use Rattle.page_store.specs.Page.{frame_of}
 use Rattle.page_cache.proofs.ImageLaws.{none_stored}
 use Rattle.heap_model.specs.Image.{IsLegal}
+use Rattle.heap_model.specs.NewHeap.{new_heap}
 
 -- what is written over the start of an image, after its first byte
 put_front : (t image : List ℕ) → length t ≡ 63 → 64 ≤ length image → filled 0 1 t image ≡ 1 ∷ t ++ drop 64 image
@@ -85,7 +86,7 @@ module _ (s : Super) (image : List ℕ) (large : image_size s.pages s.log_bytes 
   frames_shut zero p low First = gate_shut zero p 0 low (omega arith)
   frames_shut zero p low Second = gate_shut zero p 1 low (omega arith)
 
-  pub empty : IsSuper s → AreZero 64 (image_size s.pages s.log_bytes) image → IsLegal s [] (first_pages s.pages) (filled 0 1 (drop 1 (superblock s)) image)
+  pub empty : IsSuper s → AreZero 64 (image_size s.pages s.log_bytes) image → IsLegal (new_heap s) (filled 0 1 (drop 1 (superblock s)) image)
   empty good zero = record {
     log = new_legal s good;
     held = record {
@@ -124,7 +125,7 @@ zeroing s old d c end shut outside = inl (λ is_open. shut (sym (outside.before 
 -- while the superblock is filled in
 pub filling : (s : Super) (old seen d c : List ℕ) → image_size s.pages s.log_bytes ≤ length seen → IsSuper s → AreZero 64 (image_size s.pages s.log_bytes) seen → IsFilling 0 1 (drop 1 (superblock s)) seen d c → IsFormatting s old c
 filling s old seen d c large good zero fill = elim (cases_eq (get_or c 0 0) 1) [
-  | inl is_open ↦ inr (inr (subst (λ (x : List ℕ). IsLegal s [] (first_pages s.pages) x) (sym (fill.whole is_open)) (empty s seen large good zero)))
+  | inl is_open ↦ inr (inr (subst (λ (x : List ℕ). IsLegal (new_heap s) x) (sym (fill.whole is_open)) (empty s seen large good zero)))
   | inr shut ↦ inl shut
 ]
 

@@ -32,12 +32,8 @@ keeps_entry c event reply b image is same_sealed same_doubt same_acknowledged ke
       k,
       record {
         stands = record {
-          super = first.stands.super;
-          batches = first.stands.batches;
           stored = first.stands.stored;
-          says =
-              subst (λ (ts : List Transaction). Says (serial c.g0 (take k ts)) (c.before + k) first.stands.super first.stands.batches first.stands.stored) (sym all)
-              first.stands.says;
+          says = subst (λ (ts : List Transaction). Says (serial c.g0 (take k ts)) (c.before + k) first.stands.stored) (sym all) first.stands.says;
           held = first.stands.held;
         };
         of = record { limits = first.of.limits; pages = first.of.pages; room = first.of.room; first = first.of.first };

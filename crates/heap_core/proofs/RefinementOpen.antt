@@ -7,13 +7,11 @@ use Rattle.std.specs.FinSet.{contains, contains-empty}
 use Rattle.std.specs.Ordering.{nat_cmp}
 use Rattle.std.proofs.lemmas.List.{append-nil}
 use Rattle.disk_model.specs.Disk.{Only}
-use Rattle.gated_log.specs.Log.{records_of}
 use Rattle.gated_log.specs.LogState.{log_count}
 use Rattle.graph_model.specs.Graph.{Graph}
 use Rattle.graph_model.specs.History.{account, nothing_yet}
 use Rattle.heap_spaces.specs.Collection.{Collection}
 use Rattle.heap_spaces.specs.Spaces.{SpacesState}
-use Rattle.image_plan.specs.declared.superblock.Super.{Super}
 use Rattle.log_records.specs.declared.Record.{Record}
 use Rattle.log_machine.specs.Machine.{State, settled, spaces_of, start, words_in}
 use Rattle.log_machine.specs.Sound.{IsWithin}
@@ -34,7 +32,7 @@ use Rattle.heap_model.specs.CoreCrash.{IsLogged}
 use Rattle.heap_model.proofs.Opening.Opened.{address_found}
 use Rattle.heap_model.proofs.Opening.Rolled.{next_is, commits_are, rolled_reached, redone_words-rolled_back, length-rolled_words, rolled_behind, rolled_prefixes, shaped_spaces}
 use Rattle.heap_model.specs.Core.{state_behind}
-use Rattle.heap_model.specs.Image.{origin_of, IsShapedLog, IsLegalLog, Holds}
+use Rattle.heap_model.specs.Image.{StoredHeap, origin_of, IsShapedLog, IsLegalLog, Holds, records_in}
 use Rattle.heap_model.specs.Opening.{rolled_back, rolled_words, commits_of, opened}
 use Rattle.heap_recovery.specs.declared.recovery.Recovered.{Recovered}
 use Rattle.heap_recovery.specs.Recovered.{IsRecovered}
@@ -53,35 +51,35 @@ use Rattle.heap_core.specs.declared.in_memory.HeapCore.{HeapCore}
 use Rattle.heap_core.proofs.StepCore.{remembers}
 
 -- what was handed on is what the log says once it is rolled back
-state_found : (s : Super) (batches : List (List Record)) (stored : Pages) (found : Recovered) (shaped : IsShapedLog s batches stored) → IsRecovered s batches stored found → found.state ≡ settled shaped.state
-state_found s batches stored found shaped recovered = some_one _ _ (sym recovered.state ∙ rolled_reached s batches stored shaped)
+state_found : (stored : StoredHeap) (found : Recovered) (shaped : IsShapedLog stored) → IsRecovered stored found → found.state ≡ settled shaped.state
+state_found stored found shaped recovered = some_one _ _ (sym recovered.state ∙ rolled_reached stored shaped)
 
 -- as many transactions are committed as the log says
-pub commits_found : (s : Super) (batches : List (List Record)) (stored : Pages) (found : Recovered) (shaped : IsShapedLog s batches stored) → IsRecovered s batches stored found → found.state.commits ≡ commits_of s batches
-commits_found s batches stored found shaped recovered =
-    ap (λ (x : State). x.commits) (state_found s batches stored found shaped recovered) ∙ sym (commits_are s batches stored shaped)
+pub commits_found : (stored : StoredHeap) (found : Recovered) (shaped : IsShapedLog stored) → IsRecovered stored found → found.state.commits ≡ commits_of stored
+commits_found stored found shaped recovered =
+    ap (λ (x : State). x.commits) (state_found stored found shaped recovered) ∙ sym (commits_are stored shaped)
 
 -- the words in memory are those after the opening
-words_found : (s : Super) (batches : List (List Record)) (stored : Pages) (found : Recovered) → IsShapedLog s batches stored → IsRecovered s batches stored found
-    → (cached found.cache).words ≡ rolled_words s batches stored
-words_found s batches stored found shaped recovered = ap (λ (at : Pages). at.words) recovered.cached ∙ redone_words-rolled_back s batches stored shaped
+words_found : (stored : StoredHeap) (found : Recovered) → IsShapedLog stored → IsRecovered stored found
+    → (cached found.cache).words ≡ rolled_words stored
+words_found stored found shaped recovered = ap (λ (at : Pages). at.words) recovered.cached ∙ redone_words-rolled_back stored shaped
 
 -- the LSNs in memory are those after the opening
-lsns_found : (s : Super) (batches : List (List Record)) (stored : Pages) (found : Recovered) → IsShapedLog s batches stored → IsRecovered s batches stored found
-    → length (cached found.cache).lsns ≡ pages_in s.pages
-lsns_found s batches stored found shaped recovered =
-    ap (λ (at : Pages). length at.lsns) recovered.cached ∙ lsns-redo_all 1 stored (records_of (rolled_back s batches)) ∙ shaped.lsns_size
+lsns_found : (stored : StoredHeap) (found : Recovered) → IsShapedLog stored → IsRecovered stored found
+    → length (cached found.cache).lsns ≡ pages_in stored.super.pages
+lsns_found stored found shaped recovered =
+    ap (λ (at : Pages). length at.lsns) recovered.cached ∙ lsns-redo_all 1 stored.pages (records_in (rolled_back stored)) ∙ shaped.lsns_size
 
-lsn_found : (s : Super) (batches : List (List Record)) (stored : Pages) (found : Recovered) → IsShapedLog s batches stored → IsRecovered s batches stored found
-    → (p : ℕ) → p < pages_in s.pages → lsn_of (cached found.cache) p ≡ max (lsn_of stored p) (last_lsn p 1 (records_of (rolled_back s batches)))
-lsn_found s batches stored found shaped recovered p lt =
-    ap (λ (at : Pages). lsn_of at p) recovered.cached ∙ lsn-redo_all 1 stored (records_of (rolled_back s batches)) p (omega (arith, shaped.lsns_size))
+lsn_found : (stored : StoredHeap) (found : Recovered) → IsShapedLog stored → IsRecovered stored found
+    → (p : ℕ) → p < pages_in stored.super.pages → lsn_of (cached found.cache) p ≡ max (lsn_of stored.pages p) (last_lsn p 1 (records_in (rolled_back stored)))
+lsn_found stored found shaped recovered p lt =
+    ap (λ (at : Pages). lsn_of at p) recovered.cached ∙ lsn-redo_all 1 stored.pages (records_in (rolled_back stored)) p (omega (arith, shaped.lsns_size))
 
 -- no page has a record that the log lacks
-next_is_new : (s : Super) (batches : List (List Record)) (stored : Pages) (found : Recovered) → IsShapedLog s batches stored → IsRecovered s batches stored found
+next_is_new : (stored : StoredHeap) (found : Recovered) → IsShapedLog stored → IsRecovered stored found
     → EachLacks (log_count found.log + 1) (cached found.cache)
-next_is_new s batches stored found shaped recovered p =
-    let lacking = EachLacks-redone (origin_of s) (records_of (rolled_back s batches)) stored (rolled_behind s batches stored shaped) p in
+next_is_new stored found shaped recovered p =
+    let lacking = EachLacks-redone (origin_of stored) (records_in (rolled_back stored)) stored.pages (rolled_behind stored shaped) p in
     let same = ap (λ (at : Pages). lsn_of at p) recovered.cached in
     let count = recovered.log.count in
     omega arith
@@ -125,29 +123,29 @@ is_fresh found spaces runs table first m is space run transactions = record {
 }
 
 -- what was found is the core of a heap that has just been opened, whatever graph stands in it
-fresh_memory : (s : Super) (batches : List (List Record)) (stored : Pages) (gates : ℕ → ℕ) (born : Bool) (places : Places) (g : Graph) (found : Recovered) (m : Memory) → (shaped : IsShapedLog s batches stored)
-    → IsRecovered s batches stored found → IsFresh found m → IsMemory m (account (opened s batches stored gates born places g).history) (opened s batches stored gates born places g)
-fresh_memory s batches stored gates born places g found m shaped recovered fresh =
-    let c = opened s batches stored gates born places g in
-    let same_next = ap (λ (x : State). x.next) (state_found s batches stored found shaped recovered) ∙ sym (next_is s batches stored shaped) in
-    let none = append-nil (records_of (rolled_back s batches)) in
+fresh_memory : (stored : StoredHeap) (gates : ℕ → ℕ) (born : Bool) (places : Places) (g : Graph) (found : Recovered) (m : Memory) → (shaped : IsShapedLog stored)
+    → IsRecovered stored found → IsFresh found m → IsMemory m (account (opened stored gates born places g).history) (opened stored gates born places g)
+fresh_memory stored gates born places g found m shaped recovered fresh =
+    let c = opened stored gates born places g in
+    let same_next = ap (λ (x : State). x.next) (state_found stored found shaped recovered) ∙ sym (next_is stored shaped) in
+    let none = append-nil (records_in (rolled_back stored)) in
     record {
       log = rw fresh.log recovered.log;
       place = rw fresh.log recovered.place;
       room = rw fresh.log recovered.room;
-      words = fresh.words ∙ words_found s batches stored found shaped recovered;
+      words = fresh.words ∙ words_found stored found shaped recovered;
       pages = record {
-        number = ap (λ (l : List ℕ). length l) fresh.lsns ∙ lsns_found s batches stored found shaped recovered;
-        now = λ p lt. ap (λ (l : List ℕ). get_or l p 0) fresh.lsns ∙ lsn_found s batches stored found shaped recovered p lt ∙ ap (λ (rs : List Record). max (lsn_of stored p) (last_lsn p 1 rs)) (sym none);
+        number = ap (λ (l : List ℕ). length l) fresh.lsns ∙ lsns_found stored found shaped recovered;
+        now = λ p lt. ap (λ (l : List ℕ). get_or l p 0) fresh.lsns ∙ lsn_found stored found shaped recovered p lt ∙ ap (λ (rs : List Record). max (lsn_of stored.pages p) (last_lsn p 1 rs)) (sym none);
         flushed = λ p lt. ap (λ (x : PageStore). stored_lsn x p) fresh.store ∙ recovered.flushed p lt;
         plan = ap store_plan fresh.store ∙ recovered.plan;
         unfailed = subst (λ (x : PageStore). IsFalse (has_failed x)) (sym fresh.store) recovered.unfailed;
       };
       sessions = record {
         state = settled shaped.state;
-        reached = ap (state_behind c) none ∙ rolled_reached s batches stored shaped;
-        spaces = fresh.spaces ∙ ap spaces_of (state_found s batches stored found shaped recovered);
-        collection = fresh.collection ∙ ap (λ (x : State). x.collection) (state_found s batches stored found shaped recovered);
+        reached = ap (state_behind c) none ∙ rolled_reached stored shaped;
+        spaces = fresh.spaces ∙ ap spaces_of (state_found stored found shaped recovered);
+        collection = fresh.collection ∙ ap (λ (x : State). x.collection) (state_found stored found shaped recovered);
         transactions = none_begun m.table found.state.next fresh.table;
         locks = none_held m.locks c.places g fresh.locks;
         next = ap (λ t. t.next) fresh.table ∙ omega (arith, same_next);
@@ -156,54 +154,54 @@ fresh_memory s batches stored gates born places g found m shaped recovered fresh
     }
 
 -- What was known of the pages that are stored is known of them.
-opened_pages : (s : Super) (batches : List (List Record)) (stored : Pages) (gates : ℕ → ℕ) (born : Bool) (places : Places) (g : Graph) (found : Recovered) (m : Memory) (image : List ℕ)
-    → IsFresh found m → Knows (cache_store found.cache) image → ((p : ℕ) → open_gates s.log_bytes image p ≡ gates p) → KnowsPages (opened s batches stored gates born places g) m image
-opened_pages s batches stored gates born places g found m image fresh knows are = record {
+opened_pages : (stored : StoredHeap) (gates : ℕ → ℕ) (born : Bool) (places : Places) (g : Graph) (found : Recovered) (m : Memory) (image : List ℕ)
+    → IsFresh found m → Knows (cache_store found.cache) image → ((p : ℕ) → open_gates stored.super.log_bytes image p ≡ gates p) → KnowsPages (opened stored gates born places g) m image
+opened_pages stored gates born places g found m image fresh knows are = record {
   frames = subst (λ (x : PageStore). Knows x image) (sym fresh.store) knows;
   gates = are;
 }
 
 -- so the engine that is made of it is that core
-pub opened_engine : {D : Type 0} (d : Ghosts D) (s : Super) (batches : List (List Record)) (stored : Pages) (gates : ℕ → ℕ) (born : Bool) (places : Places) (g : Graph) (found : Recovered) (e : Engine) (disk : D)
-    → (shaped : IsShapedLog s batches stored) → IsRecovered s batches stored found → IsFresh found (memory e) → (IsTrue d.tells → Knows (cache_store found.cache) (d.bytes disk))
-    → (IsTrue d.tells → (p : ℕ) → open_gates s.log_bytes (d.bytes disk) p ≡ gates p) → IsEngine d (opened s batches stored gates born places g) e disk
-opened_engine d s batches stored gates born places g found e disk shaped recovered fresh knows are = record {
+pub opened_engine : {D : Type 0} (d : Ghosts D) (stored : StoredHeap) (gates : ℕ → ℕ) (born : Bool) (places : Places) (g : Graph) (found : Recovered) (e : Engine) (disk : D)
+    → (shaped : IsShapedLog stored) → IsRecovered stored found → IsFresh found (memory e) → (IsTrue d.tells → Knows (cache_store found.cache) (d.bytes disk))
+    → (IsTrue d.tells → (p : ℕ) → open_gates stored.super.log_bytes (d.bytes disk) p ≡ gates p) → IsEngine d (opened stored gates born places g) e disk
+opened_engine d stored gates born places g found e disk shaped recovered fresh knows are = record {
   unfailed = refl;
-  pages = λ told. opened_pages s batches stored gates born places g found (memory e) (d.bytes disk) fresh (knows told) (are told);
-  memory = fresh_memory s batches stored gates born places g found (memory e) shaped recovered fresh;
+  pages = λ told. opened_pages stored gates born places g found (memory e) (d.bytes disk) fresh (knows told) (are told);
+  memory = fresh_memory stored gates born places g found (memory e) shaped recovered fresh;
 }
 
 -- and a heap that is made of that engine
-pub opened_core : {D : Type 0} (d : Ghosts D) (s : Super) (batches : List (List Record)) (stored : Pages) (gates : ℕ → ℕ) (born : Bool) (places : Places) (g : Graph) (found : Recovered) (e : Engine) (core : HeapCore) (disk : D)
-    → (shaped : IsShapedLog s batches stored) → IsRecovered s batches stored found → IsFresh found (memory e) → (IsTrue d.tells → Knows (cache_store found.cache) (d.bytes disk))
-    → (IsTrue d.tells → (p : ℕ) → open_gates s.log_bytes (d.bytes disk) p ≡ gates p) → core.engine ≡ e → core.history.entries ≡ [] → core.before ≡ found.state.commits → core.failed ≡ None
-    → IsCoreOn d (opened s batches stored gates born places g) core disk
-opened_core d s batches stored gates born places g found e core disk shaped recovered fresh knows are same entries before none =
-    let c = opened s batches stored gates born places g in
-    let is = opened_engine d s batches stored gates born places g found e disk shaped recovered fresh knows are in
+pub opened_core : {D : Type 0} (d : Ghosts D) (stored : StoredHeap) (gates : ℕ → ℕ) (born : Bool) (places : Places) (g : Graph) (found : Recovered) (e : Engine) (core : HeapCore) (disk : D)
+    → (shaped : IsShapedLog stored) → IsRecovered stored found → IsFresh found (memory e) → (IsTrue d.tells → Knows (cache_store found.cache) (d.bytes disk))
+    → (IsTrue d.tells → (p : ℕ) → open_gates stored.super.log_bytes (d.bytes disk) p ≡ gates p) → core.engine ≡ e → core.history.entries ≡ [] → core.before ≡ found.state.commits → core.failed ≡ None
+    → IsCoreOn d (opened stored gates born places g) core disk
+opened_core d stored gates born places g found e core disk shaped recovered fresh knows are same entries before none =
+    let c = opened stored gates born places g in
+    let is = opened_engine d stored gates born places g found e disk shaped recovered fresh knows are in
     let here = subst (λ (x : Engine). IsEngine d c x disk) (sym same) is in
-    record { history = entries; before = before ∙ commits_found s batches stored found shaped recovered; memory = remembers d c core.engine disk core.failed none here; engine = λ still. here }
+    record { history = entries; before = before ∙ commits_found stored found shaped recovered; memory = remembers d c core.engine disk core.failed none here; engine = λ still. here }
 
 -- its words are those that a legal log leaves, beside pages that may stand there
-opened_logged : (s : Super) (batches : List (List Record)) (stored : Pages) → IsLegalLog s batches stored → (gates : ℕ → ℕ) (places : Places) (g : Graph) → IsLogged (opened s batches stored gates true places g) stored
-opened_logged s batches stored legal gates places g =
-    let prefixes = rolled_prefixes s batches stored legal in
+opened_logged : (stored : StoredHeap) → IsLegalLog stored → (gates : ℕ → ℕ) (places : Places) (g : Graph) → IsLogged (opened stored gates true places g) stored.pages
+opened_logged stored legal gates places g =
+    let prefixes = rolled_prefixes stored legal in
     record {
-      words = sym (redone_words-rolled_back s batches stored legal.shaped) ∙ redone-words (origin_of s) (length-first_contents s.pages) (records_of (rolled_back s batches)) stored prefixes;
+      words = sym (redone_words-rolled_back stored legal.shaped) ∙ redone-words (origin_of stored) (length-first_contents stored.super.pages) (records_in (rolled_back stored)) stored.pages prefixes;
       prefixes = prefixes;
       lsns = λ p lt. refl;
     }
 
 -- the disk of such a heap holds it
-pub opened_disk_holds : (s : Super) (batches : List (List Record)) (stored : Pages) (gates : ℕ → ℕ) (places : Places) (g : Graph) (new : List ℕ) (may_leave : List ℕ → Type 0) → IsLegalLog s batches stored
-    → Holds s (rolled_back s batches) stored new → Only new may_leave → DiskHolds s (opened s batches stored gates true places g) new may_leave
-opened_disk_holds s batches stored gates places g new may_leave legal held only = record {
+pub opened_disk_holds : (stored : StoredHeap) (gates : ℕ → ℕ) (places : Places) (g : Graph) (new : List ℕ) (may_leave : List ℕ → Type 0) → IsLegalLog stored
+    → Holds (rolled_back stored) new → Only new may_leave → DiskHolds stored.super (opened stored gates true places g) new may_leave
+opened_disk_holds stored gates places g new may_leave legal held only = record {
   born = refl;
   unfailed = λ none. record {
     of = record { limits = legal.shaped.limits; pages = refl; room = refl; first = refl };
     born = refl;
-    stored = stored;
-    logged = opened_logged s batches stored legal gates places g;
+    stored = stored.pages;
+    logged = opened_logged stored legal gates places g;
     held = held;
     only = only;
   };
@@ -228,23 +226,23 @@ gray_within s places remaining words k run laid at gray =
     let below = within.below in
     omega arith
 
-pub opened_bounds : (s : Super) (batches : List (List Record)) (stored : Pages) (found : Recovered) → IsShapedLog s batches stored → IsRecovered s batches stored found → IsBounded found
-opened_bounds s batches stored found shaped recovered =
-    let to = leads_after_all (start s.pages s.first) shaped.state (records_of batches) shaped.reached in
-    let state = state_found s batches stored found shaped recovered in
+pub opened_bounds : (stored : StoredHeap) (found : Recovered) → IsShapedLog stored → IsRecovered stored found → IsBounded found
+opened_bounds stored found shaped recovered =
+    let to = leads_after_all (start stored.super.pages stored.super.first) shaped.state (records_in stored) shaped.reached in
+    let state = state_found stored found shaped recovered in
     let first = shaped.limits.some_first in
     let grows = to.grows in
     let next = ap (λ (x : State). x.next) state in
     let pages = ap (λ (x : State). x.pages) state ∙ to.pages in
     let few = shaped.limits.few_pages in
-    let size = ap length (words_found s batches stored found shaped recovered) ∙ length-rolled_words s batches stored shaped ∙ ap words_in (sym pages) in
+    let size = ap length (words_found stored found shaped recovered) ∙ length-rolled_words stored shaped ∙ ap words_in (sym pages) in
     record {
       next = omega arith;
       size = size;
-      new = next_is_new s batches stored found shaped recovered;
+      new = next_is_new stored found shaped recovered;
       few = omega arith;
       gray = λ k run at gray.
-          let graph = address_found s batches stored shaped in
+          let graph = address_found stored shaped in
           let laid = graph.2.whole.holds.laid in
           let runs : shaped.state.collection ≡ Some k = sym (ap (λ (x : State). x.collection) state) ∙ run in
           let there = gray_within shaped.state _ _ _ k runs laid at gray in
@@ -254,5 +252,5 @@ opened_bounds s batches stored found shaped recovered =
       within = λ k run.
           let same = ap (λ (x : State). x.pages) state in
           subst (λ (n : ℕ). IsWithin n k) (sym same)
-          (subst (λ (o : Option Collection). MatchOption o (Unit {0}) (IsWithin shaped.state.pages)) (sym (ap (λ (x : State). x.collection) state) ∙ run) (shaped_spaces s batches stored shaped).spaced.within);
+          (subst (λ (o : Option Collection). MatchOption o (Unit {0}) (IsWithin shaped.state.pages)) (sym (ap (λ (x : State). x.collection) state) ∙ run) (shaped_spaces stored shaped).spaced.within);
     }

@@ -1,11 +1,11 @@
 -- What happens to a disk's image while an empty heap is written over it.
-use Rattle.std.specs.Prelude.{◌≡◌, ◌⊎◌, ℕ, ◌+◌, ◌-◌, ◌/◌, ◌<◌, ◌≤◌, ◌==◌, List, [], take, slice_index, if◌then◌else◌}
+use Rattle.std.specs.Prelude.{◌≡◌, ◌⊎◌, ℕ, ◌+◌, ◌-◌, ◌/◌, ◌<◌, ◌≤◌, ◌==◌, List, take, slice_index, if◌then◌else◌}
 use Rattle.gate_slot.specs.Gate.{IsGateClosed}
 use Rattle.image_plan.specs.declared.superblock.Super.{Super}
 use Rattle.image_plan.specs.Plan.{image_size}
 use Rattle.image_plan.specs.Super.{superblock}
-use Rattle.page_redo.specs.Pages.{first_pages}
 use Rattle.heap_model.specs.Image.{IsLegal}
+use Rattle.heap_model.specs.NewHeap.{new_heap}
 
 -- the numbers of a heap
 abbrev pub heap_of : ℕ → ℕ → ℕ → Super
@@ -22,7 +22,7 @@ pub record IsEmptyHeap (s : Super) (image : List ℕ) : Type 0 where
 
 -- While an empty heap is made over an old image, a crash leaves no heap, the old image, or the new empty heap.
 abbrev pub IsFormatting : Super → List ℕ → List ℕ → Type 0
-IsFormatting s old image = IsGateClosed 0 image ⊎ (image ≡ old) ⊎ IsLegal s [] (first_pages s.pages) image
+IsFormatting s old image = IsGateClosed 0 image ⊎ (image ≡ old) ⊎ IsLegal (new_heap s) image
 
 -- the writes of `bytes` zeros, in pieces of 65,536 bytes
 abbrev pub zero_writes : ℕ → ℕ

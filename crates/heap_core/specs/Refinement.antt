@@ -4,8 +4,6 @@ use Rattle.disk_model.specs.declared.disk.Disk.{Ghosts}
 use Rattle.graph_model.specs.Graph.{Graph}
 use Rattle.graph_model.specs.History.{account}
 use Rattle.graph_words.specs.Places.{Places}
-use Rattle.log_records.specs.declared.Record.{Record}
-use Rattle.page_redo.specs.Pages.{Pages}
 use Rattle.image_plan.specs.declared.superblock.Super.{Super}
 use Rattle.heap_core.specs.declared.in_memory.Failure.{Failure}
 use Rattle.heap_core.specs.declared.heap.Heap.{Heap}
@@ -18,7 +16,7 @@ pub use Rattle.heap_engine.specs.Refinement.{SameBehind, IsLeftByStep}
 use Rattle.heap_memory.specs.Memory.{own}
 use Rattle.heap_model.specs.Core.{Core}
 use Rattle.memory_laws.specs.CoreMemory.{IsMemory}
-use Rattle.heap_model.specs.Image.{IsShapedLog}
+use Rattle.heap_model.specs.Image.{StoredHeap, IsShapedLog}
 use Rattle.heap_model.specs.Opening.{opened, IsFound}
 
 -- What a heap remembers of a core, even after the disk stopped or failed: at which entry that was, whether records were pending before it, how
@@ -65,8 +63,8 @@ module _ {D : Type 0} {g : Ghosts D} where
 
   -- An open heap is the core that a shaped log encodes beside stored pages, in frames of which this many gates are open, whatever graph stands in it,
   -- under whatever names.
-  abbrev pub IsCoreOfLog : (s : Super) (batches : List (List Record)) (stored : Pages) → IsShapedLog s batches stored → (ℕ → ℕ) → Heap D g → Type 0
-  IsCoreOfLog s batches stored shaped gates heap = (born : Bool) (places : Places) (graph : Graph) → IsFound s batches stored shaped born places graph → IsCore (opened s batches stored gates born places graph) heap
+  abbrev pub IsCoreOfLog : (stored : StoredHeap) → IsShapedLog stored → (ℕ → ℕ) → Heap D g → Type 0
+  IsCoreOfLog stored shaped gates heap = (born : Bool) (places : Places) (graph : Graph) → IsFound stored shaped born places graph → IsCore (opened stored gates born places graph) heap
 
   -- A heap on a modelled disk is a core, in memory and on the disk.
   abbrev pub IsHeap : Super → Core → Heap D g → Type 0

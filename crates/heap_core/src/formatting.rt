@@ -10,7 +10,7 @@ ghost use Rattle.heap_core.specs.declared.errors.FormatError.TheVariants.{TooSma
 ghost use Rattle.heap_core.specs.Format.{AreZero, IsEmptyHeap, IsFormatting, heap_of, zero_writes, format_calls};
 ghost use Rattle.heap_core.specs.GivenBack.{given_back, made_device, device_result, IsFromDisk};
 ghost use Rattle.heap_model.specs.Image.{IsLegal};
-ghost use Rattle.page_redo.specs.Pages.{first_pages};
+ghost use Rattle.heap_model.specs.NewHeap.{new_heap};
 
 use crate::errors::FormatError;
 use crate::heap::Heap;
@@ -39,7 +39,7 @@ impl<D: Disk> Heap<D> {
         ensures small { D.extent disk < image_size pages log_bytes → IsErrAnd result (λ e. e ≡ (TooSmall (D.extent disk) (image_size pages log_bytes), disk)) }
         ensures large { image_size pages log_bytes ≤ D.extent disk → IfErr result (λ e. IsFromDisk e.0) }
 
-        ensures made { IsTrue D.tells → IfOk result (λ made. IsLegal (heap_of pages log_bytes first) [] (first_pages pages) (D.bytes made) × Only (D.bytes made) (D.may_leave made)) }
+        ensures made { IsTrue D.tells → IfOk result (λ made. IsLegal (new_heap (heap_of pages log_bytes first)) (D.bytes made) × Only (D.bytes made) (D.may_leave made)) }
         ensures empty { IsTrue D.tells → IfOk result (λ made. IsEmptyHeap (heap_of pages log_bytes first) (D.bytes made)) }
         // A crash at any moment leaves no heap, the old image, or the new empty heap.
         ensures moments { IsTrue D.tells → Only (D.bytes disk) (D.may_leave disk) → LeavesOnly D.moment D.left_since disk (given_back result) (IsFormatting (heap_of pages log_bytes first) (D.bytes disk)) }
@@ -68,7 +68,7 @@ fn make_empty<D: Disk>(disk: &mut D, of: &Super) -> Result<(), FormatError>
     ensures small { D.extent disk.old < image_size of.now.pages of.now.log_bytes → (result ≡ Err (TooSmall (D.extent disk.old) (image_size of.now.pages of.now.log_bytes))) × (disk.new ≡ disk.old) }
     ensures large { image_size of.now.pages of.now.log_bytes ≤ D.extent disk.old → IfErr result IsFromDisk }
 
-    ensures made { IsTrue D.tells → OnOk result (IsLegal of.now [] (first_pages of.now.pages) (D.bytes disk.new)) }
+    ensures made { IsTrue D.tells → OnOk result (IsLegal (new_heap of.now) (D.bytes disk.new)) }
     ensures empty { IsTrue D.tells → OnOk result (IsEmptyHeap of.now (D.bytes disk.new)) }
     ensures durable { IsTrue D.tells → OnOk result (Only (D.bytes disk.new) (D.may_leave disk.new)) }
     ensures moments { IsTrue D.tells → Only (D.bytes disk.old) (D.may_leave disk.old) → LeavesOnly D.moment D.left_since disk.old disk.new (IsFormatting of.now (D.bytes disk.old)) }
@@ -89,7 +89,7 @@ fn write_empty<D: Disk>(disk: &mut D, of: &Super) -> Result<(), DiskError>
     requires good { IsSuper of.now }
     requires inside { image_size of.now.pages of.now.log_bytes ≤ D.extent disk.old }
 
-    ensures made { IsTrue D.tells → OnOk result (IsLegal of.now [] (first_pages of.now.pages) (D.bytes disk.new)) }
+    ensures made { IsTrue D.tells → OnOk result (IsLegal (new_heap of.now) (D.bytes disk.new)) }
     ensures empty { IsTrue D.tells → OnOk result (IsEmptyHeap of.now (D.bytes disk.new)) }
     ensures durable { IsTrue D.tells → OnOk result (Only (D.bytes disk.new) (D.may_leave disk.new)) }
     ensures moments { IsTrue D.tells → Only (D.bytes disk.old) (D.may_leave disk.old) → LeavesOnly D.moment D.left_since disk.old disk.new (IsFormatting of.now (D.bytes disk.old)) }

@@ -1,5 +1,5 @@
 //! The heap: events on an image, each of them one step.
-ghost use Rattle.std.specs.Prelude.{◌≡◌, ◌≢◌, ◌↔◌, ◌+◌, ◌<◌, ℕ, List, [], ◌∷◌, ◌++◌, length, min, is_some, true, None, Ok, Err, IsTrue, IsOk, IfOk, IfErr, MatchResult, OnErr};
+ghost use Rattle.std.specs.Prelude.{◌≡◌, ◌≢◌, ◌↔◌, ◌+◌, ◌<◌, ℕ, [], ◌∷◌, ◌++◌, length, min, is_some, true, None, Ok, Err, IsTrue, IsOk, IfOk, IfErr, MatchResult, OnErr};
 ghost use Rattle.counts.specs.Count.{greatest};
 ghost use Rattle.disk_model.specs.Disk.{Only};
 ghost use Rattle.disk_model.specs.Keeps.{KeepsDisk};
@@ -12,9 +12,7 @@ ghost use Rattle.graph_model.specs.History.{IsOfSession};
 ghost use Rattle.graph_model.specs.History.{account, commits, sealed};
 ghost use Rattle.graph_model.specs.Transaction.{serial, serial_replies};
 ghost use Rattle.image_plan.specs.declared.superblock.Super.{Super};
-ghost use Rattle.log_records.specs.declared.Record.{Record};
-ghost use Rattle.page_redo.specs.Pages.{Pages};
-ghost use Rattle.heap_model.specs.Image.{IsShapedLog, IsShaped, IsLegal};
+ghost use Rattle.heap_model.specs.Image.{StoredHeap, IsShapedLog, IsShaped, IsLegal};
 ghost use Rattle.graph_words.specs.Places.{Places};
 ghost use Rattle.heap_model.specs.Opening.{opened, IsFound};
 ghost use Rattle.heap_core.specs.Ending.{EndsAsTold, TakesNoMemory};
@@ -58,15 +56,15 @@ impl<D: Disk> Heap<D> {
         ensures image { OpensImage D.Disk disk (opened_disk result) (opened_outcome result) }
 
         // What is opened is the core that a shaped log encodes beside stored pages: the log and the pages that were read.
-        ensures opens { IfOk result (λ heap. (s : Super) × (batches : List (List Record)) × (stored : Pages) × (gates : ℕ → ℕ) × (shaped : IsShapedLog s batches stored) × IsCoreOfLog s batches stored shaped gates heap) }
+        ensures opens { IfOk result (λ heap. (stored : StoredHeap) × (gates : ℕ → ℕ) × (shaped : IsShapedLog stored) × IsCoreOfLog stored shaped gates heap) }
 
         ensures unfailed { IfOk result (λ heap. failed_at heap ≡ None) }
 
         // On a modelled disk they are those of its image.
-        ensures sound { IsTrue D.tells → IfOk result (λ heap. (s : Super) × (batches : List (List Record)) × (stored : Pages) × (shaped : IsShaped s batches stored (D.bytes disk)) × IsCoreOfLog s batches stored shaped.log (open_gates s.log_bytes (D.bytes disk)) heap) }
+        ensures sound { IsTrue D.tells → IfOk result (λ heap. (stored : StoredHeap) × (shaped : IsShaped stored (D.bytes disk)) × IsCoreOfLog stored shaped.log (open_gates stored.super.log_bytes (D.bytes disk)) heap) }
         // Of a shaped image they are the log and the pages that the disk holds; if that is legal the disk then holds the core.
-        ensures found { IsTrue D.tells → (s : Super) (batches : List (List Record)) (stored : Pages) → (shaped : IsShaped s batches stored (D.bytes disk)) → IfOk result (IsCoreOfLog s batches stored shaped.log (open_gates s.log_bytes (D.bytes disk))) }
-        ensures holds { IsTrue D.tells → (s : Super) (batches : List (List Record)) (stored : Pages) → (legal : IsLegal s batches stored (D.bytes disk)) → Only (D.bytes disk) (D.may_leave disk) → IfOk result (λ heap. (places : Places) (g : Graph) → IsFound s batches stored legal.log.shaped true places g → IsHeap s (opened s batches stored (open_gates s.log_bytes (D.bytes disk)) true places g) heap) }
+        ensures found { IsTrue D.tells → (stored : StoredHeap) → (shaped : IsShaped stored (D.bytes disk)) → IfOk result (IsCoreOfLog stored shaped.log (open_gates stored.super.log_bytes (D.bytes disk))) }
+        ensures holds { IsTrue D.tells → (stored : StoredHeap) → (legal : IsLegal stored (D.bytes disk)) → Only (D.bytes disk) (D.may_leave disk) → IfOk result (λ heap. (places : Places) (g : Graph) → IsFound stored legal.log.shaped true places g → IsHeap stored.super (opened stored (open_gates stored.super.log_bytes (D.bytes disk)) true places g) heap) }
     {
         // The table is allocated before the disk is written.
         let mut table = match TxnTable::new(alloc) {

@@ -23,7 +23,7 @@ use Rattle.page_store.specs.declared.store.PageStore.{PageStore}
 use Rattle.page_store.specs.Gates.{open_gates}
 use Rattle.page_store.specs.StoreState.{store_size, has_failed, Knows}
 use Rattle.heap_model.specs.Core.{Core, core_refusal, answer, barrier_records, forced, done, after_refusal, after, calls, moved, own_records, AsksDisk}
-use Rattle.heap_model.specs.CoreCrash.{IsLogged, IsSuperOf, IsCommitPrefix}
+use Rattle.heap_model.specs.CoreCrash.{held_of, IsLogged, IsSuperOf, IsCommitPrefix}
 use Rattle.heap_model.proofs.Step.Logged.{logged_step}
 use Rattle.heap_model.proofs.Step.Moved.{moved_is, moved_keeps}
 use Rattle.heap_model.proofs.Run.Calls.{same_step}
@@ -93,7 +93,7 @@ disk_stays s c event image may_leave other disk =
       born = born_after c event disk.born;
       stored = disk.stored;
       logged = logged_after c event disk.stored (quiet_flush event other) disk.logged;
-      held = let P : List (List Record) → Type 0 = λ bs. Holds s bs disk.stored image in subst P (sym same.batches) disk.held;
+      held = let P : List (List Record) → Type 0 = λ bs. Holds (record { super = s; batches = bs; pages = disk.stored }) image in subst P (sym same.batches) disk.held;
       only = disk.only;
     }
 
@@ -137,8 +137,8 @@ knows_as c m n image store pages = record {
 -- a crash of a disk that holds a core leaves a commit prefix
 pub disk_keeps : (s : Super) (c : Core) (image : List ℕ) (may_leave : List ℕ → Type 0) → OnDisk s c image may_leave → IsSound c → (d : List ℕ) → may_leave d → IsCommitPrefix c d
 disk_keeps s c image may_leave disk sound d left =
-    crash_law c s c.batches disk.stored sound disk.born disk.logged.words (prefixes_on c c.batches disk.stored disk.logged (inl refl)) (inl refl) disk.of d
-    (subst (λ (x : List ℕ). Holds s c.batches disk.stored x) (sym (disk.only d left)) disk.held)
+    crash_law c (held_of s c disk.stored) sound disk.born disk.logged.words (prefixes_on c c.batches disk.stored disk.logged (inl refl)) (inl refl) disk.of d
+    (subst (Holds (held_of s c disk.stored)) (sym (disk.only d left)) disk.held)
 
 -- and the bytes past its plan
 pub disk_leaves : (s : Super) (c : Core) (image : List ℕ) (may_leave : List ℕ → Type 0) → OnDisk s c image may_leave → IsSound c → (d : List ℕ) → may_leave d → IsLeftByStep c image d

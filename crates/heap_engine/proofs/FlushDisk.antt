@@ -19,10 +19,10 @@ use Rattle.page_redo.specs.Redo.{last_lsn, redone}
 use Rattle.page_redo.proofs.RedoLaws.{lsn-redone}
 use Rattle.page_store.specs.Page.{HasPage, SamePage, SameButPage, IsStoring}
 use Rattle.heap_model.specs.Core.{Core, log_origin, all_records, all_words, present_lsn, forced_if, page_stored}
-use Rattle.heap_model.specs.CoreCrash.{IsLogged, IsSuperOf, IsOnDisk}
+use Rattle.heap_model.specs.CoreCrash.{held_of, IsLogged, IsSuperOf, IsOnDisk}
 use Rattle.heap_model.proofs.Step.Logged.{super_origin, all_logged, logged_forced}
 use Rattle.heap_model.proofs.Step.Room.{forced-with_batch, records_of-with_batch}
-use Rattle.heap_model.specs.Image.{origin_of, Holds}
+use Rattle.heap_model.specs.Image.{Holds}
 
 -- what holds where a call came through
 pub on_ok : {T E P Q : Type 0} (result : Result T E) → (P → Q) → OnOk result P → OnOk result Q
@@ -90,20 +90,20 @@ module _ (s : Super) (d : Core) (p : ℕ) (of : IsSuperOf s d) (lt : p < pages_i
       subst (λ (rs : List Record). HoldsPrefix o rs p (present_lsn d p) (page_words (all_words d) p)) (take_at records d.pending (length records) refl)
       (HoldsPrefix-take o all (length records) p (present_lsn d p) (page_words (all_words d) p) here behind)
 
-  module _ (old new : List ℕ) (held : Holds s d.batches stored old) where
+  module _ (old new : List ℕ) (held : Holds (held_of s d stored) old) where
     -- a crash leaves pages that may stand beside the log
     pub storing_prefixes : IsStoring s.log_bytes p (present_lsn d p) (page_words (all_words d) p) old new → EachHoldsPrefix (log_origin d) (records_of d.batches) (stored_pages s.pages s.log_bytes new)
     storing_prefixes storing =
         let records : List Record = records_of d.batches in
-        let same = super_origin s d of in
+        let same = super_origin (held_of s d stored) d of in
         let before = subst (λ (at : Pages). EachHoldsPrefix (log_origin d) records at) (sym held.pages) logged.prefixes in
         subst (λ (o : Origin). EachHoldsPrefix o records (stored_pages s.pages s.log_bytes new)) same
-        (EachHoldsPrefix-storing (origin_of s) s.log_bytes records p (present_lsn d p) (page_words (all_words d) p) old new
+        (EachHoldsPrefix-storing (heap_origin s.pages s.first) s.log_bytes records p (present_lsn d p) (page_words (all_words d) p) old new
         (subst (λ (o : Origin). EachHoldsPrefix o records (stored_pages s.pages s.log_bytes old)) (sym same) before)
         (subst (λ (o : Origin). HoldsPrefix o records p (present_lsn d p) (page_words (all_words d) p)) (sym same) holds_prefix) storing)
 
     -- and the superblock and the log as they were
-    pub storing_held : SameButPage s.log_bytes p old new → Holds s d.batches (stored_pages s.pages s.log_bytes new) new
+    pub storing_held : SameButPage s.log_bytes p old new → Holds (held_of s d (stored_pages s.pages s.log_bytes new)) new
     storing_held but = record {
       size = omega (arith, held.size, but.size);
       super = same_part 0 64 old new but.size (λ i low high. but.before i (omega (arith, high))) ∙ held.super;

@@ -25,7 +25,7 @@ use Rattle.page_store.proofs.GateLaws.{gates_behind_log}
 use Rattle.page_store.proofs.StoreLaws.{knows_behind_log}
 use Rattle.page_store.specs.StoreState.{store_log, Knows}
 use Rattle.heap_model.specs.Core.{Core, all_words, core_refusal, answer, with_entry, done, after_refusal, after, force_calls, calls}
-use Rattle.heap_model.specs.CoreCrash.{IsLogged, IsOnDisk, IsCommitPrefix}
+use Rattle.heap_model.specs.CoreCrash.{held_of, IsLogged, IsOnDisk, IsCommitPrefix}
 use Rattle.heap_model.proofs.Step.Room.{forced-with_batch}
 use Rattle.heap_model.proofs.Opening.Held.{held_with}
 use Rattle.heap_model.proofs.Outside.{outside_within}
@@ -71,7 +71,7 @@ disk_forced s c old new may_leave' may_leave valid disk outside holds only =
       born = disk.born;
       stored = disk.stored;
       logged = subst (λ d. IsLogged (with_entry d Force (answer c Force)) disk.stored) forced_now logged;
-      held = held_with s c.batches (with_batch c.batches c.pending) disk.stored old new disk.held outside holds;
+      held = held_with (held_of s c disk.stored) (with_batch c.batches c.pending) old new disk.held outside holds;
       only = only;
     })
 
@@ -146,8 +146,8 @@ module _ (c : Core) (w : Engine) (log : Log) (works : IsMemory (memory w) (accou
 
     kept_batches : (bs : List (List Record)) (image : List ℕ) → IsSound c → IsOnDisk c bs → SameOutside 64 (64 + s.log_bytes) old image → HoldsBatches (part image (log_place log) (log_room log)) bs → IsCommitPrefix c image
     kept_batches bs image sound on outside held =
-        crash_law c s bs disk.stored sound disk.born disk.logged.words (prefixes_on c bs disk.stored disk.logged on) on disk.of image
-        (held_with s c.batches bs disk.stored old image disk.held outside (let P : ℕ → ℕ → Type 0 = λ n m. HoldsBatches (part image n m) bs in in_log P held))
+        crash_law c (record { super = s; batches = bs; pages = disk.stored }) sound disk.born disk.logged.words (prefixes_on c bs disk.stored disk.logged on) on disk.of image
+        (held_with (held_of s c disk.stored) bs old image disk.held outside (let P : ℕ → ℕ → Type 0 = λ n m. HoldsBatches (part image n m) bs in in_log P held))
 
     -- what a crash leaves during a force is a commit prefix
     pub force_keeps : (image : List ℕ) → IsSound c → SameOutside (log_place log) (log_place log + log_room log) old image × (HoldsBatches (part image (log_place log) (log_room log)) c.batches ⊎ HoldsBatches (part image (log_place log) (log_room log)) (with_batch c.batches c.pending))

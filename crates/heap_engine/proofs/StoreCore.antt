@@ -27,7 +27,7 @@ use Rattle.page_store.specs.Page.{HasPage, SamePage, SameButPage, IsStoring}
 use Rattle.page_store.specs.StoreState.{store_plan, stored_entry, stored_lsn, has_failed, Knows}
 use Rattle.heap_memory.specs.Memory.{Memory}
 use Rattle.heap_model.specs.Core.{Core, log_origin, all_words, present_lsn, is_dirty, is_ahead, forced_if, page_stored, flushed, force_calls, store_calls, flush_calls}
-use Rattle.heap_model.specs.CoreCrash.{IsCommitPrefix, IsLogged, IsSuperOf}
+use Rattle.heap_model.specs.CoreCrash.{held_of, IsCommitPrefix, IsLogged, IsSuperOf}
 use Rattle.heap_model.proofs.Opening.Held.{held_with}
 use Rattle.heap_model.proofs.Outside.{outside_within, outside_then}
 use Rattle.heap_model.proofs.Step.Room.{forced-with_batch}
@@ -192,9 +192,9 @@ module _ (c : Core) (w : Engine) (p : ℕ) (works : IsMemory (memory w) (account
     logged : IsLogged (ready c p) disk.stored
     logged = logged_if (is_ahead c p) c disk.stored disk.logged
 
-    held : Holds s (ready c p).batches disk.stored mid
+    held : Holds (held_of s (ready c p) disk.stored) mid
     held =
-        held_with s c.batches (ready c p).batches disk.stored old mid disk.held (in_log (λ n m. SameOutside n (n + m) old mid) outside)
+        held_with (held_of s c disk.stored) (ready c p).batches old mid disk.held (in_log (λ n m. SameOutside n (n + m) old mid) outside)
         (in_log (λ n m. HoldsBatches (part mid n m) (ready c p).batches) forced)
 
     -- a crash while the page is stored leaves a commit prefix
@@ -202,7 +202,7 @@ module _ (c : Core) (w : Engine) (p : ℕ) (works : IsMemory (memory w) (account
     store_keeps image sound storing =
         let here = as_core (λ n k ws. IsStoring n p k ws mid image) storing in
         let beside = storing_prefixes s (ready c p) p super_is there behind disk.stored logged mid image held here in
-        crash_law c s (ready c p).batches (stored_pages s.pages s.log_bytes image) sound disk.born disk.logged.words
+        crash_law c (held_of s (ready c p) (stored_pages s.pages s.log_bytes image)) sound disk.born disk.logged.words
         (subst (λ (o : Origin). EachHoldsPrefix o (records_of (ready c p).batches) (stored_pages s.pages s.log_bytes image)) (origin_forced c (ready c p) same) beside) same.on disk.of image
         (storing_held s (ready c p) p super_is there behind disk.stored logged mid image held here.outside)
 

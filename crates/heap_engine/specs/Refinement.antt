@@ -11,7 +11,7 @@ use Rattle.image_plan.specs.Plan.{image_size}
 use Rattle.core_laws.specs.Valid.{IsReached}
 use Rattle.heap_memory.specs.Memory.{Memory, own}
 use Rattle.heap_model.specs.Core.{Core, answer, after, calls}
-use Rattle.heap_model.specs.CoreCrash.{IsLogged, IsSuperOf, IsCommitPrefix}
+use Rattle.heap_model.specs.CoreCrash.{held_of, IsLogged, IsSuperOf, IsCommitPrefix}
 use Rattle.heap_model.specs.Image.{Holds}
 use Rattle.memory_laws.specs.CoreMemory.{IsMemory}
 use Rattle.page_redo.specs.Pages.{Pages}
@@ -35,7 +35,7 @@ pub record OnDisk (s : Super) (c : Core) (image : List â„•) (may_leave : List â„
   pub born : IsTrue c.born
   pub stored : Pages
   pub logged : IsLogged c stored
-  pub held : Holds s c.batches stored image
+  pub held : Holds (held_of s c stored) image
   pub only : Only image may_leave
 
 -- an image that has each byte past the plan of a core's heap as it was in another

@@ -1,12 +1,10 @@
 -- Over a whole run each byte past the plan stays as it was.
-use Rattle.std.proofs.Common.{◌≡◌, inl, inr, ⊎_elim, ℕ, ◌+◌, ◌≤◌, List, [], ◌∷◌, Option, refl, sym, subst, arith}
+use Rattle.std.proofs.Common.{◌≡◌, inl, inr, ⊎_elim, ℕ, ◌+◌, ◌≤◌, List, [], ◌∷◌, Option, sym, subst, arith}
 use Rattle.disk_model.specs.declared.disk.Disk.{Ghosts}
 use Rattle.disk_model.specs.Moments.{LeavesOnly}
 use Rattle.disk_model.proofs.MomentLaws.{begins, weaker}
 use Rattle.graph_model.specs.declared.event.Event.{Event}
-use Rattle.image_plan.specs.declared.superblock.Super.{Super}
 use Rattle.image_plan.specs.Plan.{image_size, log_offset}
-use Rattle.log_records.specs.declared.Record.{Record}
 use Rattle.heap_core.specs.Refinement.{SameBehind, IsLeftByStep}
 use Rattle.heap_model.specs.Core.{Core}
 use Rattle.heap_model.specs.CoreCrash.{StandsForFirst, IsCommitPrefix, IsSuperOf}
@@ -18,6 +16,7 @@ use Rattle.heap_program.specs.Headline.{KeepsFirst}
 use Rattle.heap_core.specs.Steps.{AreSteps}
 use Rattle.heap_program.specs.Steps.{Step}
 use Rattle.heap_program.proofs.PlayOpen.{opening_then}
+use Rattle.heap_model.specs.Image.{StoredHeap}
 
 -- A core has the plan of the one that it comes from.
 pub behind_on : (c d : Core) (base image : List ℕ) → SameOpening c d → SameBehind c base image → SameBehind d base image
@@ -42,10 +41,10 @@ module _ {D : Type 0} (g : Ghosts D) where
   }
 
   -- An opening writes in the log alone.
-  pub opening_behind : (c : Core) (s : Super) (batches : List (List Record)) (base : List ℕ) (old new : D) → IsSuperOf s c → LeavesOnly g.moment g.left_since old new (IsLogLeft s batches base) → LeavesOnly g.moment g.left_since old new (SameBehind c base)
-  opening_behind c s batches base old new of moments =
-      weaker g.moment g.left_since old new (IsLogLeft s batches base) (SameBehind c base) moments
-      (λ image left. outside_within log_offset (log_offset + s.log_bytes) 0 (image_size c.pages c.room) base image (omega arith) (omega (arith, of.pages, of.room)) left.1)
+  pub opening_behind : (c : Core) (stored : StoredHeap) (base : List ℕ) (old new : D) → IsSuperOf stored.super c → LeavesOnly g.moment g.left_since old new (IsLogLeft stored base) → LeavesOnly g.moment g.left_since old new (SameBehind c base)
+  opening_behind c stored base old new of moments =
+      weaker g.moment g.left_since old new (IsLogLeft stored base) (SameBehind c base) moments
+      (λ image left. outside_within log_offset (log_offset + stored.super.log_bytes) 0 (image_size c.pages c.room) base image (omega arith) (omega (arith, of.pages, of.room)) left.3)
 
   -- After a restart openings leave commit prefixes, and the bytes past the plan of an image that the crash left.
   pub first_leaves : (c : Core) (k : ℕ) (base : List ℕ) (old new : D) → SameBehind c base (g.bytes old) → KeepsFirst g c k old new → LeavesOnly g.moment g.left_since old new (IsLeftByStep c base)

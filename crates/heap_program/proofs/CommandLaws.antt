@@ -1,20 +1,18 @@
 -- What the command says of a run.
-use Rattle.std.proofs.Common.{◌≡◌, ◌≢◌, inl, ℕ, ◌+◌, List, Bool, Option, Some, None, refl, sym, subst, arith}
+use Rattle.std.proofs.Common.{◌≡◌, ◌≢◌, ℕ, ◌+◌, List, Bool, Option, Some, None, refl, sym, subst, arith}
 use Rattle.disk_model.specs.declared.disk.Disk.{Ghosts}
-use Rattle.disk_model.specs.Disk.{Only, SameOutside}
+use Rattle.disk_model.specs.Disk.{Only}
 use Rattle.disk_model.proofs.MomentLaws.{begins}
 use Rattle.graph_model.specs.Graph.{Graph}
-use Rattle.image_plan.specs.declared.superblock.Super.{Super}
 use Rattle.image_plan.specs.Plan.{log_offset}
 use Rattle.heap_recovery.proofs.FaultLaws.{same_outside}
-use Rattle.log_records.specs.declared.Record.{Record}
 use Rattle.command_words.specs.declared.commands.Command.{Command}
 use Rattle.command_words.specs.declared.commands.Command.TheVariants as asked
 use Rattle.command_words.specs.declared.commands.CommandError.{CommandError}
 use Rattle.command_words.specs.declared.commands.CommandError.TheVariants as asking
 use Rattle.command_words.specs.declared.commands.Stop.{Stop}
-use Rattle.page_redo.specs.Pages.{Pages}
-use Rattle.heap_model.specs.Image.{Holds}
+use Rattle.heap_model.proofs.Opening.Held.{left_as_found}
+use Rattle.heap_model.specs.Image.{StoredHeap, Holds, SameOutsideLog}
 use Rattle.heap_model.specs.Opening.{IsLeftByOpening}
 use Rattle.heap_program.specs.declared.status.Status.{Status}
 use Rattle.heap_program.specs.declared.status.Status.TheVariants as status
@@ -47,16 +45,16 @@ command_not_refused asking.NoMemory is = cc
 
 -- Memory ran out while the words were read: nothing was done.
 pub graph_unread : {D : Type 0} (g : Ghosts D) (disk : D) (e : CommandError) (words : Option Command) → words ≡ Some asked.Graph → (e ≡ asking.Usage → words ≡ None) → (by : Status) → by ≡ command_status e
-    → ((image : List ℕ) → g.left_since disk (g.moment disk) image → g.may_leave disk image) → Only (g.bytes disk) (g.may_leave disk) → (s : Super) (batches : List (List Record)) (stored : Pages) (graph : Graph) → Holds s batches stored (g.bytes disk)
-    → (told : Bool) (before : List ℕ) → PrintsGraph g s batches stored graph disk disk by told before before
-graph_unread g disk asking.Usage words is usage by by_is now only s batches stored graph held told before = let none : words ≡ None = usage refl in cc
-graph_unread g disk asking.NoMemory words is usage by by_is now only s batches stored graph held told before =
-    let still : (image : List ℕ) → g.may_leave disk image → IsLeftByOpening s batches stored image = λ image may. inl (subst (Holds s batches stored) (sym (only image may)) held) in
+    → ((image : List ℕ) → g.left_since disk (g.moment disk) image → g.may_leave disk image) → Only (g.bytes disk) (g.may_leave disk) → (stored : StoredHeap) (graph : Graph) → Holds stored (g.bytes disk)
+    → (told : Bool) (before : List ℕ) → PrintsGraph g stored graph disk disk by told before before
+graph_unread g disk asking.Usage words is usage by by_is now only stored graph held told before = let none : words ≡ None = usage refl in cc
+graph_unread g disk asking.NoMemory words is usage by by_is now only stored graph held told before =
+    let still : (image : List ℕ) → g.may_leave disk image → IsLeftByOpening stored image = λ image may. left_as_found (subst (Holds stored) (sym (only image may)) held) in
     record {
-      moments = begins g.moment g.left_since disk (IsLeftByOpening s batches stored) (λ image since. still image (now image since));
+      moments = begins g.moment g.left_since disk (IsLeftByOpening stored) (λ image since. still image (now image since));
       left = still;
-      outside = begins g.moment g.left_since disk (SameOutside log_offset (log_offset + s.log_bytes) (g.bytes disk))
-          (λ image since. subst (SameOutside log_offset (log_offset + s.log_bytes) (g.bytes disk)) (sym (only image (now image since))) (same_outside log_offset (log_offset + s.log_bytes) (g.bytes disk)));
+      outside = begins g.moment g.left_since disk (SameOutsideLog stored.super (g.bytes disk))
+          (λ image since. subst (SameOutsideLog stored.super (g.bytes disk)) (sym (only image (now image since))) (same_outside log_offset (log_offset + stored.super.log_bytes) (g.bytes disk)));
       calls = record { times = 0; most = omega arith; all = λ done. cc; told = refl };
       restarts = refl;
       holds = λ done. cc;

@@ -20,7 +20,7 @@ use Rattle.core_laws.specs.Valid.{IsReached}
 use Rattle.heap_model.proofs.Step.Calls.{whole_run, run_step}
 use Rattle.page_redo.specs.Pages.{first_pages}
 use Rattle.page_store.specs.Gates.{open_gates}
-use Rattle.heap_model.specs.NewHeap.{root_place}
+use Rattle.heap_model.specs.NewHeap.{new_heap, root_place}
 use Rattle.heap_model.proofs.Opening.New.{new_legal, new_found}
 use Rattle.heap_model.proofs.ListLaws.{AllByRecursion-behind}
 use Rattle.heap_model.specs.Ending.{all_events}
@@ -36,7 +36,7 @@ made_limits pages some few = record { some_pages = some; few_pages = few; some_l
 
 -- a new heap is reached
 pub made_reached : (pages : ℕ) (image : List ℕ) → IsSuper (made_super pages) → IsReached (made_core pages image)
-made_reached pages image limits = opened_reached (made_super pages) [] (first_pages pages) (new_legal (made_super pages) limits).shaped (open_gates 1048576 image) true root_place new_graph (new_found (made_super pages) limits)
+made_reached pages image limits = opened_reached (new_heap (made_super pages)) (new_legal (made_super pages) limits).shaped (open_gates 1048576 image) true root_place new_graph (new_found (made_super pages) limits)
 
 -- a core may be asked the first of the events that it may be asked
 pub ready_front : (c : Core) (before behind : List Event) → AreReady c (before ++ behind) → AreReady c before

@@ -89,7 +89,7 @@ module _ {D : Type 0} (g : Ghosts D) where
   pub keeps_opening : (old new : D) (result : Result (Unit {0}) RecoverError) → OpensImage g old new result → OfTold g.tells (g.bytes old) (g.may_leave old) (KeepsFault g old new)
   keeps_opening old new result image tells only = record {
     keeps_fault = λ expected fault. fault_moments g expected (g.bytes old) old new fault (λ none. (image.not_heap tells none).moments only) (λ at damage. (image.damaged tells at damage).moments only);
-    keeps_log = λ fault. left_moments g (g.bytes old) old new fault (λ s batches state readable. (image.readable tells s batches state readable).moments only);
+    keeps_log = λ fault. left_moments g (g.bytes old) old new fault (λ stored state readable. (image.readable tells stored state readable).moments only);
   }
 
   -- what an opening's error says of the image that it read, its status says of each image that a crash may leave afterwards
@@ -209,7 +209,7 @@ module _ {D : Type 0} (g : Ghosts D) where
   pub answers_failed : (old new : D) (silent : Type 0) (e : OpenError) → silent → OpensImage g old new (Err (recovery_error e)) → (IsTrue g.tells → (t : ℕ) (image : List ℕ) → t ≤ g.moment new → g.may_leave new image → g.left_since new t image)
       → AnswersImage g (Unit {0}) 0 old new (open_status e) silent
   answers_failed old new silent e nothing image counts =
-      let once = λ (tells : IsTrue g.tells) (fault : IsWordFault (g.bytes old)). opens_once (g.bytes old) (g.passed old) (g.passed new) e fault (image.refused tells) (λ s batches state readable. (image.readable tells s batches state readable).passes) in
+      let once = λ (tells : IsTrue g.tells) (fault : IsWordFault (g.bytes old)). opens_once (g.bytes old) (g.passed old) (g.passed new) e fault (image.refused tells) (λ stored state readable. (image.readable tells stored state readable).passes) in
       answers_refused 0 old new silent e nothing image.refused (λ tells none. (image.not_heap tells none).told) (λ tells at damage. (image.damaged tells at damage).told)
       (λ tells expected fault alone. alone_read g old new _ tells (only_read g expected (g.bytes old) old new _ fault alone (λ none. (image.not_heap tells none).reads) (λ at damage early. (image.damaged tells at damage).reads early)))
       (keeps_opening old new (Err (recovery_error e)) image) (λ tells unstopped fault. once tells fault) (λ tells fault. once_few (fault_calls fault) (g.passed old) (g.passed new) (open_status e) (once tells fault))

@@ -19,7 +19,7 @@ use Rattle.heap_model.specs.Core.{Core, commits_on_disk}
 use Rattle.heap_program.specs.declared.status.Status.{Status}
 use Rattle.heap_program.specs.declared.status.Status.TheVariants.{Done, NoMemory}
 use Rattle.heap_model.specs.CoreCrash.{IsSuperOf, IsCommitPrefix}
-use Rattle.heap_model.specs.NewHeap.{root_place}
+use Rattle.heap_model.specs.NewHeap.{new_heap, root_place}
 use Rattle.heap_model.proofs.Opening.New.{new_legal, new_found}
 use Rattle.heap_program.specs.Stored.{IsStored, stored_core, stored_calls}
 use Rattle.core_laws.proofs.Opening.Opened.{opened_reached}
@@ -39,9 +39,8 @@ use Rattle.heap_program.proofs.Reopened.{recovered_only, outside_memory}
 use Rattle.heap_program.proofs.Lines.{some_writes, all_writes, lines_more}
 use Rattle.graph_model.specs.Transaction.{serial}
 use Rattle.heap_program.specs.Playable.{IsScript}
-use Rattle.page_redo.specs.Pages.{Pages, first_pages}
 use Rattle.page_store.specs.Gates.{open_gates}
-use Rattle.heap_model.specs.Image.{IsShapedLog, IsShaped, IsLegal}
+use Rattle.heap_model.specs.Image.{StoredHeap, IsShapedLog, IsShaped, IsLegal}
 use Rattle.counts.specs.Count.{counted}
 use Rattle.log_machine.proofs.MapLaws.{entries_empty}
 use Rattle.log_machine.specs.Machine.{abort_each}
@@ -64,13 +63,11 @@ use Rattle.heap_recovery.specs.Recovered.{IsFromOutside, ErrorPasses}
 use Rattle.heap_recovery.specs.Causes.{error_device}
 
 -- A new heap, as an existing one.
-abbrev pub new_stored : (pages : ℕ) (image : List ℕ) → IsLegal (made_super pages) [] (first_pages pages) image → IsStored image
+abbrev pub new_stored : (pages : ℕ) (image : List ℕ) → IsLegal (new_heap (made_super pages)) image → IsStored image
 new_stored pages image legal =
     let limits = legal.log.shaped.limits in
     record {
-      super = made_super pages;
-      batches = [];
-      pages = first_pages pages;
+      heap = new_heap (made_super pages);
       legal = record { log = new_legal (made_super pages) limits; held = legal.held };
       places = root_place;
       graph = new_graph;
@@ -78,12 +75,12 @@ new_stored pages image legal =
     }
 
 -- in a new heap there is nothing to be taken back, so its opening makes no write and no sync
-pub no_calls : (s : Super) → opening_calls s [] ≡ 0
+pub no_calls : (s : Super) → opening_calls (new_heap s) ≡ 0
 no_calls s = ap force_calls (ap abort_each (entries_empty (List UndoEntry)))
 
 -- no opening makes more than four
-pub few_calls : (s : Super) (batches : List (List Record)) → opening_calls s batches ≤ 4
-few_calls s batches = few_forced (rollback_of s batches)
+pub few_calls : (stored : StoredHeap) → opening_calls stored ≤ 4
+few_calls stored = few_forced (rollback_of stored)
   where
     few_forced : (rs : List Record) → force_calls rs ≤ 4
     few_forced [] = omega arith
@@ -151,22 +148,22 @@ module _ {D : Type 0} (g : Ghosts D) {bytes : List ℕ} (stored : IsStored bytes
   n = stored_calls stored
 
   abbrev gates : ℕ → ℕ
-  gates = open_gates stored.super.log_bytes bytes
+  gates = open_gates stored.heap.super.log_bytes bytes
 
   -- an existing heap runs when it is opened
   pub stored_running : IsRunning c
-  stored_running = record { reached = opened_reached stored.super stored.batches stored.pages stored.legal.log.shaped gates true stored.places stored.graph stored.found; unfailed = refl }
+  stored_running = record { reached = opened_reached stored.heap stored.legal.log.shaped gates true stored.places stored.graph stored.found; unfailed = refl }
 
   -- an opening of its image leaves one of its first commits
-  pub stored_keeps : (image : List ℕ) → IsLeftByOpening stored.super stored.batches stored.pages image → IsCommitPrefix c image
-  stored_keeps image left = opened_keeps stored.super stored.batches stored.pages stored.legal.log stored.places stored.graph stored.found gates image left
+  pub stored_keeps : (image : List ℕ) → IsLeftByOpening stored.heap image → IsCommitPrefix c image
+  stored_keeps image left = opened_keeps stored.heap stored.legal.log stored.places stored.graph stored.found gates image left
 
   -- so it does at each moment
-  pub stored_moments : (old new : D) → LeavesOnly g.moment g.left_since old new (IsLeftByOpening stored.super stored.batches stored.pages) → LeavesOnly g.moment g.left_since old new (IsCommitPrefix c)
-  stored_moments old new moments = weaker g.moment g.left_since old new (IsLeftByOpening stored.super stored.batches stored.pages) (IsCommitPrefix c) moments stored_keeps
+  pub stored_moments : (old new : D) → LeavesOnly g.moment g.left_since old new (IsLeftByOpening stored.heap) → LeavesOnly g.moment g.left_since old new (IsCommitPrefix c)
+  stored_moments old new moments = weaker g.moment g.left_since old new (IsLeftByOpening stored.heap) (IsCommitPrefix c) moments stored_keeps
 
   -- the superblock is that of its heap
-  pub stored_super : IsSuperOf stored.super c
+  pub stored_super : IsSuperOf stored.heap.super c
   stored_super = record { limits = stored.legal.log.shaped.limits; pages = refl; room = refl; first = refl }
 
   -- The heap was not opened: no event was made, and nothing was written.
@@ -203,7 +200,7 @@ module _ {D : Type 0} (g : Ghosts D) {bytes : List ℕ} (stored : IsStored bytes
         replies = refl;
         prints = record {
           count = 0;
-          least = let same : commits_on_disk c ≡ c.before = rolled_commits stored.super stored.batches stored.pages stored.legal.log.shaped in omega (arith, same);
+          least = let same : commits_on_disk c ≡ c.before = rolled_commits stored.heap stored.legal.log.shaped in omega (arith, same);
           most = omega arith;
           all = λ none. refl;
           behind = nothing_follows g stop c final by told before early;
@@ -292,33 +289,33 @@ module _ {D : Type 0} (g : Ghosts D) {bytes : List ℕ} (stored : IsStored bytes
         }
 
 -- What is opened on any disk is a core that runs, whatever its graph.
-pub record IsNew (from : Super → List (List Record) → Pages → (ℕ → ℕ) → Type 0) (c : Core) : Type 0 where
+pub record IsNew (from : StoredHeap → (ℕ → ℕ) → Type 0) (c : Core) : Type 0 where
   pub running : IsRunning c
   pub nothing : c.history ≡ []
   pub opened : IsOpened c
-  pub image : from opened.super opened.batches opened.stored opened.gates
+  pub image : from opened.heap opened.gates
 
-opened_as : {D : Type 0} {g : Ghosts D} (from : Super → List (List Record) → Pages → (ℕ → ℕ) → Type 0) (heap : Heap D g) (s : Super) (batches : List (List Record)) (stored : Pages) (gates : ℕ → ℕ) (shaped : IsShapedLog s batches stored)
-    → from s batches stored gates → ((born : Bool) (places : Places) (graph : Graph) → IsFound s batches stored shaped born places graph → IsCore (opened s batches stored gates born places graph) heap)
+opened_as : {D : Type 0} {g : Ghosts D} (from : StoredHeap → (ℕ → ℕ) → Type 0) (heap : Heap D g) (stored : StoredHeap) (gates : ℕ → ℕ) (shaped : IsShapedLog stored)
+    → from stored gates → ((born : Bool) (places : Places) (graph : Graph) → IsFound stored shaped born places graph → IsCore (opened stored gates born places graph) heap)
     → (c : Core) × IsNew from c × IsCore c heap
-opened_as from heap s batches stored gates shaped image is =
-    let found = address_found s batches stored shaped in
-    let c = opened s batches stored gates false found.0 found.1 in
-    let running : IsRunning c = record { reached = opened_reached s batches stored shaped gates false found.0 found.1 found.2; unfailed = refl } in
-    let new : IsOpened c = record { super = s; batches = batches; stored = stored; gates = gates; shaped = shaped; born = false; places = found.0; graph = found.1; found = found.2; is = refl } in
+opened_as from heap stored gates shaped image is =
+    let found = address_found stored shaped in
+    let c = opened stored gates false found.0 found.1 in
+    let running : IsRunning c = record { reached = opened_reached stored shaped gates false found.0 found.1 found.2; unfailed = refl } in
+    let new : IsOpened c = record { heap = stored; gates = gates; shaped = shaped; born = false; places = found.0; graph = found.1; found = found.2; is = refl } in
     (c, record { running = running; nothing = refl; opened = new; image = image }, is false found.0 found.1 found.2)
 
 pub opened_core : {D : Type 0} {g : Ghosts D} (tells : Bool) (bytes : List ℕ) (heap : Heap D g)
-    → (s : Super) × (batches : List (List Record)) × (stored : Pages) × (gates : ℕ → ℕ) × (shaped : IsShapedLog s batches stored)
-    × ((born : Bool) (places : Places) (graph : Graph) → IsFound s batches stored shaped born places graph → IsCore (opened s batches stored gates born places graph) heap)
-    → (IsTrue tells → (s : Super) × (batches : List (List Record)) × (stored : Pages) × (shaped : IsShaped s batches stored bytes)
-    × ((born : Bool) (places : Places) (graph : Graph) → IsFound s batches stored shaped.log born places graph → IsCore (opened s batches stored (open_gates s.log_bytes bytes) born places graph) heap))
+    → (stored : StoredHeap) × (gates : ℕ → ℕ) × (shaped : IsShapedLog stored)
+    × ((born : Bool) (places : Places) (graph : Graph) → IsFound stored shaped born places graph → IsCore (opened stored gates born places graph) heap)
+    → (IsTrue tells → (stored : StoredHeap) × (shaped : IsShaped stored bytes)
+    × ((born : Bool) (places : Places) (graph : Graph) → IsFound stored shaped.log born places graph → IsCore (opened stored (open_gates stored.super.log_bytes bytes) born places graph) heap))
     → (c : Core) × IsNew (IsOfImage tells bytes) c × IsCore c heap
-opened_core true bytes heap any own = let is = own cc in opened_as (IsOfImage true bytes) heap is.0 is.1 is.2 (open_gates is.0.log_bytes bytes) is.3.log (λ t. (is.3, refl)) is.4
-opened_core false bytes heap is own = opened_as (IsOfImage false bytes) heap is.0 is.1 is.2 is.3 is.4 (λ told. absurd (false≢true told)) is.5
+opened_core true bytes heap any own = let is = own cc in opened_as (IsOfImage true bytes) heap is.0 (open_gates is.0.super.log_bytes bytes) is.1.log (λ t. (is.1, refl)) is.2
+opened_core false bytes heap is own = opened_as (IsOfImage false bytes) heap is.0 is.1 is.2 (λ told. absurd (false≢true told)) is.3
 
 -- it has not failed
-pub opened_unfailed : {D : Type 0} {g : Ghosts D} (heap : Heap D g) {from : Super → List (List Record) → Pages → (ℕ → ℕ) → Type 0} (c : Core) → IsNew from c → IsCore c heap → failed_at heap ≡ None
+pub opened_unfailed : {D : Type 0} {g : Ghosts D} (heap : Heap D g) {from : StoredHeap → (ℕ → ℕ) → Type 0} (c : Core) → IsNew from c → IsCore c heap → failed_at heap ≡ None
 opened_unfailed heap c new is = is.memory.failure ∙ new.running.unfailed
 
 -- nor has it after a play that made all events

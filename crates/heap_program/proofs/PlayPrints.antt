@@ -12,15 +12,12 @@ use Rattle.graph_model.specs.Graph.{Graph, new_graph}
 use Rattle.graph_model.specs.History.{sealed, IsOfSession}
 use Rattle.graph_model.specs.Transaction.{serial}
 use Rattle.heap_core.specs.declared.heap.Heap.{Heap}
-use Rattle.image_plan.specs.declared.superblock.Super.{Super}
-use Rattle.log_records.specs.declared.Record.{Record}
 use Rattle.heap_model.specs.Core.{Core}
 use Rattle.core_laws.proofs.Run.Calls.{of_session_front}
 use Rattle.core_laws.proofs.Run.Events.{run_reached}
 use Rattle.core_laws.specs.Valid.{IsReached}
-use Rattle.page_redo.specs.Pages.{Pages, first_pages}
 use Rattle.page_store.specs.Gates.{open_gates}
-use Rattle.heap_model.specs.NewHeap.{root_place}
+use Rattle.heap_model.specs.NewHeap.{new_heap, root_place}
 use Rattle.heap_model.proofs.Opening.New.{new_legal, new_found}
 use Rattle.heap_model.specs.Ending.{all_events}
 use Rattle.heap_program.specs.declared.output.WriteError.{WriteError}
@@ -42,13 +39,14 @@ use Rattle.heap_program.proofs.Statuses.{halt_not_done, written_sound, wrote_all
 use Rattle.heap_program.proofs.Written.{whole_front, wrote_some}
 use Rattle.script_text.specs.declared.line.Line.{Line}
 use Rattle.script_text.specs.Line.{events}
+use Rattle.heap_model.specs.Image.{StoredHeap}
 
 -- Some number and graph were written, or nothing.
 pub wrote_again : (r : Result (Unit {0}) WriteError) (k : ℕ) (g : Graph) (by : Status) (before after : List ℕ) → by ≡ status_after r → WroteText r before (recovered_line k ++ graph_text g) after → WroteAgain by before after
 wrote_again r k g by before after is wrote = inr (k, g, record { sound = λ d. written_sound r (subst IsOfDisk is d); front = wrote_some r before _ after wrote; whole = λ done. wrote_all r before _ after (sym is ∙ done) wrote })
 
 -- The opening was stopped: no event was made.
-pub prints_unplayed : {from : Super → List (List Record) → Pages → (ℕ → ℕ) → Type 0} (n : ℕ) (script : List Line) (by : Status) (before after : List ℕ) → WroteAgain by before after → PrintsSome from (Some n) script by before after
+pub prints_unplayed : {from : StoredHeap → (ℕ → ℕ) → Type 0} (n : ℕ) (script : List Line) (by : Status) (before after : List ℕ) → WroteAgain by before after → PrintsSome from (Some n) script by before after
 prints_unplayed n script by before after (inl nothing) = inl nothing
 prints_unplayed n script by before after (inr again) =
     let c = made_core 1 [] in
@@ -56,7 +54,7 @@ prints_unplayed n script by before after (inr again) =
     let wrote = again.2 in
     inr (record {
       first = c;
-      opened = record { super = made_super 1; batches = []; stored = first_pages 1; gates = open_gates 1048576 []; shaped = (new_legal (made_super 1) limits).shaped; born = true; places = root_place; graph = new_graph; found = new_found (made_super 1) limits; is = refl };
+      opened = record { heap = new_heap (made_super 1); gates = open_gates 1048576 []; shaped = (new_legal (made_super 1) limits).shaped; born = true; places = root_place; graph = new_graph; found = new_found (made_super 1) limits; is = refl };
       image = inl ((λ none. cc), refl);
       made = [];
       behind = events script;
@@ -91,7 +89,7 @@ last_event c made behind d (Err halt.WriteFault) ends = ends
 last_event c made behind d (Err halt.DiskFault) ends = inr (Refused DiskFault, ends)
 last_event c made behind d (Err halt.Stopped) ends = inr (Refused Stopped, ends)
 
-module _ {D : Type 0} {g : Ghosts D} {from : Super → List (List Record) → Pages → (ℕ → ℕ) → Type 0} (stop : Option ℕ) (c : Core) (new : IsNew from c) (script : List Line) (is_script : IsScript script) (heap : Heap D g) (told : Bool) (before after : List ℕ) (result : Result (Unit {0}) Halt)
+module _ {D : Type 0} {g : Ghosts D} {from : StoredHeap → (ℕ → ℕ) → Type 0} (stop : Option ℕ) (c : Core) (new : IsNew from c) (script : List Line) (is_script : IsScript script) (heap : Heap D g) (told : Bool) (before after : List ℕ) (result : Result (Unit {0}) Halt)
     (plays : PlaysCore c (all_events stop c (events script)) heap told before after result) (tells : IsTrue told) where
   abbrev core : Core
   core = plays.core
@@ -140,7 +138,7 @@ module _ {D : Type 0} {g : Ghosts D} {from : Super → List (List Record) → Pa
       (some_writes core.history before after (halt_status h) (end_text stop 0 graph) after (halt_not_done h) part.0 part.1 (halt_lines core.history before after h some))
 
 -- It was not to stop, and its graph was to be written.
-pub prints_whole : {D : Type 0} {g : Ghosts D} {from : Super → List (List Record) → Pages → (ℕ → ℕ) → Type 0} (c : Core) (new : IsNew from c) (script : List Line) (is_script : IsScript script) (heap : Heap D g) (told : Bool) (before after : List ℕ)
+pub prints_whole : {D : Type 0} {g : Ghosts D} {from : StoredHeap → (ℕ → ℕ) → Type 0} (c : Core) (new : IsNew from c) (script : List Line) (is_script : IsScript script) (heap : Heap D g) (told : Bool) (before after : List ℕ)
     (plays : PlaysCore c (all_events None c (events script)) heap told before after (Ok tt)) (tells : IsTrue told) (r : Result (Unit {0}) WriteError) (after' : List ℕ)
     → WroteText r after (graph_text (serial plays.core.g0 (sealed plays.core.history))) after' → PrintsSome from None script (status_after r) before after'
 prints_whole c new script is_script heap told before after plays tells r after' text =
@@ -150,7 +148,7 @@ prints_whole c new script is_script heap told before after plays tells r after' 
     (all_writes plays.core.history before after (status_after r) (graph_text graph) after' (written_sound r) (wrote None c new script is_script heap told before after (Ok tt) plays tells) (wrote_some r after _ after' text) (λ done. wrote_all r after _ after' done text))
 
 -- It was to stop, and what came back was to be written.
-pub prints_again : {D : Type 0} {g : Ghosts D} {from : Super → List (List Record) → Pages → (ℕ → ℕ) → Type 0} (n : ℕ) (c : Core) (new : IsNew from c) (script : List Line) (is_script : IsScript script) (heap : Heap D g) (told : Bool) (before after : List ℕ) (result : Result (Unit {0}) Halt)
+pub prints_again : {D : Type 0} {g : Ghosts D} {from : StoredHeap → (ℕ → ℕ) → Type 0} (n : ℕ) (c : Core) (new : IsNew from c) (script : List Line) (is_script : IsScript script) (heap : Heap D g) (told : Bool) (before after : List ℕ) (result : Result (Unit {0}) Halt)
     (plays : PlaysCore c (events script) heap told before after result) (tells : IsTrue told) (ended : (result ≡ Ok tt) ⊎ (result ≡ Err halt.Stopped)) (by : Status) (after' : List ℕ) → WroteAgain by after after' → PrintsSome from (Some n) script by before after'
 prints_again {from = from} n c new script is_script heap told before after result plays tells ended by after' again = ⊎_elim nothing some again
   where
@@ -183,8 +181,8 @@ prints_again {from = from} n c new script is_script heap told before after resul
         (all_writes plays.core.history before after by text after' wrote_it.2.sound out wrote_it.2.front wrote_it.2.whole)
 
 -- A run of a script that was read, of which less may be said of the image.
-pub prints_script : {from less : Super → List (List Record) → Pages → (ℕ → ℕ) → Type 0} (read : List Line → Type 0) (stop : Option ℕ) (script : List Line) (by : Status) (before after : List ℕ) → read script
-    → ((s : Super) (batches : List (List Record)) (stored : Pages) (gates : ℕ → ℕ) → from s batches stored gates → less s batches stored gates) → PrintsSome from stop script by before after
+pub prints_script : {from less : StoredHeap → (ℕ → ℕ) → Type 0} (read : List Line → Type 0) (stop : Option ℕ) (script : List Line) (by : Status) (before after : List ℕ) → read script
+    → ((stored : StoredHeap) (gates : ℕ → ℕ) → from stored gates → less stored gates) → PrintsSome from stop script by before after
     → ((by ≢ status.Done) × (after ≡ before)) ⊎ ((lines : List Line) × read lines × PrintsRun less stop lines by before after)
 prints_script read stop script by before after is implies (inl nothing) = inl nothing
 prints_script read stop script by before after is implies (inr run) = inr (
@@ -194,7 +192,7 @@ prints_script read stop script by before after is implies (inr run) = inr (
     first = run.first;
     opened = run.opened;
     made = run.made;
-    image = ⊎_elim (λ none. inl none) (λ own. inr (implies run.opened.super run.opened.batches run.opened.stored run.opened.gates own)) run.image;
+    image = ⊎_elim (λ none. inl none) (λ own. inr (implies run.opened.heap run.opened.gates own)) run.image;
     behind = run.behind;
     parts = run.parts;
     core = run.core;

@@ -14,7 +14,6 @@ use Rattle.gated_log.specs.Log.{batch, batches_bytes, records_of}
 use Rattle.graph_model.specs.declared.reply.Entry.{Entry}
 use Rattle.graph_model.specs.Transaction.{serial}
 use Rattle.graph_model.specs.History as history
-use Rattle.image_plan.specs.declared.superblock.Super.{Super}
 use Rattle.log_records.specs.declared.Record.{Record}
 use Rattle.log_records.specs.declared.Record.TheVariants.{Commit}
 use Rattle.log_records.specs.Record.{spelling, spellings}
@@ -30,8 +29,7 @@ use Rattle.heap_program.specs.declared.status.Status.{Status}
 use Rattle.heap_program.specs.declared.status.Status.TheVariants.{NoMemory, DiskFault}
 use Rattle.heap_model.specs.Core.{Core, force_calls}
 use Rattle.heap_model.specs.CoreCrash.{StandsForFirst}
-use Rattle.page_redo.specs.Pages.{Pages}
-use Rattle.heap_model.specs.Image.{IsLegalLog, IsLegal}
+use Rattle.heap_model.specs.Image.{StoredHeap, IsLegalLog, IsLegal, records_in}
 use Rattle.heap_model.proofs.Opening.Held.{left_first}
 use Rattle.heap_model.proofs.Opening.Rolled.{commits_are}
 use Rattle.heap_model.specs.Opening.{commits_of, IsLeftByOpening}
@@ -76,11 +74,11 @@ few_in_batches (b ∷ bs) =
     let inside = length-append (to_le_bytes w32 (length (spellings b))) (spellings b) in
     omega arith
 
-pub few_commits : (s : Super) (bs : List (List Record)) (stored : Pages) → IsLegalLog s bs stored → commits_of s bs ≤ 1073741824
-few_commits s bs stored legal =
-    let few = few_in_batches bs in
-    let are = commits_are s bs stored legal.shaped in
-    let all = commits-start s.pages s.first legal.shaped.state (records_of bs) legal.shaped.reached in
+pub few_commits : (stored : StoredHeap) → IsLegalLog stored → commits_of stored ≤ 1073741824
+few_commits stored legal =
+    let few = few_in_batches stored.batches in
+    let are = commits_are stored legal.shaped in
+    let all = commits-start stored.super.pages stored.super.first legal.shaped.state (records_in stored) legal.shaped.reached in
     let room = legal.shaped.room in
     let small = legal.shaped.limits.small_log in
     omega arith
@@ -116,24 +114,24 @@ fails_none n before now opening.DiskFault is passes = cc
 fails_none n before now opening.Stopped is passes = cc
 
 -- the legal image in one of first commits
-abbrev pub legal_of : {c : Core} {k : ℕ} {image : List ℕ} → (first : StandsForFirst c k image) → IsLegal first.stands.super first.stands.batches first.stands.stored image
+abbrev pub legal_of : {c : Core} {k : ℕ} {image : List ℕ} → (first : StandsForFirst c k image) → IsLegal first.stands.stored image
 legal_of first = record { log = first.stands.says.legal; held = first.stands.held }
 
 module _ {D : Type 0} (g : Ghosts D) (c : Core) (k : ℕ) (old new : D) (first : StandsForFirst c k (g.bytes old)) where
   -- what an opening may leave of it
   abbrev pub Left : List ℕ → Type 0
-  Left = IsLeftByOpening first.stands.super first.stands.batches first.stands.stored
+  Left = IsLeftByOpening first.stands.stored
 
   -- the bytes of its log, and all others as they were
   abbrev pub LogLeft : List ℕ → Type 0
-  LogLeft = IsLogLeft first.stands.super first.stands.batches (g.bytes old)
+  LogLeft = IsLogLeft first.stands.stored (g.bytes old)
 
   -- it keeps the commits
   abbrev pub keeps_first : LeavesOnly g.moment g.left_since old new Left → LeavesOnly g.moment g.left_since old new LogLeft → ((left : List ℕ) → g.may_leave new left → Left left) → g.restarts new ≡ g.restarts old → KeepsFirst g c k old new
   keeps_first moments log leaves restarts = record {
     first = first;
     moments = weaker g.moment g.left_since old new Left (StandsForFirst c k) moments (left_first c k (g.bytes old) first);
-    outside = opening_behind g c first.stands.super first.stands.batches (g.bytes old) old new first.of log;
+    outside = opening_behind g c first.stands.stored (g.bytes old) old new first.of log;
     still = λ left may. left_first c k (g.bytes old) first left (leaves left may);
     restarts = restarts;
   }

@@ -9,10 +9,6 @@ use Rattle.disk_model.specs.Moments.{LeavesOnly}
 use Rattle.disk_model.proofs.MomentLaws.{weaker}
 use Rattle.heap_recovery.specs.declared.at.At.{At}
 use Rattle.heap_recovery.specs.declared.at.At.TheVariants as place
-use Rattle.disk_model.specs.Disk.{SameOutside}
-use Rattle.image_plan.specs.declared.superblock.Super.{Super}
-use Rattle.image_plan.specs.Plan.{log_offset}
-use Rattle.log_records.specs.declared.Record.{Record}
 use Rattle.log_machine.specs.Machine.{State}
 use Rattle.heap_recovery.specs.Faults as faults
 use Rattle.heap_recovery.specs.Faults.{IsNoHeap, IsReadable, IsFaultAt, IsLogLeft, IsLeftOf, IsErrorOrOutside, ComesBeforeWrites}
@@ -30,6 +26,7 @@ use Rattle.counts.specs.Count.{counted}
 use Rattle.heap_program.proofs.Counts.{counted_mono}
 use Rattle.heap_program.specs.StatusOf.{open_status}
 use Rattle.heap_recovery.specs.Recovered.{ErrorPasses}
+use Rattle.heap_model.specs.Image.{StoredHeap, SameOutsideLog}
 
 -- what the error of an opening says, its status says
 pub told_status : (e : OpenError) (image : List ℕ) → faults.IsToldOf (recovery_error e) image → IsToldOf (open_status e) image
@@ -126,18 +123,17 @@ module _ {D : Type 0} (g : Ghosts D) where
   fault_moments (status.TooSmall size need) image old new fault no_heap damaged = absurd fault
 
   -- At each moment of an opening of an image that is damaged at an address a crash leaves its log, rolled back or not, and all else.
-  pub left_moments : (image : List ℕ) (old new : D) → IsWordFault image → ((s : Super) (batches : List (List Record)) (state : State) → IsReadable s batches state image → LeavesOnly g.moment g.left_since old new (IsLogLeft s batches image))
+  pub left_moments : (image : List ℕ) (old new : D) → IsWordFault image → ((stored : StoredHeap) (state : State) → IsReadable stored state image → LeavesOnly g.moment g.left_since old new (IsLogLeft stored image))
       → LeavesOnly g.moment g.left_since old new (IsLeftOf image)
   left_moments image old new fault moments =
-      let s = fault.1.0 in
-      let batches = fault.1.1 in
-      let state = fault.1.2 in
-      let readable = fault.1.3 in
-      weaker g.moment g.left_since old new (IsLogLeft s batches image) (IsLeftOf image) (moments s batches state readable) (λ c left. (s, batches, state, readable, left))
+      let stored = fault.1.0 in
+      let state = fault.1.1 in
+      let readable = fault.1.2 in
+      weaker g.moment g.left_since old new (IsLogLeft stored image) (IsLeftOf image) (moments stored state readable) (λ c left. (stored, state, readable, left))
 
-  pub left_outside : (s : Super) (batches : List (List Record)) (old new : D) → LeavesOnly g.moment g.left_since old new (IsLogLeft s batches (g.bytes old))
-      → LeavesOnly g.moment g.left_since old new (SameOutside log_offset (log_offset + s.log_bytes) (g.bytes old))
-  left_outside s batches old new moments = weaker g.moment g.left_since old new (IsLogLeft s batches (g.bytes old)) (SameOutside log_offset (log_offset + s.log_bytes) (g.bytes old)) moments (λ c left. left.1)
+  pub left_outside : (stored : StoredHeap) (old new : D) → LeavesOnly g.moment g.left_since old new (IsLogLeft stored (g.bytes old))
+      → LeavesOnly g.moment g.left_since old new (SameOutsideLog stored.super (g.bytes old))
+  left_outside stored old new moments = weaker g.moment g.left_since old new (IsLogLeft stored (g.bytes old)) (SameOutsideLog stored.super (g.bytes old)) moments (λ c left. left.3)
 
   -- so it does of an image that an opening had left of another
   pub left_on : (image mid : List ℕ) (old new : D) → IsLeftOf image mid → LeavesOnly g.moment g.left_since old new (IsLeftOf mid) → LeavesOnly g.moment g.left_since old new (IsLeftOf image)
@@ -182,16 +178,16 @@ once_few n before now (status.TooSmall size need) once = once
 pub opens_few : (n before now : ℕ) (image : List ℕ) (e : OpenError) → IsWordFault image → faults.IsToldOf (recovery_error e) image → (open_status e ≡ status.NoMemory → now ≡ before) → now ≤ counted n before
     → CallsAtMostOneOpening n before now (open_status e)
 opens_few n before now image opening.NoMemory fault told none few = none refl
-opens_few n before now image opening.NotHeap fault told none few = absurd (told fault.1.0 fault.1.3.roomy.replayed.log.super)
+opens_few n before now image opening.NotHeap fault told none few = absurd (told fault.1.0.super fault.1.2.roomy.replayed.log.super)
 opens_few n before now image (opening.Damaged at) fault told none few = few
 opens_few n before now image opening.DiskFault fault told none few = few
 opens_few n before now image opening.Stopped fault told none few = few
 
 -- What an opening of an image that is damaged at an address passed, by the status of its error.
 pub opens_once : (image : List ℕ) (before now : ℕ) (e : OpenError) (fault : IsWordFault image) → faults.IsToldOf (recovery_error e) image
-    → ((s : Super) (batches : List (List Record)) (state : State) → IsReadable s batches state image → ErrorPasses (opening_calls s batches) before now (recovery_error e)) → CallsOfOneOpening (fault_calls fault) before now (open_status e)
-opens_once image before now opening.NoMemory fault told passes = passes fault.1.0 fault.1.1 fault.1.2 fault.1.3
-opens_once image before now opening.NotHeap fault told passes = absurd (told fault.1.0 fault.1.3.roomy.replayed.log.super)
-opens_once image before now (opening.Damaged at) fault told passes = (passes fault.1.0 fault.1.1 fault.1.2 fault.1.3).ok
-opens_once image before now opening.DiskFault fault told passes = (passes fault.1.0 fault.1.1 fault.1.2 fault.1.3).some
-opens_once image before now opening.Stopped fault told passes = (passes fault.1.0 fault.1.1 fault.1.2 fault.1.3).some
+    → ((stored : StoredHeap) (state : State) → IsReadable stored state image → ErrorPasses (opening_calls stored) before now (recovery_error e)) → CallsOfOneOpening (fault_calls fault) before now (open_status e)
+opens_once image before now opening.NoMemory fault told passes = passes fault.1.0 fault.1.1 fault.1.2
+opens_once image before now opening.NotHeap fault told passes = absurd (told fault.1.0.super fault.1.2.roomy.replayed.log.super)
+opens_once image before now (opening.Damaged at) fault told passes = (passes fault.1.0 fault.1.1 fault.1.2).ok
+opens_once image before now opening.DiskFault fault told passes = (passes fault.1.0 fault.1.1 fault.1.2).some
+opens_once image before now opening.Stopped fault told passes = (passes fault.1.0 fault.1.1 fault.1.2).some

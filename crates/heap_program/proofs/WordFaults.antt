@@ -10,7 +10,7 @@ use Rattle.heap_program.specs.Refusals.{IsWordFault}
 
 -- it is what an opening leaves of it
 left_alone : (image : List ℕ) → IsWordFault image → IsLeftOf image image
-left_alone image fault = (fault.1.0, fault.1.1, fault.1.2, fault.1.3, left_same fault.1.0 fault.1.1 fault.1.2 image fault.1.3)
+left_alone image fault = (fault.1.0, fault.1.1, fault.1.2, left_same fault.1.0 fault.1.1 image fault.1.2)
 
 -- so a run that did nothing with the disk leaves no other
 pub untouched_log : {D : Type 0} (g : Ghosts D) (disk : D) → Only (g.bytes disk) (g.may_leave disk) → ((image : List ℕ) → g.left_since disk (g.moment disk) image → g.may_leave disk image) → IsWordFault (g.bytes disk)

@@ -3,15 +3,13 @@ use Rattle.std.specs.Prelude.{◌≡◌, ◌≢◌, ◌⊎◌, ℕ, ◌+◌, ◌
 use Rattle.std.specs.Fmt.{decimal}
 use Rattle.counts.specs.Count.{counted}
 use Rattle.disk_model.specs.declared.disk.Disk.{Ghosts}
-use Rattle.disk_model.specs.Disk.{Only, SameOutside}
+use Rattle.disk_model.specs.Disk.{Only}
 use Rattle.disk_model.specs.Moments.{LeavesOnly}
 use Rattle.graph_model.specs.Graph.{Graph}
 use Rattle.image_plan.specs.declared.superblock.Super.{Super}
-use Rattle.image_plan.specs.Plan.{image_size, log_offset}
-use Rattle.log_records.specs.declared.Record.{Record}
+use Rattle.image_plan.specs.Plan.{image_size}
 use Rattle.heap_core.specs.Format.{heap_of}
-use Rattle.page_redo.specs.Pages.{Pages}
-use Rattle.heap_model.specs.Image.{Holds, IsShaped}
+use Rattle.heap_model.specs.Image.{StoredHeap, Holds, IsShaped, SameOutsideLog}
 use Rattle.heap_model.specs.Opening.{rolled_back, opening_calls, IsLeftByOpening}
 use Rattle.command_words.specs.declared.commands.Command.{Command}
 use Rattle.command_words.specs.declared.commands.Command.TheVariants as asked
@@ -51,7 +49,7 @@ CanRun (asked.Format n) extent image = image_size n.pages n.log_bytes ≤ extent
 CanRun (asked.Play fresh stop) extent image = CanPlay fresh extent image
 CanRun (asked.Threads fresh tries) extent image = CanPlay fresh extent image
 CanRun (asked.Load seed count fresh) extent image = CanPlay fresh extent image
-CanRun asked.Graph extent image = (s : Super) × (batches : List (List Record)) × (stored : Pages) × IsShaped s batches stored image
+CanRun asked.Graph extent image = (stored : StoredHeap) × IsShaped stored image
 
 -- A command that reads a script.
 abbrev pub IsPlay : Command → Type 0
@@ -106,17 +104,16 @@ module _ {D : Type 0} (g : Ghosts D) where
   abbrev pub RunsFormat : Super → D → D → Status → Bool → List ℕ → List ℕ → Type 0
   RunsFormat s old new result told before after = IsNotMade g s old new result told before after ⊎ MakesHeap s old new result told before after
 
-  -- The graph of a heap was written, whose log holds these batches and whose pages are stored so. At each moment a crash left the image as it was, or with
-  -- its log rolled back.
-  pub record PrintsGraph (s : Super) (batches : List (List Record)) (stored : Pages) (graph : Graph) (old new : D) (result : Status) (told : Bool) (before after : List ℕ) : Type 0 where
-    pub moments : LeavesOnly g.moment g.left_since old new (IsLeftByOpening s batches stored)
-    pub left : (image : List ℕ) → g.may_leave new image → IsLeftByOpening s batches stored image
+  -- The graph of a stored heap was written. At each moment a crash left the image as it was, or with its log rolled back.
+  pub record PrintsGraph (stored : StoredHeap) (graph : Graph) (old new : D) (result : Status) (told : Bool) (before after : List ℕ) : Type 0 where
+    pub moments : LeavesOnly g.moment g.left_since old new (IsLeftByOpening stored)
+    pub left : (image : List ℕ) → g.may_leave new image → IsLeftByOpening stored image
     -- each byte outside of the log is as it was, those past the plan among them, and so it was at each moment
-    pub outside : LeavesOnly g.moment g.left_since old new (SameOutside log_offset (log_offset + s.log_bytes) (g.bytes old))
-    pub calls : CallsOpening (opening_calls s batches) result (g.passed old) (g.passed new)
+    pub outside : LeavesOnly g.moment g.left_since old new (SameOutsideLog stored.super (g.bytes old))
+    pub calls : CallsOpening (opening_calls stored) result (g.passed old) (g.passed new)
     pub restarts : g.restarts new ≡ g.restarts old
     -- a run that is done leaves the log rolled back, and nothing unsynced
-    pub holds : result ≡ status.Done → Holds s (rolled_back s batches) stored (g.bytes new) × Only (g.bytes new) (g.may_leave new)
+    pub holds : result ≡ status.Done → Holds (rolled_back stored) (g.bytes new) × Only (g.bytes new) (g.may_leave new)
     -- one that ends otherwise, but not by the disk, leaves nothing unsynced either
     pub settled : result ≢ status.DiskFault → Only (g.bytes new) (g.may_leave new)
     pub written : IsTrue told → WritesText result (graph_text graph) before after

@@ -23,15 +23,13 @@ use Rattle.heap_core.specs.Format.{IsEmptyHeap, IsFormatting, format_calls}
 use Rattle.heap_core.specs.Refinement.{SameBehind}
 use Rattle.heap_model.specs.Core.{Core, commits_on_disk, with_entry, IsRun}
 use Rattle.heap_model.specs.CoreCrash.{StandsForFirst, IsCommitPrefix}
-use Rattle.heap_model.specs.NewHeap.{root_place}
+use Rattle.heap_model.specs.NewHeap.{new_heap, root_place}
 use Rattle.commit_order.specs.Heard.{replies_of_commits}
 use Rattle.heap_model.specs.CoreRuns.{after_events, total_calls, StopsAt}
 use Rattle.heap_model.specs.Ending.{all_events}
 use Rattle.graph_words.specs.Places.{Places}
-use Rattle.log_records.specs.declared.Record.{Record}
-use Rattle.page_redo.specs.Pages.{Pages, first_pages}
 use Rattle.page_store.specs.Gates.{open_gates}
-use Rattle.heap_model.specs.Image.{IsShapedLog, IsShaped, IsLegal}
+use Rattle.heap_model.specs.Image.{StoredHeap, IsShapedLog, IsShaped, IsLegal}
 use Rattle.heap_model.specs.Opening.{opened, opening_calls, IsFound}
 use Rattle.script_text.specs.declared.line.Line.{Line}
 use Rattle.script_text.specs.Line.{events}
@@ -61,7 +59,7 @@ made_super pages = record { pages = pages; log_bytes = LOG_BYTES; first = 1 }
 
 -- that heap, when it has been opened on the image that was made, with the gates of its frames
 abbrev pub made_core : ℕ → List ℕ → Core
-made_core pages image = opened (made_super pages) [] (first_pages pages) (open_gates LOG_BYTES image) true root_place new_graph
+made_core pages image = opened (new_heap (made_super pages)) (open_gates LOG_BYTES image) true root_place new_graph
 
 -- what is printed of a graph
 abbrev pub graph_text : Graph → List ℕ
@@ -142,36 +140,34 @@ abbrev pub StopsInPlace : Option ℕ → ℕ → Core → List Event → Core �
 StopsInPlace None at_opening c made d = Unit {0}
 StopsInPlace (Some n) at_opening c made d = IsCutBy (Refused Stopped) c made d → (at_opening ≤ n) × StopsLast (n - at_opening) c made d
 
--- A core that is opened on a shaped log beside stored pages, in frames of which this many gates are open, with a graph that stands in it.
+-- A core that is opened on a stored heap with a shaped log, in frames of which this many gates are open, with a graph that stands in it.
 pub record IsOpened (c : Core) : Type 0 where
-  pub super : Super
-  pub batches : List (List Record)
-  pub stored : Pages
+  pub heap : StoredHeap
   pub gates : ℕ → ℕ
-  pub shaped : IsShapedLog super batches stored
+  pub shaped : IsShapedLog heap
   pub born : Bool
   pub places : Places
   pub graph : Graph
-  pub found : IsFound super batches stored shaped born places graph
-  pub is : c ≡ opened super batches stored gates born places graph
+  pub found : IsFound heap shaped born places graph
+  pub is : c ≡ opened heap gates born places graph
 
--- On a modelled disk they are the log, the pages and the gates of that image.
-abbrev pub IsOfImage : Bool → List ℕ → Super → List (List Record) → Pages → (ℕ → ℕ) → Type 0
-IsOfImage tells image s batches stored gates = IsTrue tells → IsShaped s batches stored image × (gates ≡ open_gates s.log_bytes image)
+-- On a modelled disk they are the heap and the gates of that image.
+abbrev pub IsOfImage : Bool → List ℕ → StoredHeap → (ℕ → ℕ) → Type 0
+IsOfImage tells image stored gates = IsTrue tells → IsShaped stored image × (gates ≡ open_gates stored.super.log_bytes image)
 
 -- So are they if no heap was to be made first.
-abbrev pub IsOfOwnImage : Option ℕ → Bool → List ℕ → Super → List (List Record) → Pages → (ℕ → ℕ) → Type 0
-IsOfOwnImage fresh tells image s batches stored gates = fresh ≡ None → IsOfImage tells image s batches stored gates
+abbrev pub IsOfOwnImage : Option ℕ → Bool → List ℕ → StoredHeap → (ℕ → ℕ) → Type 0
+IsOfOwnImage fresh tells image stored gates = fresh ≡ None → IsOfImage tells image stored gates
 
 -- On any disk: a heap was opened with some graph, the events that were made are a run of that core, and what was written is a prefix
 -- of the lines of its history, of how many commits came back if a stop was asked, and of a graph. Of a run that is done it is
 -- all of that; and without a stop the graph is the core's. What was opened is `from` where that says.
-pub record PrintsRun (from : Super → List (List Record) → Pages → (ℕ → ℕ) → Type 0) (stop : Option ℕ) (lines : List Line) (result : Status) (before after : List ℕ) : Type 0 where
+pub record PrintsRun (from : StoredHeap → (ℕ → ℕ) → Type 0) (stop : Option ℕ) (lines : List Line) (result : Status) (before after : List ℕ) : Type 0 where
   pub first : Core
   pub opened : IsOpened first
   pub made : List Event
   -- an opening that a stop cut short opened nothing
-  pub image : ((stop ≢ None) × (made ≡ [])) ⊎ from opened.super opened.batches opened.stored opened.gates
+  pub image : ((stop ≢ None) × (made ≡ [])) ⊎ from opened.heap opened.gates
   pub behind : List Event
   pub parts : all_events stop first (events lines) ≡ made ++ behind
   pub core : Core
@@ -190,7 +186,7 @@ pub record PrintsRun (from : Super → List (List Record) → Pages → (ℕ →
   pub written : Writes result core.history (end_text stop count graph) before after
 
 -- A run that isn't done wrote nothing, or it wrote that.
-abbrev pub PrintsSome : (Super → List (List Record) → Pages → (ℕ → ℕ) → Type 0) → Option ℕ → List Line → Status → List ℕ → List ℕ → Type 0
+abbrev pub PrintsSome : (StoredHeap → (ℕ → ℕ) → Type 0) → Option ℕ → List Line → Status → List ℕ → List ℕ → Type 0
 PrintsSome from stop lines result before after = ((result ≢ status.Done) × (after ≡ before)) ⊎ PrintsRun from stop lines result before after
 
 -- The statuses with which a play ends.
@@ -255,7 +251,7 @@ module _ {D : Type 0} (g : Ghosts D) where
 
   -- the writes and syncs of the opening of such an image: four if it holds writes of a transaction that has not ended, otherwise none
   abbrev pub calls_to_open : {c : Core} {k : ℕ} {image : List ℕ} → StandsForFirst c k image → ℕ
-  calls_to_open first = opening_calls first.stands.super first.stands.batches
+  calls_to_open first = opening_calls first.stands.stored
 
   -- The heap was opened, with all writes and syncs of an opening.
   pub record Reopens (c : Core) (k : ℕ) (old new : D) : Type 0 where
@@ -346,7 +342,7 @@ module _ {D : Type 0} (g : Ghosts D) where
   -- An empty heap was made. Meanwhile a crash left no heap, the old image, or the new heap.
   pub record IsFormatted (s : Super) (old made : D) : Type 0 where
     pub moments : LeavesOnly g.moment g.left_since old made (IsFormatting s (g.bytes old))
-    pub empty : IsLegal s [] (first_pages s.pages) (g.bytes made)
+    pub empty : IsLegal (new_heap s) (g.bytes made)
     -- a superblock with these numbers, and zeros up to the end of the plan
     pub zeros : IsEmptyHeap s (g.bytes made)
     -- each byte past the plan is as it was, and so it was at each moment

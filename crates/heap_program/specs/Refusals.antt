@@ -24,7 +24,7 @@ IsWordFault image = (address : ℕ) × IsFaultAt (Address address) image
 
 -- the writes and syncs of an opening of such an image
 abbrev pub fault_calls : {image : List ℕ} → IsWordFault image → ℕ
-fault_calls fault = opening_calls fault.1.0 fault.1.1
+fault_calls fault = opening_calls fault.1.0
 
 -- A run made the writes and syncs of one opening, which are n: all of them if it reports the damage, no more of them if the disk
 -- failed, and otherwise none.

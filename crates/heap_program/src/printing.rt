@@ -1,13 +1,10 @@
 //! The commands that play no script: a heap is made, or its graph is printed.
-ghost use Rattle.std.specs.Prelude.{◌≡◌, ◌≢◌, ◌⊎◌, ℕ, ◌<◌, ◌≤◌, List, Bool, IsTrue};
+ghost use Rattle.std.specs.Prelude.{◌≡◌, ◌≢◌, ◌⊎◌, ℕ, ◌<◌, ◌≤◌, Bool, IsTrue};
 ghost use Rattle.graph_model.specs.Graph.{Graph};
 ghost use Rattle.graph_words.specs.Places.{Places};
-ghost use Rattle.image_plan.specs.declared.superblock.Super.{Super};
 ghost use Rattle.image_plan.specs.Plan.{image_size};
-ghost use Rattle.log_records.specs.declared.Record.{Record};
 ghost use Rattle.heap_core.specs.Format.{heap_of};
-ghost use Rattle.page_redo.specs.Pages.{Pages};
-ghost use Rattle.heap_model.specs.Image.{IsShaped};
+ghost use Rattle.heap_model.specs.Image.{StoredHeap, IsShaped};
 ghost use Rattle.heap_model.specs.Opening.{IsFound};
 ghost use Rattle.command_words.specs.Limits.{AreNumbers};
 ghost use Rattle.command_words.specs.declared.commands.Command.TheVariants as asked;
@@ -70,8 +67,8 @@ pub fn run_graph<D: Disk, K: Sink>(alloc: Global, disk: D, sink: &mut K) -> (Sta
     ensures unfaulted { result.0 ≢ Status.DiskFault → CountsStay D.Disk disk result.1 }
     ensures sink { StreamCause (K.faults sink.old) (K.faults sink.new) (result.0 ≡ Status.WriteFault) }
     // Of each shaped image, whatever graph stands in it, under whatever names.
-    ensures graph { OfTold D.tells (D.bytes disk) (D.may_leave disk) ((s : Super) (batches : List (List Record)) (stored : Pages) → (shaped : IsShaped s batches stored (D.bytes disk)) → (born : Bool) (places : Places) (g : Graph) → IsFound s batches stored shaped.log born places g
-        → PrintsGraph D.Disk s batches stored g disk result.1 result.0 K.tells (K.written sink.old) (K.written sink.new)) }
+    ensures graph { OfTold D.tells (D.bytes disk) (D.may_leave disk) ((stored : StoredHeap) → (shaped : IsShaped stored (D.bytes disk)) → (born : Bool) (places : Places) (g : Graph) → IsFound stored shaped.log born places g
+        → PrintsGraph D.Disk stored g disk result.1 result.0 K.tells (K.written sink.old) (K.written sink.new)) }
     ensures prints { IsTrue K.tells → ((result.0 ≢ Status.Done) × (K.written sink.new ≡ K.written sink.old)) ⊎ ((g : Graph) × WritesText result.0 (graph_text g) (K.written sink.old) (K.written sink.new)) }
     ensures image { AnswersImage D.Disk (Unit {0}) 0 disk result.1 result.0 (sink.new ≡ sink.old) }
 {

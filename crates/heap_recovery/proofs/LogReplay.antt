@@ -31,7 +31,7 @@ use Rattle.heap_recovery.specs.declared.reading.Reading.{Reading}
 use Rattle.heap_recovery.specs.declared.replaying.Replay.{Replay}
 use Rattle.heap_recovery.specs.Faults.{stored_in, HasSuper, HoldsLog, IsReplayed, HasRoom, IsReadable, IsFaultAt, IsToldOfLog}
 use Rattle.heap_recovery.specs.Recovered.{IsRedone, IsRead, log_error}
-use Rattle.heap_recovery.specs.Replayed.{heap_of, OneStuck, HasReplayed, HasReplayedLog}
+use Rattle.heap_recovery.specs.Replayed.{heap_with, OneStuck, HasReplayed, HasReplayedLog}
 use Rattle.heap_recovery.proofs.Opening.{used_of}
 
 -- One more record.
@@ -232,7 +232,7 @@ module _ (stored : StoredHeap) (log : Log) (replay : Replay) (is : HasReplayedLo
 
 -- the heap that an image holds whose log was read
 pub holds_read : (of : Super) (at : Pages) (batches : List (List Record)) (image now : List ℕ) (log : Log) (replay : Replay) → HasSuper of image → at ≡ stored_in of image → now ≡ image
-    → HoldsBatches (log_part of now) batches → HasReplayedLog (heap_of of at batches) log replay → HoldsLog (heap_of of at batches) image
+    → HoldsBatches (log_part of now) batches → HasReplayedLog (heap_with of at batches) log replay → HoldsLog (heap_with of at batches) image
 holds_read of at batches image now log replay has pages same holds is = record {
   super = has;
   held = subst (λ (l : List ℕ). HoldsBatches (log_part of l) batches) same holds;

@@ -20,8 +20,8 @@ use Rattle.heap_recovery.specs.declared.replaying.Replay.{Replay}
 use Rattle.heap_recovery.specs.Recovered.{plan_of}
 
 -- what an image holds of a heap with these numbers, whose pages are stored so and whose log holds these batches
-abbrev pub heap_of : Super → Pages → List (List Record) → StoredHeap
-heap_of s at batches = record { super = s; batches = batches; pages = at }
+abbrev pub heap_with : Super → Pages → List (List Record) → StoredHeap
+heap_with s at batches = record { super = s; batches = batches; pages = at }
 
 -- All these records of a heap with these numbers follow one another, and were redone on pages that were stored so.
 pub record AllFollow (s : Super) (at : Pages) (records : List Record) (replay : Replay) : Type 0 where

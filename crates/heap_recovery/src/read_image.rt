@@ -20,7 +20,7 @@ ghost use Rattle.heap_recovery.specs.declared.error.RecoverError.TheVariants.{Da
 ghost use Rattle.heap_recovery.specs.Causes.{open_device};
 ghost use Rattle.heap_recovery.specs.Faults.{HasSuper, IsReadable, IsToldOf, IsToldOfLog};
 ghost use Rattle.heap_recovery.specs.Recovered.{IsRead, IsFromOutside};
-ghost use Rattle.heap_recovery.specs.Replayed.{heap_of, HasReplayed, HasReplayedLog};
+ghost use Rattle.heap_recovery.specs.Replayed.{heap_with, HasReplayed, HasReplayedLog};
 
 use crate::error::RecoverError;
 use crate::reading::Reading;
@@ -113,7 +113,7 @@ fn replay_log<D: Disk>(
     requires good { IsSuper of }
     requires fits { image_size of.pages of.log_bytes ≤ D.extent disk.old }
     requires none { (at : Pages) × HasReplayed of at [] replay.old }
-    ensures found { (at : Pages) → HasReplayed of at [] replay.old → IfOk result (λ log. (batches : List (List Record)) × HasReplayedLog (heap_of of at batches) log replay.new × (IsTrue D.tells → HoldsBatches (log_part of (D.bytes disk.old)) batches)) }
+    ensures found { (at : Pages) → HasReplayed of at [] replay.old → IfOk result (λ log. (batches : List (List Record)) × HasReplayedLog (heap_with of at batches) log replay.new × (IsTrue D.tells → HoldsBatches (log_part of (D.bytes disk.old)) batches)) }
     ensures refused { IsTrue D.tells → IfErr result (IsToldOfLog (log_part of (D.bytes disk.old))) }
     ensures inside { IfOk result (λ log. log_place log + log_room log ≤ D.extent disk.new) }
     ensures few { IfOk result (λ log. log_count log < 2 ^ 32) }

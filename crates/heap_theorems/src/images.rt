@@ -6,8 +6,8 @@ ghost use Rattle.graph_model.specs.Graph.{Graph};
 ghost use Rattle.graph_words.specs.Places.{Places};
 ghost use Rattle.heap_model.specs.Core.{Core};
 ghost use Rattle.heap_model.specs.CoreCrash.{StandsForFirst};
-ghost use Rattle.heap_model.specs.Image.{IsLegal, IsShaped, IsShapedLog, StandsFor};
-ghost use Rattle.heap_model.specs.Opening.{IsFound, IsLeftByOpening, rolled_back, state_of};
+ghost use Rattle.heap_model.specs.Image.{StoredHeap, IsLegal, IsShaped, IsShapedLog, StandsFor, state_in};
+ghost use Rattle.heap_model.specs.Opening.{IsFound, IsLeftByOpening, rolled_back};
 ghost use Rattle.heap_program.specs.Stored.{IsStored};
 ghost use Rattle.heap_model.specs.Theorems.{SayingTheorem, OneMeaningTheorem};
 ghost use Rattle.heap_recovery.specs.Faults.{IsFaultAt, IsNoHeap};
@@ -60,7 +60,7 @@ pub fn no_fault_without_a_heap()
 
 /// A shaped image has no fault.
 pub fn no_fault_in_a_shaped_image()
-    ensures { (s : Super) (batches : List (List Record)) (stored : Pages) (image : List ℕ) (at : At) → IsShaped s batches stored image → IsFaultAt at image → ⊥ }
+    ensures { (stored : StoredHeap) (image : List ℕ) (at : At) → IsShaped stored image → IsFaultAt at image → ⊥ }
 {}
 
 /// Redo of a log on stored pages, each of which holds its records up to its LSN, leaves the words of the whole log, wherever the log begins.
@@ -81,7 +81,7 @@ pub fn commits_of_a_log()
 
 /// An image that is no heap is not shaped.
 pub fn no_heap_is_not_shaped()
-    ensures { (s : Super) (batches : List (List Record)) (stored : Pages) (image : List ℕ) → IsNoHeap image → IsShaped s batches stored image → ⊥ }
+    ensures { (stored : StoredHeap) (image : List ℕ) → IsNoHeap image → IsShaped stored image → ⊥ }
 {}
 
 /// Each image is no heap's, or damaged, at one place first, or shaped, and one of these alone.
@@ -91,7 +91,7 @@ pub fn each_image_is_of_one_kind()
 
 /// Each legal image is one that the theorems on runs are about: a graph stands in it, each object under the name of its birth.
 pub fn legal_image_is_stored()
-    ensures { (s : Super) (batches : List (List Record)) (stored : Pages) (image : List ℕ) → IsLegal s batches stored image → IsStored image }
+    ensures { (stored : StoredHeap) (image : List ℕ) → IsLegal stored image → IsStored image }
 {}
 
 /// In a legal log that is redone on its pages a graph is found, with the canon of each that the log shows.
@@ -101,7 +101,7 @@ pub fn legal_log_shows_its_graph()
 
 /// In a shaped log that is redone on its pages a graph is found, under names by address.
 pub fn shaped_log_shows_a_graph()
-    ensures { (s : Super) (batches : List (List Record)) (stored : Pages) (shaped : IsShapedLog s batches stored) → (places : Places) × (g : Graph) × IsFound s batches stored shaped false places g }
+    ensures { (stored : StoredHeap) (shaped : IsShapedLog stored) → (places : Places) × (g : Graph) × IsFound stored shaped false places g }
 {}
 
 /// An image stands for one graph, up to renaming objects, and for one number of commits.
@@ -111,16 +111,16 @@ pub fn one_meaning()
 
 /// What an opening leaves, at any moment of it, stands for the same graph and number of commits as the image that it opened.
 pub fn openings_keep_the_meaning()
-    ensures { (g : Graph) (k : ℕ) (image : List ℕ) (stands : StandsFor g k image) (new : List ℕ) → IsLeftByOpening stands.super stands.batches stands.stored new → StandsFor g k new }
+    ensures { (g : Graph) (k : ℕ) (image : List ℕ) (stands : StandsFor g k image) (new : List ℕ) → IsLeftByOpening stands.stored new → StandsFor g k new }
 {}
 
 /// What an opening leaves, at any moment of it, stands for the same commit prefix as the image that it opened.
 pub fn rolled_back_images_mean_the_same()
-    ensures { (c : Core) (k : ℕ) (image : List ℕ) (first : StandsForFirst c k image) (new : List ℕ) → IsLeftByOpening first.stands.super first.stands.batches first.stands.stored new → StandsForFirst c k new }
+    ensures { (c : Core) (k : ℕ) (image : List ℕ) (first : StandsForFirst c k image) (new : List ℕ) → IsLeftByOpening first.stands.stored new → StandsForFirst c k new }
 {}
 
 /// An opening leaves a collection where it was: what the log says once its transactions are rolled back has the same spaces, and the same objects
 /// copied and gray.
 pub fn openings_leave_collections()
-    ensures { (s : Super) (batches : List (List Record)) (stored : Pages) (shaped : IsShapedLog s batches stored) (n : State) → state_of s (rolled_back s batches) ≡ Some n → (spaces_of n ≡ spaces_of shaped.state) × (n.collection ≡ shaped.state.collection) }
+    ensures { (stored : StoredHeap) (shaped : IsShapedLog stored) (n : State) → state_in (rolled_back stored) ≡ Some n → (spaces_of n ≡ spaces_of shaped.state) × (n.collection ≡ shaped.state.collection) }
 {}

@@ -5,13 +5,10 @@ use Rattle.std.specs.List.{AllByRecursion}
 use Rattle.std.specs.Option.{option_map_or}
 use Rattle.byteorder.specs.Endian.{little_number}
 use Rattle.disk_model.specs.Disk.{part}
-use Rattle.gated_log.specs.Log.{records_of}
-use Rattle.image_plan.specs.declared.superblock.Super.{Super}
 use Rattle.image_plan.specs.Super.{IsSuper}
 use Rattle.log_records.specs.declared.Record.{Record}
 use Rattle.log_records.specs.Record.{IsRecord}
 use Rattle.log_machine.specs.Machine.{State, put_record, effect, all_taken_back, each_taken_back, losing_in, rollback, settled}
-use Rattle.log_machine.specs.Origin.{state_from}
 use Rattle.log_machine.proofs.AbortLaws.{rollback_good}
 use Rattle.log_machine.proofs.Bounds.{CanRollBack}
 use Rattle.log_machine.proofs.MapLaws.{entries_empty}
@@ -26,7 +23,7 @@ use Rattle.page_store.specs.declared.frame.Frame.TheVariants.{First, Second}
 use Rattle.page_store.specs.Frame.{spelled_words, frame_words, bytes_of, counting}
 use Rattle.page_store.specs.Page.{image_words, stored_words, first_words, frame_of, frame_place}
 use Rattle.heap_model.specs.Bits.{AreOf64Bits}
-use Rattle.heap_model.specs.Image.{origin_of, redone_words, words_of}
+use Rattle.heap_model.specs.Image.{StoredHeap, records_in, state_in, redone_words, words_of}
 use Rattle.heap_model.proofs.Step.Bits.{fit_record, fit_behind}
 use Rattle.image_laws.proofs.Bytes.{IsBytes, front_bytes, from_bytes}
 use Rattle.image_laws.proofs.Walk.{true_or_false}
@@ -106,10 +103,9 @@ back_fit s can now fit =
     subst AreOf64Bits (sym nothing ∙ taken_back-rollback s now) (fit_behind now (rollback s) fit (rollback_good s can))
 
 -- The words that an image's log leaves.
-pub left_fit : (s : Super) (batches : List (List Record)) (stored : Pages) (state : State) → IsSuper s → AllByRecursion IsRecord (records_of batches) → state_from (origin_of s) (records_of batches) ≡ Some state
-    → AreOf64Bits stored.words → AreOf64Bits (words_of s batches stored)
-left_fit s batches stored state limits good reached fit =
-    let can = can_roll_back s.pages s.first state (records_of batches) limits.some_pages limits.few_pages good reached in
-    let redone = redone_fit 1 stored (records_of batches) fit good in
-    let is : all_taken_back state (redone_words s batches stored) ≡ words_of s batches stored = ap (λ (o : Option State). each_taken_back (losing_in o) (redone_words s batches stored)) (sym reached) in
-    subst AreOf64Bits is (back_fit state can (redone_words s batches stored) redone)
+pub left_fit : (stored : StoredHeap) (state : State) → IsSuper stored.super → AllByRecursion IsRecord (records_in stored) → state_in stored ≡ Some state → AreOf64Bits stored.pages.words → AreOf64Bits (words_of stored)
+left_fit stored state limits good reached fit =
+    let can = can_roll_back stored.super.pages stored.super.first state (records_in stored) limits.some_pages limits.few_pages good reached in
+    let redone = redone_fit 1 stored.pages (records_in stored) fit good in
+    let is : all_taken_back state (redone_words stored) ≡ words_of stored = ap (λ (o : Option State). each_taken_back (losing_in o) (redone_words stored)) (sym reached) in
+    subst AreOf64Bits is (back_fit state can (redone_words stored) redone)

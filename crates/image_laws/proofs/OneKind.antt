@@ -2,20 +2,18 @@
 use Rattle.std.proofs.Common.{◌⊎◌, inl, inr, ℕ, ◌+◌, ◌-◌, ◌≤◌, List, length, take, refl, sym, ◌∙◌, subst, arith}
 use Rattle.std.proofs.lemmas.Bool.{cases_lt}
 use Rattle.std.proofs.lemmas.List.FromFn.{length-map-range_with_len}
-use Rattle.disk_model.specs.Disk.{part}
 use Rattle.gate_slot.proofs.ImageLaws.{length_part}
-use Rattle.gated_log.specs.Log.{batches_bytes, records_of}
+use Rattle.gated_log.specs.Log.{batches_bytes}
 use Rattle.image_plan.specs.declared.superblock.Super.{Super}
 use Rattle.image_plan.specs.Plan.{log_offset, image_size}
 use Rattle.image_plan.proofs.SuperLaws.{one_super}
 use Rattle.log_records.specs.declared.Record.{Record}
 use Rattle.log_machine.specs.Machine.{State, reserve}
-use Rattle.log_machine.specs.Origin.{next_lsn}
 use Rattle.page_redo.specs.Pages.{pages_in}
 use Rattle.page_store.specs.Page.{page_lsn}
 use Rattle.page_store.proofs.StoreLaws.{length-image_words}
 use Rattle.walk_laws.specs.Heap.{from_space}
-use Rattle.heap_model.specs.Image.{origin_of, words_of}
+use Rattle.heap_model.specs.Image.{StoredHeap, origin_of, records_in, next_lsn_of, words_of, log_part}
 use Rattle.heap_recovery.specs.declared.at.At.{At}
 use Rattle.heap_recovery.specs.declared.at.At.TheVariants.{Batch, Rec, Reserve, Page, Address}
 use Rattle.heap_recovery.specs.Faults.{HasSuper, IsNoHeap, HoldsLog, IsReplayed, HasRoom, IsReadable, IsFaultAt, stored_in}
@@ -45,17 +43,19 @@ abbrev IsDamagedOrShaped : List ℕ → Type 0
 IsDamagedOrShaped image = ((at : At) × IsFaultAt at image) ⊎ IsShapedImage image
 
 module _ (image : List ℕ) (fits : AreBytes image) (s : Super) (has : HasSuper s image) where
+  -- the heap that the image holds where its log holds these batches
+  abbrev with_log : List (List Record) → StoredHeap
+  with_log batches = record { super = s; batches = batches; pages = stored_in s image }
+
   -- the walk of the words of a log that can be read
-  readable_kind : (batches : List (List Record)) (state : State) → IsReadable s batches state image → IsDamagedOrShaped image
+  readable_kind : (batches : List (List Record)) (state : State) → IsReadable (with_log batches) state image → IsDamagedOrShaped image
   readable_kind batches state readable =
-      let words = words_of s batches (stored_in s image) in
+      let stored = with_log batches in
       let replayed = readable.roomy.replayed in
-      elim (beside_or_fault words state.base state.used (from_space state)) [
-        | inr (at, fault) ↦ inl (Address at, (s, batches, state, readable, fault))
+      elim (beside_or_fault (words_of stored) state.base state.used (from_space state)) [
+        | inr (at, fault) ↦ inl (Address at, (stored, state, readable, fault))
         | inl walked ↦ inr (record {
-          super = s;
-          batches = batches;
-          stored = stored_in s image;
+          stored = stored;
           shaped = record {
             log = record {
               limits = has.limits;
@@ -66,7 +66,7 @@ module _ (image : List ℕ) (fits : AreBytes image) (s : Super) (has : HasSuper 
               size = length-image_words s.log_bytes image (pages_in s.pages) ∙ omega arith;
               lsns_size = length-map-range_with_len (λ p. page_lsn s.log_bytes p image) 0 (pages_in s.pages);
               behind = readable.behind;
-              fit = left_fit s batches (stored_in s image) state has.limits replayed.log.good replayed.reached (stored_fit s.log_bytes (pages_in s.pages) image fits);
+              fit = left_fit stored state has.limits replayed.log.good replayed.reached (stored_fit s.log_bytes (pages_in s.pages) image fits);
               walked = walked;
             };
             held = record { size = has.size; super = has.super; log = replayed.log.held; pages = refl };
@@ -75,46 +75,49 @@ module _ (image : List ℕ) (fits : AreBytes image) (s : Super) (has : HasSuper 
       ]
 
   -- its pages beside its log
-  roomy_kind : (batches : List (List Record)) (state : State) → HasRoom s batches state image → IsDamagedOrShaped image
+  roomy_kind : (batches : List (List Record)) (state : State) → HasRoom (with_log batches) state image → IsDamagedOrShaped image
   roomy_kind batches state roomy =
-      elim (behind_or_past (next_lsn (origin_of s) (records_of batches) - 1) (stored_in s image)) [
-        | inr (page, first) ↦ inl (Page page, (s, batches, state, roomy, first))
+      let stored = with_log batches in
+      elim (behind_or_past (next_lsn_of stored - 1) stored.pages) [
+        | inr (page, first) ↦ inl (Page page, (stored, state, roomy, first))
         | inl behind ↦ readable_kind batches state (record { roomy = roomy; behind = λ p. (let last = behind p in omega (arith, last)) })
       ]
 
   -- the room for a rollback
-  replayed_kind : (batches : List (List Record)) (state : State) → IsReplayed s batches state image → IsDamagedOrShaped image
+  replayed_kind : (batches : List (List Record)) (state : State) → IsReplayed (with_log batches) state image → IsDamagedOrShaped image
   replayed_kind batches state replayed =
       elim (cases_lt s.log_bytes (length (batches_bytes batches) + 1 + reserve state)) [
-        | inl lack ↦ inl (Reserve, (s, batches, state, replayed, lack))
+        | inl lack ↦ inl (Reserve, (with_log batches, state, replayed, lack))
         | inr room ↦ roomy_kind batches state (record { replayed = replayed; room = room })
       ]
 
   -- its records
-  logged_kind : (batches : List (List Record)) → HoldsLog s batches image → IsDamagedOrShaped image
-  logged_kind batches log = elim (follow_or_stuck (origin_of s) (records_of batches)) [
-    | inr (lsn, first) ↦ inl (Rec lsn, (s, batches, log, first))
-    | inl (state, reached) ↦ replayed_kind batches state (record { log = log; reached = reached })
-  ]
+  logged_kind : (batches : List (List Record)) → HoldsLog (with_log batches) image → IsDamagedOrShaped image
+  logged_kind batches log =
+      let stored = with_log batches in
+      elim (follow_or_stuck (origin_of stored) (records_in stored)) [
+        | inr (lsn, first) ↦ inl (Rec lsn, (stored, log, first))
+        | inl (state, reached) ↦ replayed_kind batches state (record { log = log; reached = reached })
+      ]
 
   -- its log
   heap_kind : IsDamagedOrShaped image
   heap_kind =
-      let log = part image log_offset s.log_bytes in
+      let log = log_part s image in
       let size = has.size in
       let small = has.limits.small_log in
       let some = has.limits.some_log in
       let long = length_part image log_offset s.log_bytes (omega arith) in
       elim (log_or_breaks log (part_bytes image log_offset s.log_bytes fits) (omega arith) (omega arith)) [
         | inr (offset, breaks) ↦ inl (Batch offset, (s, has, breaks))
-        | inl (batches, good, held) ↦ logged_kind batches (record { super = has; held = held; good = good })
+        | inl (batches, good, held) ↦ logged_kind batches (record { super = has; held = held; pages = refl; good = good })
       ]
 
 unshaped_heap : (image : List ℕ) → IsNoHeap image → ¬ IsShapedImage image
-unshaped_heap image none is = none is.super (record { limits = is.shaped.log.limits; super = is.shaped.held.super; size = is.shaped.held.size })
+unshaped_heap image none is = none is.stored.super (record { limits = is.shaped.log.limits; super = is.shaped.held.super; size = is.shaped.held.size })
 
 unshaped_fault : (image : List ℕ) → IsDamaged image → ¬ IsShapedImage image
-unshaped_fault image damage is = shaped_whole is.super is.batches is.stored image damage.at is.shaped damage.fault
+unshaped_fault image damage is = shaped_whole is.stored image damage.at is.shaped damage.fault
 
 -- each image is of one kind, and of one alone
 pub one_kind : (image : List ℕ) → AreBytes image → IsOfOneKind image
@@ -124,6 +127,6 @@ one_kind image fits = elim (heap_or_none image) [
     | inl (at, fault) ↦
         let damage : IsDamaged image = record { at = at; fault = fault; only = λ other is. one_fault image other at is fault } in
         damaged damage (λ none. no_heap_fault at image none fault) (unshaped_fault image damage)
-    | inr is ↦ shaped is (λ none. unshaped_heap image none is) (λ at fault. shaped_whole is.super is.batches is.stored image at is.shaped fault)
+    | inr is ↦ shaped is (λ none. unshaped_heap image none is) (λ at fault. shaped_whole is.stored image at is.shaped fault)
   ]
 ]

@@ -1,9 +1,6 @@
 -- What an image is: no heap's, damaged, or shaped.
 use Rattle.std.specs.Prelude.{◌≡◌, ℕ, ◌^◌, ◌<◌, List, slice_index}
-use Rattle.image_plan.specs.declared.superblock.Super.{Super}
-use Rattle.log_records.specs.declared.Record.{Record}
-use Rattle.page_redo.specs.Pages.{Pages}
-use Rattle.heap_model.specs.Image.{IsShaped}
+use Rattle.heap_model.specs.Image.{StoredHeap, IsShaped}
 use Rattle.heap_recovery.specs.declared.at.At.{At}
 use Rattle.heap_recovery.specs.Faults.{IsNoHeap, IsFaultAt}
 
@@ -19,10 +16,8 @@ pub record IsDamaged (image : List ℕ) : Type 0 where
 
 -- The image is a heap's, and shaped.
 pub record IsShapedImage (image : List ℕ) : Type 0 where
-  pub super : Super
-  pub batches : List (List Record)
-  pub stored : Pages
-  pub shaped : IsShaped super batches stored image
+  pub stored : StoredHeap
+  pub shaped : IsShaped stored image
 
 -- It is one of these, and neither of the other two.
 pub data IsOfOneKind (image : List ℕ) : Type 0 where

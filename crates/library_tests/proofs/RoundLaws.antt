@@ -35,13 +35,13 @@ use Rattle.library_tests.specs.Rounds.{Unharmed, opened_on, IsGoing, IsRound}
 use Rattle.library_tests.proofs.Going.{KeepsCounts, HasGone}
 
 -- the legal image in what stands for a graph and commits
-abbrev pub legal_of : {g : Graph} {k : ℕ} {image : List ℕ} (stands : StandsFor g k image) → IsLegal stands.super stands.batches stands.stored image
+abbrev pub legal_of : {g : Graph} {k : ℕ} {image : List ℕ} (stands : StandsFor g k image) → IsLegal stands.stored image
 legal_of stands = record { log = stands.says.legal; held = stands.held }
 
 -- the graph that stands in what its log leaves, under the names of births
 abbrev pub found_of : {g : Graph} {k : ℕ} {image : List ℕ} (stands : StandsFor g k image)
-    → (places : Places) × (h : Graph) × IsFound stands.super stands.batches stands.stored stands.says.legal.shaped true places h × (canon h ≡ canon stands.says.seen) × SaysOn h stands.super stands.batches stands.stored
-found_of stands = saying_law stands.super stands.batches stands.stored stands.says.legal stands.says.seen stands.says.shows
+    → (places : Places) × (h : Graph) × IsFound stands.stored stands.says.legal.shaped true places h × (canon h ≡ canon stands.says.seen) × SaysOn h stands.stored
+found_of stands = saying_law stands.stored stands.says.legal stands.says.seen stands.says.shows
 
 -- the core that is opened on it
 abbrev pub core_of : {g : Graph} {k : ℕ} {image : List ℕ} → StandsFor g k image → Core
@@ -59,7 +59,7 @@ going_opened {image = image} unharmed stands =
       same = found.3 ∙ stands.says.graph;
       run = refl;
       all = λ u. refl;
-      reached = opened_reached stands.super stands.batches stands.stored stands.says.legal.shaped (open_gates stands.super.log_bytes image) true found.0 found.1 found.2;
+      reached = opened_reached stands.stored stands.says.legal.shaped (open_gates stands.stored.super.log_bytes image) true found.0 found.1 found.2;
     }
 
 -- one more event

@@ -8,7 +8,6 @@ use Rattle.graph_model.specs.Canon.{canon}
 use Rattle.graph_model.specs.Transaction.{serial}
 use Rattle.graph_model.specs.History.{commits}
 use Rattle.graph_words.specs.Places.{Places}
-use Rattle.image_plan.specs.declared.superblock.Super.{Super}
 use Rattle.page_store.specs.Gates.{open_gates}
 use Rattle.heap_model.specs.Core.{Core, IsRun}
 use Rattle.heap_model.specs.CoreCrash.{StandsForFirst}
@@ -19,7 +18,7 @@ use Rattle.core_laws.specs.Valid.{IsReached}
 
 -- the core that is opened on an image of a graph and commits, under these names of its objects
 abbrev pub opened_on : {g : Graph} {k : ℕ} {image : List ℕ} → StandsFor g k image → Places → Graph → Core
-opened_on {image = image} stands places named = opened stands.super stands.batches stands.stored (open_gates stands.super.log_bytes image) true places named
+opened_on {image = image} stands places named = opened stands.stored (open_gates stands.stored.super.log_bytes image) true places named
 
 -- A heap was opened on an image that stands for graph g and k commits, and these events led from the core that was opened to c. If the disk was
 -- not harmed, all of them were made, one after another; otherwise the run was cut short at some event.
@@ -27,7 +26,7 @@ pub record IsGoing (g : Graph) (k : ℕ) (image : List ℕ) (events : List Event
   pub stands : StandsFor g k image
   pub places : Places
   pub named : Graph
-  pub found : IsFound stands.super stands.batches stands.stored stands.says.legal.shaped true places named
+  pub found : IsFound stands.stored stands.says.legal.shaped true places named
   pub same : canon named ≡ canon g
   pub run : IsRun (opened_on stands places named) events c
   pub all : unharmed → c ≡ after_events (opened_on stands places named) events

@@ -28,15 +28,15 @@ module _ {D : Type 0} (g : Ghosts D) (at_opening : ℕ) (tells : Bool) (left res
       let keeps = served.disk.kept (g.bytes mid) reads in
       let stands = keeps.1.stands in
       let says = stands.says in
-      let found = saying_law stands.super stands.batches stands.stored says.legal says.seen says.shows in
+      let found = saying_law stands.stored says.legal says.seen says.shows in
       record {
         only = only;
         count = keeps.0;
         least = omega (arith, keeps.1.kept, keeps.1.forced);
         most = keeps.1.some;
-        stored = record { super = stands.super; batches = stands.batches; pages = stands.stored; legal = record { log = says.legal; held = stands.held }; places = found.0; graph = found.1; found = found.2 };
+        stored = record { heap = stands.stored; legal = record { log = says.legal; held = stands.held }; places = found.0; graph = found.1; found = found.2 };
         graph = found.3 ∙ says.graph;
-        before = commits_are stands.super stands.batches stands.stored says.legal.shaped ∙ says.count;
+        before = commits_are stands.stored says.legal.shaped ∙ says.count;
       }
 
   -- a part of a session is done where the next one begins

@@ -126,7 +126,7 @@ module _ {D : Type 0} {g : Ghosts D} (s : Super) (tells : Bool) (left rest : Lis
 
 -- A session that ended so, on the heap that was opened from a stored image.
 module _ {D : Type 0} {g : Ghosts D} {bytes : List ℕ} (stored : IsStored bytes) (running : IsRunning (stored_core stored)) (tells : Bool) (left rest : List ℕ) (start : D) (old new : Heap D g) (told : Bool) (before after : List ℕ) (result : Result Next Break)
-    (on : ServesOn stored.super tells left rest (stored_core stored) old new told before after result) where
+    (on : ServesOn stored.heap.super tells left rest (stored_core stored) old new told before after result) where
   abbrev c : Core
   c = stored_core stored
 
@@ -149,7 +149,7 @@ module _ {D : Type 0} {g : Ghosts D} {bytes : List ℕ} (stored : IsStored bytes
   run = makes_run c made [] at_end old new (subst (AreReady c) (sym (append-nil made)) ready) on.makes.makes
 
   kept : (image : List ℕ) → g.may_leave new.disk image → IsCommitPrefix at_end image
-  kept = heap_leaves stored.super at_end new on.makes.heap run.1
+  kept = heap_leaves stored.heap.super at_end new on.makes.heap run.1
 
   -- nothing is unsynced where the disk did what it was asked
   settled : MadeAll c made at_end → Only (g.bytes new.disk) (g.may_leave new.disk)

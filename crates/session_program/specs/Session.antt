@@ -6,8 +6,6 @@ use Rattle.disk_model.specs.declared.disk.Disk.{Ghosts}
 use Rattle.graph_model.specs.declared.event.Event.{Event}
 use Rattle.graph_model.specs.History.{IsOfSession}
 use Rattle.image_plan.specs.declared.superblock.Super.{Super}
-use Rattle.log_records.specs.declared.Record.{Record}
-use Rattle.page_redo.specs.Pages.{Pages}
 use Rattle.heap_core.specs.declared.heap.Heap.{Heap}
 use Rattle.heap_core.specs.HeapState.{heap_disk}
 use Rattle.heap_core.specs.Refinement.{IsCore, IsHeap}
@@ -29,6 +27,7 @@ use Rattle.session_program.specs.declared.parts.Next.{Next}
 use Rattle.session_program.specs.declared.parts.Next.TheVariants as next
 use Rattle.session_program.specs.Ending.{session_status, next_of}
 use Rattle.session_program.specs.Lines.{reopen_line, Answered, IsOfItsEvents, asked, heard_of, answers_text, named, fault_of, as_taken}
+use Rattle.heap_model.specs.Image.{StoredHeap}
 
 -- A line `reopen` may be refused there: a session has a transaction, or records are pending.
 abbrev pub MayRefuse : Core → Option (List ℕ) → Type 0
@@ -192,10 +191,10 @@ module _ {D : Type 0} {g : Ghosts D} where
     pub makes : MakesSession s c old new serves.answered (last_of tells left rest c new told before after result serves) result
 
 -- A heap was opened, with some graph, on a shaped log beside stored pages as `from` says, and a session was served on it.
-pub record ServesHeap {D : Type 0} (g : Ghosts D) (from : Super → List (List Record) → Pages → (ℕ → ℕ) → Type 0) (tells : Bool) (left rest : List ℕ) (final : D) (by : Status) (n : Next) (told : Bool) (before after : List ℕ) : Type 0 where
+pub record ServesHeap {D : Type 0} (g : Ghosts D) (from : StoredHeap → (ℕ → ℕ) → Type 0) (tells : Bool) (left rest : List ℕ) (final : D) (by : Status) (n : Next) (told : Bool) (before after : List ℕ) : Type 0 where
   pub first : Core
   pub opened : IsOpened first
-  pub image : from opened.super opened.batches opened.stored opened.gates
+  pub image : from opened.heap opened.gates
   pub heap : Heap D g
   pub disk : final ≡ heap_disk heap
   pub result : Result Next Break

@@ -4,9 +4,6 @@ use Rattle.std.specs.Prelude.{IsTrue, IsErr}
 use Rattle.std.specs.List.{AllByRecursion}
 use Rattle.graph_model.specs.declared.event.Event.{Event}
 use Rattle.graph_model.specs.History.{account, IsOfSession}
-use Rattle.image_plan.specs.declared.superblock.Super.{Super}
-use Rattle.log_records.specs.declared.Record.{Record}
-use Rattle.page_redo.specs.Pages.{Pages}
 use Rattle.heap_model.specs.Core.{Core}
 use Rattle.heap_model.specs.Ending.{ending}
 use Rattle.heap_program.specs.declared.status.Status.{Status}
@@ -18,6 +15,7 @@ use Rattle.script_text.specs.declared.line.Line.{Line}
 use Rattle.thread_program.specs.Together.{MakesTogether, RunsByWorkers, EndsUnwritten, PrintsTogether, PrintsSomeTogether}
 use Rattle.thread_program.specs.Written.{WritesAll}
 use Rattle.thread_program.proofs.MadeLaws.{made_again}
+use Rattle.heap_model.specs.Image.{StoredHeap}
 
 module _ (c : Core) (running : IsRunning c) (new : c.history ≡ []) (tries : ℕ) (lines : List Line) (made : List Event) (core : Core) (of : AllByRecursion IsOfSession made) (result : Status) (told : Bool) (before after : List ℕ) where
   abbrev pub runs_by : (together : MakesTogether tries lines c made core result) → IsEndOfPlay result → (result ≡ status.DiskFault → (account core.history).failed ≢ None) → (IsTrue told → WritesAll core result before after)
@@ -37,8 +35,8 @@ module _ (c : Core) (running : IsRunning c) (new : c.history ≡ []) (tries : �
   }
 
 -- It says so of the script that was read, and of less of the image and of the disk.
-pub prints_script : {from less : Super → List (List Record) → Pages → (ℕ → ℕ) → Type 0} {rose rose' : Type 0} (read : List Line → Type 0) (tries : ℕ) (script : List Line) (by : Status) (told : Bool) (before after : List ℕ) → read script
-    → ((s : Super) (batches : List (List Record)) (stored : Pages) (gates : ℕ → ℕ) → from s batches stored gates → less s batches stored gates) → (rose → rose') → PrintsSomeTogether from rose tries script by told before after
+pub prints_script : {from less : StoredHeap → (ℕ → ℕ) → Type 0} {rose rose' : Type 0} (read : List Line → Type 0) (tries : ℕ) (script : List Line) (by : Status) (told : Bool) (before after : List ℕ) → read script
+    → ((stored : StoredHeap) (gates : ℕ → ℕ) → from stored gates → less stored gates) → (rose → rose') → PrintsSomeTogether from rose tries script by told before after
     → EndsUnwritten by told before after ⊎ ((lines : List Line) × read lines × PrintsTogether less rose' tries lines by told before after)
 prints_script read tries script by told before after is implies more (inl nothing) = inl nothing
 prints_script read tries script by told before after is implies more (inr run) = inr (
@@ -47,7 +45,7 @@ prints_script read tries script by told before after is implies more (inr run) =
   record {
     first = run.first;
     opened = run.opened;
-    image = implies run.opened.super run.opened.batches run.opened.stored run.opened.gates run.image;
+    image = implies run.opened.heap run.opened.gates run.image;
     runs = run.runs;
     caused = λ failed. elim (run.caused failed) [ inl up ↦ inl (more up) | inr memory ↦ inr memory ];
   },

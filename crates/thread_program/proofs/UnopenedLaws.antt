@@ -118,7 +118,7 @@ module _ {D : Type 0} (g : Ghosts D) {bytes : List ℕ} (stored : IsStored bytes
         calls = calls.2;
         most = most;
         replies = refl;
-        least = let on_disk : commits_on_disk c ≡ c.before = rolled_commits stored.super stored.batches stored.pages stored.legal.log.shaped in omega (arith, on_disk);
+        least = let on_disk : commits_on_disk c ≡ c.before = rolled_commits stored.heap stored.legal.log.shaped in omega (arith, on_disk);
         durable = λ done. absurd (early done);
         settled = λ other good. only (outside_memory e outside (λ fault. other (is ∙ fault)));
       }

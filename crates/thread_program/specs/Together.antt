@@ -12,8 +12,6 @@ use Rattle.graph_model.specs.declared.reply.Reply.{Reply}
 use Rattle.graph_model.specs.History.{IsOfSession, account, sealed, commits, acknowledged}
 use Rattle.graph_model.specs.Transaction.{serial, serial_replies}
 use Rattle.image_plan.specs.declared.superblock.Super.{Super}
-use Rattle.log_records.specs.declared.Record.{Record}
-use Rattle.page_redo.specs.Pages.{Pages}
 use Rattle.commit_order.specs.Heard.{replies_of_commits}
 use Rattle.heap_core.specs.declared.heap.Heap.{Heap}
 use Rattle.heap_core.specs.HeapState.{heap_disk}
@@ -23,7 +21,7 @@ use Rattle.heap_model.specs.Core.{Core, with_entry, IsCutShort, IsRun}
 use Rattle.heap_model.specs.CoreCrash.{HasAtLeast}
 use Rattle.heap_model.specs.CoreRuns.{after_events, total_calls}
 use Rattle.heap_model.specs.Ending.{ending, all_events}
-use Rattle.heap_model.specs.Image.{StandsFor}
+use Rattle.heap_model.specs.Image.{StoredHeap, StandsFor}
 use Rattle.script_text.specs.declared.line.Line.{Line}
 pub use Rattle.thread_play.specs.Worked.{IsWorked}
 use Rattle.heap_program.specs.declared.status.Status.{Status}
@@ -96,10 +94,10 @@ pub record RunsByWorkers (tries : ℕ) (lines : List Line) (c : Core) (result : 
 
 -- On any disk: a heap was opened with some graph, and workers sent their events to it. What was opened is `from` where that says. The disk failed or
 -- stopped in an event only if its counts of that rose, unless memory ran out and nothing was written.
-pub record PrintsTogether (from : Super → List (List Record) → Pages → (ℕ → ℕ) → Type 0) (rose : Type 0) (tries : ℕ) (lines : List Line) (result : Status) (told : Bool) (before after : List ℕ) : Type 0 where
+pub record PrintsTogether (from : StoredHeap → (ℕ → ℕ) → Type 0) (rose : Type 0) (tries : ℕ) (lines : List Line) (result : Status) (told : Bool) (before after : List ℕ) : Type 0 where
   pub first : Core
   pub opened : IsOpened first
-  pub image : from opened.super opened.batches opened.stored opened.gates
+  pub image : from opened.heap opened.gates
   pub runs : RunsByWorkers tries lines first result told before after
   pub caused : (account runs.core.history).failed ≢ None → rose ⊎ ((result ≡ status.NoMemory) × (IsTrue told → after ≡ before))
 
@@ -108,7 +106,7 @@ abbrev pub EndsUnwritten : Status → Bool → List ℕ → List ℕ → Type 0
 EndsUnwritten result told before after = (result ≢ status.Done) × (result ≢ status.WriteFault) × (IsTrue told → after ≡ before)
 
 -- Nothing was written, or that was.
-abbrev pub PrintsSomeTogether : (Super → List (List Record) → Pages → (ℕ → ℕ) → Type 0) → Type 0 → ℕ → List Line → Status → Bool → List ℕ → List ℕ → Type 0
+abbrev pub PrintsSomeTogether : (StoredHeap → (ℕ → ℕ) → Type 0) → Type 0 → ℕ → List Line → Status → Bool → List ℕ → List ℕ → Type 0
 PrintsSomeTogether from rose tries lines result told before after = EndsUnwritten result told before after ⊎ PrintsTogether from rose tries lines result told before after
 
 module _ {D : Type 0} {g : Ghosts D} where

@@ -5,15 +5,13 @@ ghost use Rattle.graph_model.specs.Graph.{Graph};
 ghost use Rattle.graph_words.specs.Places.{Places};
 ghost use Rattle.image_plan.specs.declared.superblock.Super.{Super};
 ghost use Rattle.image_plan.specs.Plan.{image_size};
-ghost use Rattle.log_records.specs.declared.Record.{Record};
 ghost use Rattle.script_text.specs.declared.line.Line.{Line};
 ghost use Rattle.script_text.specs.declared.script.ScriptError.TheVariants.{Fault};
 ghost use Rattle.command_words.specs.Command.{command};
 ghost use Rattle.command_words.specs.declared.commands.Command.{Command};
 ghost use Rattle.command_words.specs.declared.commands.Command.TheVariants as asked;
 ghost use Rattle.command_words.specs.declared.commands.Stop.{Stop};
-ghost use Rattle.page_redo.specs.Pages.{Pages};
-ghost use Rattle.heap_model.specs.Image.{IsShaped};
+ghost use Rattle.heap_model.specs.Image.{StoredHeap, IsShaped};
 ghost use Rattle.heap_model.specs.Opening.{IsFound};
 ghost use Rattle.heap_program.specs.Causes.{DiskRose, StreamCause, RunsDisk, CountsStay};
 ghost use Rattle.heap_program.specs.Commands.{makes, superblock_numbers, restarts_of, IsPlay, IsEndOf, MeetsNoFault, CanRun, RunsFormat, PrintsGraph, WritesText, formatted_line};
@@ -95,8 +93,8 @@ pub fn run<D: Disk + Send, S: Source, K: Sink, G: Gate + Sync, R: Threads + Wait
         → RunsFormat D.Disk s disk result.1 result.0 K.tells (K.written sink.old) (K.written sink.new)) }
     // The graph of a shaped image was written, whatever stands in it, under whatever names.
     ensures graph { OfTold D.tells (D.bytes disk) (D.may_leave disk) (command (map string_bytes words.now) ≡ Some asked.Graph
-        → (s : Super) (batches : List (List Record)) (stored : Pages) → (shaped : IsShaped s batches stored (D.bytes disk)) → (born : Bool) (places : Places) (g : Graph) → IsFound s batches stored shaped.log born places g
-        → PrintsGraph D.Disk s batches stored g disk result.1 result.0 K.tells (K.written sink.old) (K.written sink.new)) }
+        → (stored : StoredHeap) → (shaped : IsShaped stored (D.bytes disk)) → (born : Bool) (places : Places) (g : Graph) → IsFound stored shaped.log born places g
+        → PrintsGraph D.Disk stored g disk result.1 result.0 K.tells (K.written sink.old) (K.written sink.new)) }
 
     // A load was played on a heap, a new one or the existing one: the same is said of its events as of a play's, with every moment. Its summary
     // was written: how many they are, how often they were answered so, and how many objects their graph has.

@@ -10,11 +10,11 @@ use Rattle.image_plan.specs.declared.plan.Plan.{Plan}
 use Rattle.image_plan.specs.Super.{superblock}
 use Rattle.image_plan.specs.Plan.{image_size}
 use Rattle.heap_core.specs.Format.{AreZero, IsEmptyHeap, IsFormatting, zero_writes}
-use Rattle.page_redo.specs.Pages.{first_pages}
 use Rattle.heap_model.specs.Image.{IsLegal}
 use Rattle.heap_core.proofs.Empty.{empty, empty_heap, zeroing, filling, closing_run, run_then, made_calls, gate_calls, zero_calls}
 use Rattle.heap_core.proofs.Outside.{closed_outside, gate_outside, zeros_outside, filling_outside, filled_outside}
 use Rattle.heap_core.proofs.formatting.write_empty.Goals as goal
+use Rattle.heap_model.specs.NewHeap.{new_heap}
 
 pub returns-clause-made : goal.returns-clause-made
 returns-clause-made g c tells =
@@ -26,8 +26,8 @@ returns-clause-made g c tells =
     let large : image_size s.pages s.log_bytes ≤ length seen = omega (arith, whole, c.write_zeros.ensures.disk.extent, c.close_gate.ensures.disk.extent, c.requires.inside) in
     let end : c.size.result ≡ image_size s.pages s.log_bytes = c.size.ensures ∙ ap (λ (p : Plan). image_size p.pages p.log_bytes) c.plan.ensures in
     let zero_all : AreZero 64 (image_size s.pages s.log_bytes) seen = subst (λ (n : ℕ). AreZero 64 n seen) end zero in
-    let made : d.bytes c.fill_and_open.new.disk ≡ filled 0 1 (take 63 (drop 1 c.write_super-bytes.result)) seen → IsLegal s [] (first_pages s.pages) (d.bytes c.fill_and_open.new.disk) =
-    λ is. subst (λ (x : List ℕ). IsLegal s [] (first_pages s.pages) x) (sym (is ∙ ap (λ (l : List ℕ). filled 0 1 (take 63 (drop 1 l)) seen) c.write_super-bytes.ensures)) (empty s seen large c.requires.good zero_all) in
+    let made : d.bytes c.fill_and_open.new.disk ≡ filled 0 1 (take 63 (drop 1 c.write_super-bytes.result)) seen → IsLegal (new_heap s) (d.bytes c.fill_and_open.new.disk) =
+    λ is. subst (λ (x : List ℕ). IsLegal (new_heap s) x) (sym (is ∙ ap (λ (l : List ℕ). filled 0 1 (take 63 (drop 1 l)) seen) c.write_super-bytes.ensures)) (empty s seen large c.requires.good zero_all) in
     on_ok_weaker c.fill_and_open.result made (c.fill_and_open.ensures.filled tells)
 
 pub returns-clause-empty : goal.returns-clause-empty

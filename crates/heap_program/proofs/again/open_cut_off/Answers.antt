@@ -30,17 +30,17 @@ returns-in-Ok-clause-cut g c tells core k at_first at_only =
     let first = subst (λ x. StandsForFirst core k (d.bytes x)) (sym inner) at_first in
     let only = subst (λ x. Only (d.bytes x) (d.may_leave x)) (sym inner) at_only in
     let stands = first.stands in
-    let legal : IsLegal stands.super stands.batches stands.stored (d.bytes start) = record { log = stands.says.legal; held = stands.held } in
-    let n = opening_calls stands.super stands.batches in
+    let legal : IsLegal stands.stored (d.bytes start) = record { log = stands.says.legal; held = stands.held } in
+    let n = opening_calls stands.stored in
     let origin = e.image.disk.origin ∙ c.new.ensures.origin in
     let began = same_disk _ _ origin ∙ sym inner in
     let within = subst (λ (m : ℕ). fuse_passed fuse ≤ m) (same_limit _ _ origin) fuse.within in
     let shaped = shaped_image legal in
-    let log = (e.image.readable tells stands.super stands.batches shaped.log.state (shaped_readable stands.super stands.batches stands.stored (d.bytes start) shaped)).moments only in
-    let keeps = keeps_first d core k start (fuse_inner fuse) first (fuse_since c.new.result fuse _ ((e.image.shaped tells stands.super stands.batches stands.stored shaped).moments only)) (fuse_since c.new.result fuse _ log)
-    (λ left may. (e.image.shaped tells stands.super stands.batches stands.stored shaped).crash only left may) (e.image.disk.restarts tells) in
+    let log = (e.image.readable tells stands.stored shaped.log.state (shaped_readable stands.stored (d.bytes start) shaped)).moments only in
+    let keeps = keeps_first d core k start (fuse_inner fuse) first (fuse_since c.new.result fuse _ ((e.image.shaped tells stands.stored shaped).moments only)) (fuse_since c.new.result fuse _ log)
+    (λ left may. (e.image.shaped tells stands.stored shaped).crash only left may) (e.image.disk.restarts tells) in
     let through = min c.args.calls n in
-    let all : fuse_passed fuse ≡ through = whole_passes c.args.calls n (fuse_passed fuse) (few_to_open (rollback_of stands.super stands.batches)) within ((e.image.shaped tells stands.super stands.batches stands.stored (shaped_image legal)).passes.ok ∙ ap (counted n) c.new.ensures.passed) in
+    let all : fuse_passed fuse ≡ through = whole_passes c.args.calls n (fuse_passed fuse) (few_to_open (rollback_of stands.stored)) within ((e.image.shaped tells stands.stored (shaped_image legal)).passes.ok ∙ ap (counted n) c.new.ensures.passed) in
     let cut : IsCutOff d c.args.calls core k start (fuse_inner fuse) = record {
       keeps = keeps;
       passed = λ u. fuse_passes fuse start through tells began u all;
@@ -60,18 +60,18 @@ returns-else-eq-clause-cut g c tells core k at_first at_only =
     let first = subst (λ x. StandsForFirst core k (d.bytes x)) (sym inner) at_first in
     let only = subst (λ x. Only (d.bytes x) (d.may_leave x)) (sym inner) at_only in
     let stands = first.stands in
-    let legal : IsLegal stands.super stands.batches stands.stored (d.bytes start) = record { log = stands.says.legal; held = stands.held } in
-    let n = opening_calls stands.super stands.batches in
+    let legal : IsLegal stands.stored (d.bytes start) = record { log = stands.says.legal; held = stands.held } in
+    let n = opening_calls stands.stored in
     let origin = e.image.disk.origin ∙ c.new.ensures.origin in
     let limit = same_limit _ _ origin in
     let began = same_disk _ _ origin ∙ sym inner in
     let within = subst (λ (m : ℕ). fuse_passed fuse ≤ m) limit fuse.within in
     let shaped = shaped_image legal in
-    let log = (e.image.readable tells stands.super stands.batches shaped.log.state (shaped_readable stands.super stands.batches stands.stored (d.bytes start) shaped)).moments only in
-    let keeps = keeps_first d core k start (fuse_inner fuse) first (fuse_since c.new.result fuse _ ((e.image.shaped tells stands.super stands.batches stands.stored shaped).moments only)) (fuse_since c.new.result fuse _ log)
-    (λ left may. (e.image.shaped tells stands.super stands.batches stands.stored shaped).crash only left may) (e.image.disk.restarts tells) in
-    let passes = subst (λ (p : ℕ). ErrorPasses n p (fuse_passed fuse) (recovery_error c.in-Err.e)) c.new.ensures.passed ((e.image.shaped tells stands.super stands.batches stands.stored (shaped_image legal)).passes) in
-    let all = error_cut c.args.calls n (fuse_passed fuse) (few_to_open (rollback_of stands.super stands.batches)) within _ _ _ _ c.in-Err.e (λ blown. fuse.blown blown ∙ limit) e.image.disk.cause ((e.image.shaped tells stands.super stands.batches stands.stored (shaped_image legal)).error) other passes in
+    let log = (e.image.readable tells stands.stored shaped.log.state (shaped_readable stands.stored (d.bytes start) shaped)).moments only in
+    let keeps = keeps_first d core k start (fuse_inner fuse) first (fuse_since c.new.result fuse _ ((e.image.shaped tells stands.stored shaped).moments only)) (fuse_since c.new.result fuse _ log)
+    (λ left may. (e.image.shaped tells stands.stored shaped).crash only left may) (e.image.disk.restarts tells) in
+    let passes = subst (λ (p : ℕ). ErrorPasses n p (fuse_passed fuse) (recovery_error c.in-Err.e)) c.new.ensures.passed ((e.image.shaped tells stands.stored (shaped_image legal)).passes) in
+    let all = error_cut c.args.calls n (fuse_passed fuse) (few_to_open (rollback_of stands.stored)) within _ _ _ _ c.in-Err.e (λ blown. fuse.blown blown ∙ limit) e.image.disk.cause ((e.image.shaped tells stands.stored (shaped_image legal)).error) other passes in
     let cut : IsCutOff d c.args.calls core k start (fuse_inner fuse) = record {
       keeps = keeps;
       passed = λ u. fuse_passes fuse start _ tells began u (all.1 u);
@@ -91,14 +91,14 @@ returns-then-eq-clause-cut g c tells core k at_first at_only =
     let first = subst (λ x. StandsForFirst core k (d.bytes x)) (sym inner) at_first in
     let only = subst (λ x. Only (d.bytes x) (d.may_leave x)) (sym inner) at_only in
     let stands = first.stands in
-    let legal : IsLegal stands.super stands.batches stands.stored (d.bytes start) = record { log = stands.says.legal; held = stands.held } in
-    let n = opening_calls stands.super stands.batches in
+    let legal : IsLegal stands.stored (d.bytes start) = record { log = stands.says.legal; held = stands.held } in
+    let n = opening_calls stands.stored in
     let began = same_disk _ _ (e.image.disk.origin ∙ c.new.ensures.origin) ∙ sym inner in
     let shaped = shaped_image legal in
-    let log = (e.image.readable tells stands.super stands.batches shaped.log.state (shaped_readable stands.super stands.batches stands.stored (d.bytes start) shaped)).moments only in
-    let keeps = keeps_first d core k start (fuse_inner fuse) first (fuse_since c.new.result fuse _ ((e.image.shaped tells stands.super stands.batches stands.stored shaped).moments only)) (fuse_since c.new.result fuse _ log)
-    (λ left may. (e.image.shaped tells stands.super stands.batches stands.stored shaped).crash only left may) (e.image.disk.restarts tells) in
-    let passes = subst (λ error. ErrorPasses n (fuse_passed c.new.result) (fuse_passed fuse) (recovery_error error)) is ((e.image.shaped tells stands.super stands.batches stands.stored (shaped_image legal)).passes) in
+    let log = (e.image.readable tells stands.stored shaped.log.state (shaped_readable stands.stored (d.bytes start) shaped)).moments only in
+    let keeps = keeps_first d core k start (fuse_inner fuse) first (fuse_since c.new.result fuse _ ((e.image.shaped tells stands.stored shaped).moments only)) (fuse_since c.new.result fuse _ log)
+    (λ left may. (e.image.shaped tells stands.stored shaped).crash only left may) (e.image.disk.restarts tells) in
+    let passes = subst (λ error. ErrorPasses n (fuse_passed c.new.result) (fuse_passed fuse) (recovery_error error)) is ((e.image.shaped tells stands.stored (shaped_image legal)).passes) in
     let same = fuse_none fuse start tells began (passes ∙ c.new.ensures.passed) in
     let reads = (e.image.left_alone (subst (λ error. ComesBeforeWrites (recovery_error error)) (sym is) tt)).contents tells in
     let fails : FailsToOpen d core k NoMemory start (fuse_inner fuse) = record {

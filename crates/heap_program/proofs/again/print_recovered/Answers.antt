@@ -27,39 +27,33 @@ use Rattle.heap_program.proofs.again.print_recovered.Goals as goal
 pub returns-in-Err-clause-keeps : goal.returns-in-Err-clause-keeps
 returns-in-Err-clause-keeps g c tells core k first only =
     let d = g.D.Disk in
-    let s = first.stands.super in
-    let batches = first.stands.batches in
     let stored = first.stands.stored in
     let shaped = shaped_image (legal_of first) in
     let e = c.in-Err.ensures in
-    keeps_first d core k c.args.disk c.in-Err.disk first ((e.image.shaped tells s batches stored shaped).moments only) ((e.image.readable tells s batches shaped.log.state (shaped_readable s batches stored (d.bytes c.args.disk) shaped)).moments only)
-    ((e.image.shaped tells s batches stored shaped).crash only) (e.image.disk.restarts tells)
+    keeps_first d core k c.args.disk c.in-Err.disk first ((e.image.shaped tells stored shaped).moments only) ((e.image.readable tells stored shaped.log.state (shaped_readable stored (d.bytes c.args.disk) shaped)).moments only)
+    ((e.image.shaped tells stored shaped).crash only) (e.image.disk.restarts tells)
 
 -- a legal image is refused by the outside alone
 pub returns-in-Err-clause-recovers : goal.returns-in-Err-clause-recovers
 returns-in-Err-clause-recovers g c = λ tells core k first only none.
     let d = g.D.Disk in
-    let s = first.stands.super in
-    let batches = first.stands.batches in
     let stored = first.stands.stored in
     let legal = legal_of first in
     let shaped = shaped_image legal in
-    let keeps = keeps_first d core k c.args.disk c.in-Err.disk first ((c.in-Err.ensures.image.shaped tells s batches stored shaped).moments only)
-    ((c.in-Err.ensures.image.readable tells s batches shaped.log.state (shaped_readable s batches stored (d.bytes c.args.disk) shaped)).moments only) ((c.in-Err.ensures.image.shaped tells s batches stored shaped).crash only) (c.in-Err.ensures.image.disk.restarts tells) in
-    recovers_nothing d core k c.args.disk c.in-Err.disk keeps (Reopens d core k c.args.disk c.in-Err.disk) c.in-Err.e c.from.result _ _ ((c.in-Err.ensures.image.shaped tells s batches stored (shaped_image legal)).error) c.from.ensures
-    c.in-Err.ensures.image.disk.cause ((c.in-Err.ensures.image.shaped tells s batches stored (shaped_image legal)).passes)
+    let keeps = keeps_first d core k c.args.disk c.in-Err.disk first ((c.in-Err.ensures.image.shaped tells stored shaped).moments only)
+    ((c.in-Err.ensures.image.readable tells stored shaped.log.state (shaped_readable stored (d.bytes c.args.disk) shaped)).moments only) ((c.in-Err.ensures.image.shaped tells stored shaped).crash only) (c.in-Err.ensures.image.disk.restarts tells) in
+    recovers_nothing d core k c.args.disk c.in-Err.disk keeps (Reopens d core k c.args.disk c.in-Err.disk) c.in-Err.e c.from.result _ _ ((c.in-Err.ensures.image.shaped tells stored (shaped_image legal)).error) c.from.ensures
+    c.in-Err.ensures.image.disk.cause ((c.in-Err.ensures.image.shaped tells stored (shaped_image legal)).passes)
     (λ refused. reads_only d c.args.disk c.in-Err.disk ((c.in-Err.ensures.image.left_alone (refused_memory c.in-Err.e refused)).contents tells) only)
 
 pub returns-clause-keeps : goal.returns-clause-keeps
 returns-clause-keeps g c tells core k first only =
     let d = g.D.Disk in
-    let s = first.stands.super in
-    let batches = first.stands.batches in
     let stored = first.stands.stored in
     let shaped = shaped_image (legal_of first) in
     let e = c.in-Ok.ensures in
-    let keeps = keeps_first d core k c.args.disk c.in-Ok.heap.disk first ((e.image.shaped tells s batches stored shaped).moments only) ((e.image.readable tells s batches shaped.log.state (shaped_readable s batches stored (d.bytes c.args.disk) shaped)).moments only)
-    ((e.image.shaped tells s batches stored shaped).crash only) (e.image.disk.restarts tells) in
+    let keeps = keeps_first d core k c.args.disk c.in-Ok.heap.disk first ((e.image.shaped tells stored shaped).moments only) ((e.image.readable tells stored shaped.log.state (shaped_readable stored (d.bytes c.args.disk) shaped)).moments only)
+    ((e.image.shaped tells stored shaped).crash only) (e.image.disk.restarts tells) in
     subst (KeepsFirst d core k c.args.disk) (sym c.close.ensures) keeps
 
 -- the heap that was opened is the core that the image stands for
@@ -69,28 +63,26 @@ returns-clause-recovers g c = λ tells core k first only same.
     let sink = g.K.Sink in
     let final = c.close.result in
     let says = first.stands.says in
-    let s = first.stands.super in
-    let batches = first.stands.batches in
     let stored = first.stands.stored in
-    let gates = open_gates s.log_bytes (d.bytes c.args.disk) in
+    let gates = open_gates stored.super.log_bytes (d.bytes c.args.disk) in
     let legal = legal_of first in
-    let found = saying_law s batches stored says.legal says.seen says.shows in
-    let heap = c.in-Ok.ensures.holds tells s batches stored legal only found.0 found.1 found.2 in
-    let reached = opened_reached s batches stored says.legal.shaped gates true found.0 found.1 found.2 in
-    let few = few_commits s batches stored says.legal in
-    let count = commits_are s batches stored says.legal.shaped ∙ says.count in
-    let since : commits_since c.args.before (min (commits_of s batches + 0) greatest) ≡ k = since_before c.args.before core (commits_of s batches) k same count first.some few in
+    let found = saying_law stored says.legal says.seen says.shows in
+    let heap = c.in-Ok.ensures.holds tells stored legal only found.0 found.1 found.2 in
+    let reached = opened_reached stored says.legal.shaped gates true found.0 found.1 found.2 in
+    let few = few_commits stored says.legal in
+    let count = commits_are stored says.legal.shaped ∙ says.count in
+    let since : commits_since c.args.before (min (commits_of stored + 0) greatest) ≡ k = since_before c.args.before core (commits_of stored) k same count first.some few in
     let shaped = shaped_image legal in
     let e = c.in-Ok.ensures in
     let on = λ (P : List ℕ → Type 0). subst (λ x. LeavesOnly d.moment d.left_since c.args.disk x P) (sym c.close.ensures) in
-    let moments = on (IsLeftByOpening s batches stored) ((e.image.shaped tells s batches stored shaped).moments only) in
-    let log = on (IsLogLeft s batches (d.bytes c.args.disk)) ((e.image.readable tells s batches shaped.log.state (shaped_readable s batches stored (d.bytes c.args.disk) shaped)).moments only) in
-    let leaves = λ (left : List ℕ) (may : d.may_leave final left). (e.image.shaped tells s batches stored shaped).crash only left (subst (λ x. d.may_leave x left) c.close.ensures may) in
+    let moments = on (IsLeftByOpening stored) ((e.image.shaped tells stored shaped).moments only) in
+    let log = on (IsLogLeft stored (d.bytes c.args.disk)) ((e.image.readable tells stored shaped.log.state (shaped_readable stored (d.bytes c.args.disk) shaped)).moments only) in
+    let leaves = λ (left : List ℕ) (may : d.may_leave final left). (e.image.shaped tells stored shaped).crash only left (subst (λ x. d.may_leave x left) c.close.ensures may) in
     let keeps = keeps_first d core k c.args.disk final first moments log leaves (ap d.restarts c.close.ensures ∙ e.image.disk.restarts tells) in
-    let calls : d.passed final ≡ counted (opening_calls s batches) (d.passed c.args.disk) =
-    ap d.passed c.close.ensures ∙ (c.in-Ok.ensures.image.shaped tells s batches stored (shaped_image legal)).passes.ok in
+    let calls : d.passed final ≡ counted (opening_calls stored) (d.passed c.args.disk) =
+    ap d.passed c.close.ensures ∙ (c.in-Ok.ensures.image.shaped tells stored (shaped_image legal)).passes.ok in
     let last = subst (λ x. Only (d.bytes x) (d.may_leave x)) (sym c.close.ensures) (c.in-Ok.ensures.image.durable tells only) in
-    let wrote = λ (told : IsTrue sink.tells). c.write_recovered.ensures.wrote told (opened s batches stored gates true found.0 found.1) heap.core reached in
+    let wrote = λ (told : IsTrue sink.tells). c.write_recovered.ensures.wrote told (opened stored gates true found.0 found.1) heap.core reached in
     recovers_first d core k c.args.disk final keeps (FailsToOpen d core k c.status_after-status.result c.args.disk final) c.write_recovered.result c.status_after-status.result _ _ _ c.status_after-status.ensures calls last
     (λ told. subst (λ (t : List ℕ). WroteText c.write_recovered.result (sink.written c.args.sink.now) (recovered_line k ++ t) (sink.written c.write_recovered.new.sink)) (ap canon_text (found.3 ∙ says.graph))
     (subst (λ (n : ℕ). WroteText c.write_recovered.result (sink.written c.args.sink.now) (recovered_line n ++ graph_text found.1) (sink.written c.write_recovered.new.sink)) since (wrote told)))

@@ -15,9 +15,9 @@ use Rattle.heap_program.proofs.ImageLaws.{answers_own, answers_made, answers_unr
 use Rattle.heap_program.proofs.dispatch.run_alone.Goals as goal
 
 pub returns-in-Err-clause-graph : goal.returns-in-Err-clause-graph
-returns-in-Err-clause-graph g c tells only is s batches stored shaped born places graph found =
+returns-in-Err-clause-graph g c tells only is stored shaped born places graph found =
     let d = g.D.Disk in
-    graph_unread d c.args.disk c.in-Err.e _ is (λ (same : c.in-Err.e ≡ asking.Usage). c.in-Err.ensures.usage (ap (λ (x : CommandError). Err x) same)) c.from.result c.from.ensures (λ image since. g.met.D.Disk.only_now tells c.args.disk image since) only s batches stored graph shaped.held g.K.Sink.tells (g.K.Sink.written c.args.sink.now)
+    graph_unread d c.args.disk c.in-Err.e _ is (λ (same : c.in-Err.e ≡ asking.Usage). c.in-Err.ensures.usage (ap (λ (x : CommandError). Err x) same)) c.from.result c.from.ensures (λ image since. g.met.D.Disk.only_now tells c.args.disk image since) only stored graph shaped.held g.K.Sink.tells (g.K.Sink.written c.args.sink.now)
 
 pub returns-in-Format-clause-too_small : goal.returns-in-Format-clause-too_small
 returns-in-Format-clause-too_small g c size need told which is =
@@ -46,14 +46,14 @@ returns-in-Play-clause-crash_safe g c tells only fresh stop is =
     rw (same.0, same.1) safe
 
 pub returns-in-Graph-clause-graph : goal.returns-in-Graph-clause-graph
-returns-in-Graph-clause-graph g c tells only is s batches stored shaped born places graph found = c.run_graph.ensures.graph tells only s batches stored shaped born places graph found
+returns-in-Graph-clause-graph g c tells only is stored shaped born places graph found = c.run_graph.ensures.graph tells only stored shaped born places graph found
 
 pub returns-in-Graph-clause-complete : goal.returns-in-Graph-clause-complete
 returns-in-Graph-clause-complete g c tells only which is can script no_source no_sink no_disk =
     let same : which ≡ asked.Graph = cc (is, c.in-Ok.ensures.read, c.in-Graph.is) in
     let shaped = subst (λ (x : Command). CanRun x (g.D.Disk.extent c.args.disk) (g.D.Disk.bytes c.args.disk)) same can in
-    let found = address_found shaped.0 shaped.1 shaped.2 shaped.3.log in
-    let printed = c.run_graph.ensures.graph tells only shaped.0 shaped.1 shaped.2 shaped.3 _ found.0 found.1 found.2 in
+    let found = address_found shaped.0 shaped.1.log in
+    let printed = c.run_graph.ensures.graph tells only shaped.0 shaped.1 _ found.0 found.1 found.2 in
     end_done _ _ c.run_graph.result.0 printed.end c.run_graph.ensures.disk.cause c.run_graph.ensures.sink.cause no_disk no_sink
 
 pub returns-in-Err-clause-ends : goal.returns-in-Err-clause-ends

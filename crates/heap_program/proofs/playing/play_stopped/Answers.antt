@@ -48,30 +48,29 @@ use Rattle.heap_program.proofs.playing.play_stopped.Goals as goal
 pub returns-in-Err-clause-played : goal.returns-in-Err-clause-played
 returns-in-Err-clause-played g c tells stored only =
     let d = g.D.Disk in
-    let s = stored.super in
-    let batches = stored.batches in
+    let s = stored.heap.super in
     let n = stored_calls stored in
     let start = c.args.disk in
     let fuse = c.in-Err.fuse in
     let final = fuse_inner fuse in
     let e = c.in-Err.ensures in
     let inner = c.new.ensures.inner in
-    let legal : IsLegal s batches stored.pages (d.bytes (fuse_inner c.new.result)) = record { log = stored.legal.log; held = subst (λ x. Holds s batches stored.pages (d.bytes x)) (sym inner) stored.legal.held } in
+    let legal : IsLegal stored.heap (d.bytes (fuse_inner c.new.result)) = record { log = stored.legal.log; held = subst (λ x. Holds stored.heap (d.bytes x)) (sym inner) stored.legal.held } in
     let shaped = shaped_image legal in
     let only_f = subst (λ x. Only (d.bytes x) (d.may_leave x)) (sym inner) only in
     let other : c.in-Err.e ≢ opening.Stopped = search rules in
-    let outside = (e.image.shaped tells s batches stored.pages shaped).error in
+    let outside = (e.image.shaped tells stored.heap shaped).error in
     let origin = e.image.disk.origin ∙ c.new.ensures.origin in
     let began = same_disk _ _ origin in
     let within = subst (λ m. fuse_passed fuse ≤ m) (same_limit _ _ origin) fuse.within in
-    let passes = subst (λ p. ErrorPasses n p (fuse_passed fuse) (recovery_error c.in-Err.e)) c.new.ensures.passed ((e.image.shaped tells s batches stored.pages shaped).passes) in
-    let few : fuse_passed fuse ≤ n = fails_few n (fuse_passed fuse) (few_calls s batches) c.in-Err.e passes in
+    let passes = subst (λ p. ErrorPasses n p (fuse_passed fuse) (recovery_error c.in-Err.e)) c.new.ensures.passed ((e.image.shaped tells stored.heap shaped).passes) in
+    let few : fuse_passed fuse ≤ n = fails_few n (fuse_passed fuse) (few_calls stored.heap) c.in-Err.e passes in
     let moments = subst (λ x. LeavesOnly d.moment d.left_since x final (IsCommitPrefix (stored_core stored))) inner
-    (stored_moments d stored (fuse_inner c.new.result) final (fuse_since c.new.result fuse _ ((e.image.shaped tells s batches stored.pages shaped).moments only_f))) in
+    (stored_moments d stored (fuse_inner c.new.result) final (fuse_since c.new.result fuse _ ((e.image.shaped tells stored.heap shaped).moments only_f))) in
     let behind = subst (λ x. LeavesOnly d.moment d.left_since x final (SameBehind (stored_core stored) (d.bytes x))) inner
-    (opening_behind d (stored_core stored) s batches (d.bytes (fuse_inner c.new.result)) (fuse_inner c.new.result) final (stored_super d stored) (fuse_since c.new.result fuse _ ((e.image.readable tells s batches shaped.log.state (shaped_readable s batches stored.pages (d.bytes (fuse_inner c.new.result)) shaped)).moments only_f))) in
+    (opening_behind d (stored_core stored) stored.heap (d.bytes (fuse_inner c.new.result)) (fuse_inner c.new.result) final (stored_super d stored) (fuse_since c.new.result fuse _ ((e.image.readable tells stored.heap shaped.log.state (shaped_readable stored.heap (d.bytes (fuse_inner c.new.result)) shaped)).moments only_f))) in
     rw c.into_inner.ensures (ends_unopened d stored (Some c.args.stop) (events c.args.script.now) c.in-Err.e c.from.result start final g.K.Sink.tells (g.K.Sink.written c.args.sink.now) c.from.ensures outside
-    moments behind (λ image left. stored_keeps d stored image ((e.image.shaped tells s batches stored.pages shaped).crash only_f image left))
+    moments behind (λ image left. stored_keeps d stored image ((e.image.shaped tells stored.heap shaped).crash only_f image left))
     (λ image since. g.met.D.Disk.only_now tells final image since) (e.image.disk.restarts tells ∙ ap d.restarts inner)
     (λ none. fuse_none fuse start tells began (fails_none n 0 (fuse_passed fuse) c.in-Err.e (ap open_status none) passes))
     (λ some u. u (subst (λ x. Rose (d.faults x + d.stops x) (d.faults final + d.stops final)) inner (open_fault _ _ _ _ c.in-Err.e outside some other e.image.disk.cause)))
@@ -84,8 +83,7 @@ pub returns-then-eq-clause-played : goal.returns-then-eq-clause-played
 returns-then-eq-clause-played g c tells stored only =
     let d = g.D.Disk in
     let k = g.K.Sink in
-    let s = stored.super in
-    let batches = stored.batches in
+    let s = stored.heap.super in
     let n = stored_calls stored in
     let first = stored_core stored in
     let start = c.args.disk in
@@ -94,23 +92,23 @@ returns-then-eq-clause-played g c tells stored only =
     let final = c.start_again.result.1 in
     let e = c.in-Err.ensures in
     let inner = c.new.ensures.inner in
-    let legal : IsLegal s batches stored.pages (d.bytes (fuse_inner c.new.result)) = record { log = stored.legal.log; held = subst (λ x. Holds s batches stored.pages (d.bytes x)) (sym inner) stored.legal.held } in
+    let legal : IsLegal stored.heap (d.bytes (fuse_inner c.new.result)) = record { log = stored.legal.log; held = subst (λ x. Holds stored.heap (d.bytes x)) (sym inner) stored.legal.held } in
     let shaped = shaped_image legal in
     let only_f = subst (λ x. Only (d.bytes x) (d.may_leave x)) (sym inner) only in
     let is : c.in-Err.e ≡ opening.Stopped = search rules in
     let origin = e.image.disk.origin ∙ c.new.ensures.origin in
     let began = same_disk _ _ origin in
-    let passes = subst (λ p. ErrorPasses n p (fuse_passed fuse) (recovery_error c.in-Err.e)) c.new.ensures.passed ((e.image.shaped tells s batches stored.pages shaped).passes) in
+    let passes = subst (λ p. ErrorPasses n p (fuse_passed fuse) (recovery_error c.in-Err.e)) c.new.ensures.passed ((e.image.shaped tells stored.heap shaped).passes) in
     let some = rose_some c.new.result.stops fuse.stops e.image.disk.cause.stops_kept (e.image.disk.cause.stopped (ap (λ x. error_device (recovery_error x)) is)) in
-    let any = λ (none : n ≡ 0). some ((e.image.shaped tells s batches stored.pages shaped).no_first_stop (no_rollback (rollback_of s batches) none) c.new.ensures.stops) in
-    let less : fuse_passed fuse < n = stops_before n (fuse_passed fuse) (few_calls s batches) any c.in-Err.e is passes in
+    let any = λ (none : n ≡ 0). some ((e.image.shaped tells stored.heap shaped).no_first_stop (no_rollback (rollback_of stored.heap) none) c.new.ensures.stops) in
+    let less : fuse_passed fuse < n = stops_before n (fuse_passed fuse) (few_calls stored.heap) any c.in-Err.e is passes in
     let blown = fuse.blown some ∙ same_limit _ _ origin in
     let short : c.args.stop.after < n = omega (arith, less, blown) in
     let moments = subst (λ x. LeavesOnly d.moment d.left_since x stopped (IsCommitPrefix first)) inner
-    (stored_moments d stored (fuse_inner c.new.result) stopped (fuse_since c.new.result fuse _ ((e.image.shaped tells s batches stored.pages shaped).moments only_f))) in
-    let left : (image : List ℕ) → d.may_leave stopped image → IsCommitPrefix first image = λ image may. stored_keeps d stored image ((e.image.shaped tells s batches stored.pages shaped).crash only_f image may) in
+    (stored_moments d stored (fuse_inner c.new.result) stopped (fuse_since c.new.result fuse _ ((e.image.shaped tells stored.heap shaped).moments only_f))) in
+    let left : (image : List ℕ) → d.may_leave stopped image → IsCommitPrefix first image = λ image may. stored_keeps d stored image ((e.image.shaped tells stored.heap shaped).crash only_f image may) in
     let behind = subst (λ x. LeavesOnly d.moment d.left_since x stopped (SameBehind first (d.bytes x))) inner
-    (opening_behind d first s batches (d.bytes (fuse_inner c.new.result)) (fuse_inner c.new.result) stopped (stored_super d stored) (fuse_since c.new.result fuse _ ((e.image.readable tells s batches shaped.log.state (shaped_readable s batches stored.pages (d.bytes (fuse_inner c.new.result)) shaped)).moments only_f))) in
+    (opening_behind d first stored.heap (d.bytes (fuse_inner c.new.result)) (fuse_inner c.new.result) stopped (stored_super d stored) (fuse_since c.new.result fuse _ ((e.image.readable tells stored.heap shaped.log.state (shaped_readable stored.heap (d.bytes (fuse_inner c.new.result)) shaped)).moments only_f))) in
     let images : HasImages d = record { counts = λ disk t image le may. g.met.D.Disk.counts_now tells disk t image le may; now = λ disk image since. g.met.D.Disk.only_now tells disk image since; reads = λ disk. g.met.D.Disk.reads_an_image tells disk } in
     let base = d.bytes start in
     let back = c.start_again.ensures.recovers tells first left refl in
@@ -127,8 +125,7 @@ pub returns-in-None-clause-played : goal.returns-in-None-clause-played
 returns-in-None-clause-played g c tells stored only =
     let d = g.D.Disk in
     let k = g.K.Sink in
-    let s = stored.super in
-    let batches = stored.batches in
+    let s = stored.heap.super in
     let n = stored_calls stored in
     let first = stored_core stored in
     let es = events c.args.script.now in
@@ -139,12 +136,12 @@ returns-in-None-clause-played g c tells stored only =
     let start = c.args.disk in
     let e = c.in-Ok.ensures in
     let inner = c.new.ensures.inner in
-    let legal : IsLegal s batches stored.pages (d.bytes (fuse_inner c.new.result)) = record { log = stored.legal.log; held = subst (λ x. Holds s batches stored.pages (d.bytes x)) (sym inner) stored.legal.held } in
+    let legal : IsLegal stored.heap (d.bytes (fuse_inner c.new.result)) = record { log = stored.legal.log; held = subst (λ x. Holds stored.heap (d.bytes x)) (sym inner) stored.legal.held } in
     let shaped = shaped_image legal in
     let only_f = subst (λ x. Only (d.bytes x) (d.may_leave x)) (sym inner) only in
     let running = stored_running d stored in
     let playable = all_playable (Some c.args.stop.after) first c.args.script.now c.requires in
-    let heap = subst (λ x. IsHeap s (opened s batches stored.pages (open_gates s.log_bytes (d.bytes x)) true stored.places stored.graph) old) inner (e.holds tells s batches stored.pages legal only_f stored.places stored.graph stored.found) in
+    let heap = subst (λ x. IsHeap s (opened stored.heap (open_gates s.log_bytes (d.bytes x)) true stored.places stored.graph) old) inner (e.holds tells stored.heap legal only_f stored.places stored.graph stored.found) in
     let plays = c.play_lines-played.ensures.plays tells s first heap running in
     let keep = kept s first running refl es playable old new k.tells before after c.play_lines-played.result plays in
     let stopped = fuse_inner new.disk in
@@ -159,8 +156,8 @@ returns-in-None-clause-played g c tells stored only =
     let within = subst (λ m. fuse_passed new.disk ≤ m) limit new.disk.within in
     let at_start = subst (λ x. d.faults x + d.stops x ≤ d.faults (fuse_inner old.disk) + d.stops (fuse_inner old.disk)) inner e.image.disk.cause.faults_kept in
     let unrisen = λ (unharmed : Unharmed d start stopped) (rose : Rose (d.faults (fuse_inner old.disk) + d.stops (fuse_inner old.disk)) (d.faults stopped + d.stops stopped)). unharmed (rose_since _ _ _ at_start c.play_lines-played.ensures.disk.cause.faults_kept rose) in
-    let few = few_calls s batches in
-    let passed : fuse_passed old.disk ≡ n = whole_count n (fuse_passed old.disk) few ((e.image.shaped tells s batches stored.pages shaped).passes.ok ∙ ap (counted n) c.new.ensures.passed) in
+    let few = few_calls stored.heap in
+    let passed : fuse_passed old.disk ≡ n = whole_count n (fuse_passed old.disk) few ((e.image.shaped tells stored.heap shaped).passes.ok ∙ ap (counted n) c.new.ensures.passed) in
     let at_limit : new.disk.stops ≢ 0 → fuse_passed new.disk ≡ c.args.stop.after = λ blown. new.disk.blown blown ∙ limit in
     let exact : Unharmed d start stopped → IsExact (Some c.args.stop.after) n first plays.made plays.core = λ u. exact_some s first running refl es playable old new k.tells before after c.play_lines-played.result plays c.args.stop.after n few passed within at_limit (unrisen u) in
     let through = min c.args.stop.after (n + total_calls first plays.made) in
@@ -187,7 +184,7 @@ returns-in-None-clause-played g c tells stored only =
       restarts = λ fuse. refl;
     }) c.args.stop.after start tells first plays.core old.disk new.disk plays.made began_old (same_limit _ _ (e.image.disk.origin ∙ c.new.ensures.origin)) plays.steps in
     let behind = subst (λ x. LeavesOnly d.moment d.left_since x (fuse_inner old.disk) (SameBehind first (d.bytes x))) inner
-    (opening_behind d first s batches (d.bytes (fuse_inner c.new.result)) (fuse_inner c.new.result) (fuse_inner old.disk) (stored_super d stored) (fuse_since c.new.result old.disk _ ((e.image.readable tells s batches shaped.log.state (shaped_readable s batches stored.pages (d.bytes (fuse_inner c.new.result)) shaped)).moments only_f))) in
+    (opening_behind d first stored.heap (d.bytes (fuse_inner c.new.result)) (fuse_inner c.new.result) (fuse_inner old.disk) (stored_super d stored) (fuse_since c.new.result old.disk _ ((e.image.readable tells stored.heap shaped.log.state (shaped_readable stored.heap (d.bytes (fuse_inner c.new.result)) shaped)).moments only_f))) in
     let images : HasImages d = record { counts = λ disk t image le may. g.met.D.Disk.counts_now tells disk t image le may; now = λ disk image since. g.met.D.Disk.only_now tells disk image since; reads = λ disk. g.met.D.Disk.reads_an_image tells disk } in
     let base = d.bytes start in
     let played = played_behind d images base (Some c.args.stop.after) start first plays.core start (fuse_inner old.disk) stopped plays.made behind steps in
@@ -196,8 +193,8 @@ returns-in-None-clause-played g c tells stored only =
     let keeps : KeepsThroughout d (Some c.args.stop.after) n first plays.made plays.core start final = record {
       opened = fuse_inner old.disk;
       opening = subst (λ x. LeavesOnly d.moment d.left_since x (fuse_inner old.disk) (IsCommitPrefix first)) inner
-          (stored_moments d stored (fuse_inner c.new.result) (fuse_inner old.disk) (fuse_since c.new.result old.disk _ ((e.image.shaped tells s batches stored.pages shaped).moments only_f)));
-      here = λ image may. stored_keeps d stored image ((e.image.shaped tells s batches stored.pages shaped).crash only_f image may);
+          (stored_moments d stored (fuse_inner c.new.result) (fuse_inner old.disk) (fuse_since c.new.result old.disk _ ((e.image.shaped tells stored.heap shaped).moments only_f)));
+      here = λ image may. stored_keeps d stored image ((e.image.shaped tells stored.heap shaped).crash only_f image may);
       passed = λ u some. fuse_passes old.disk start n tells began_old u passed;
       few = fuse_most old.disk start n tells began_old (omega (arith, passed));
       restarts = e.image.disk.restarts tells ∙ ap d.restarts inner;
@@ -221,8 +218,7 @@ pub returns-in-Some-clause-played : goal.returns-in-Some-clause-played
 returns-in-Some-clause-played g c tells stored only =
     let d = g.D.Disk in
     let k = g.K.Sink in
-    let s = stored.super in
-    let batches = stored.batches in
+    let s = stored.heap.super in
     let n = stored_calls stored in
     let first = stored_core stored in
     let es = events c.args.script.now in
@@ -233,12 +229,12 @@ returns-in-Some-clause-played g c tells stored only =
     let start = c.args.disk in
     let e = c.in-Ok.ensures in
     let inner = c.new.ensures.inner in
-    let legal : IsLegal s batches stored.pages (d.bytes (fuse_inner c.new.result)) = record { log = stored.legal.log; held = subst (λ x. Holds s batches stored.pages (d.bytes x)) (sym inner) stored.legal.held } in
+    let legal : IsLegal stored.heap (d.bytes (fuse_inner c.new.result)) = record { log = stored.legal.log; held = subst (λ x. Holds stored.heap (d.bytes x)) (sym inner) stored.legal.held } in
     let shaped = shaped_image legal in
     let only_f = subst (λ x. Only (d.bytes x) (d.may_leave x)) (sym inner) only in
     let running = stored_running d stored in
     let playable = all_playable (Some c.args.stop.after) first c.args.script.now c.requires in
-    let heap = subst (λ x. IsHeap s (opened s batches stored.pages (open_gates s.log_bytes (d.bytes x)) true stored.places stored.graph) old) inner (e.holds tells s batches stored.pages legal only_f stored.places stored.graph stored.found) in
+    let heap = subst (λ x. IsHeap s (opened stored.heap (open_gates s.log_bytes (d.bytes x)) true stored.places stored.graph) old) inner (e.holds tells stored.heap legal only_f stored.places stored.graph stored.found) in
     let plays = c.play_lines-played.ensures.plays tells s first heap running in
     let keep = kept s first running refl es playable old new k.tells before after c.play_lines-played.result plays in
     let final = fuse_inner new.disk in
@@ -250,8 +246,8 @@ returns-in-Some-clause-played g c tells stored only =
     let within = subst (λ m. fuse_passed new.disk ≤ m) limit new.disk.within in
     let at_start = subst (λ x. d.faults x + d.stops x ≤ d.faults (fuse_inner old.disk) + d.stops (fuse_inner old.disk)) inner e.image.disk.cause.faults_kept in
     let unrisen = λ (unharmed : Unharmed d start final) (rose : Rose (d.faults (fuse_inner old.disk) + d.stops (fuse_inner old.disk)) (d.faults final + d.stops final)). unharmed (rose_since _ _ _ at_start c.play_lines-played.ensures.disk.cause.faults_kept rose) in
-    let few = few_calls s batches in
-    let passed : fuse_passed old.disk ≡ n = whole_count n (fuse_passed old.disk) few ((e.image.shaped tells s batches stored.pages shaped).passes.ok ∙ ap (counted n) c.new.ensures.passed) in
+    let few = few_calls stored.heap in
+    let passed : fuse_passed old.disk ≡ n = whole_count n (fuse_passed old.disk) few ((e.image.shaped tells stored.heap shaped).passes.ok ∙ ap (counted n) c.new.ensures.passed) in
     let at_limit : new.disk.stops ≢ 0 → fuse_passed new.disk ≡ c.args.stop.after = λ blown. new.disk.blown blown ∙ limit in
     let exact : Unharmed d start final → IsExact (Some c.args.stop.after) n first plays.made plays.core = λ u. exact_some s first running refl es playable old new k.tells before after c.play_lines-played.result plays c.args.stop.after n few passed within at_limit (unrisen u) in
     let through = min c.args.stop.after (n + total_calls first plays.made) in
@@ -271,14 +267,14 @@ returns-in-Some-clause-played g c tells stored only =
       restarts = λ fuse. refl;
     }) c.args.stop.after start tells first plays.core old.disk new.disk plays.made began_old (same_limit _ _ (e.image.disk.origin ∙ c.new.ensures.origin)) plays.steps in
     let behind = subst (λ x. LeavesOnly d.moment d.left_since x (fuse_inner old.disk) (SameBehind first (d.bytes x))) inner
-    (opening_behind d first s batches (d.bytes (fuse_inner c.new.result)) (fuse_inner c.new.result) (fuse_inner old.disk) (stored_super d stored) (fuse_since c.new.result old.disk _ ((e.image.readable tells s batches shaped.log.state (shaped_readable s batches stored.pages (d.bytes (fuse_inner c.new.result)) shaped)).moments only_f))) in
+    (opening_behind d first stored.heap (d.bytes (fuse_inner c.new.result)) (fuse_inner c.new.result) (fuse_inner old.disk) (stored_super d stored) (fuse_since c.new.result old.disk _ ((e.image.readable tells stored.heap shaped.log.state (shaped_readable stored.heap (d.bytes (fuse_inner c.new.result)) shaped)).moments only_f))) in
     let images : HasImages d = record { counts = λ disk t image le may. g.met.D.Disk.counts_now tells disk t image le may; now = λ disk image since. g.met.D.Disk.only_now tells disk image since; reads = λ disk. g.met.D.Disk.reads_an_image tells disk } in
     let base = d.bytes start in
     let keeps : KeepsThroughout d (Some c.args.stop.after) n first plays.made plays.core start final = record {
       opened = fuse_inner old.disk;
       opening = subst (λ x. LeavesOnly d.moment d.left_since x (fuse_inner old.disk) (IsCommitPrefix first)) inner
-          (stored_moments d stored (fuse_inner c.new.result) (fuse_inner old.disk) (fuse_since c.new.result old.disk _ ((e.image.shaped tells s batches stored.pages shaped).moments only_f)));
-      here = λ image may. stored_keeps d stored image ((e.image.shaped tells s batches stored.pages shaped).crash only_f image may);
+          (stored_moments d stored (fuse_inner c.new.result) (fuse_inner old.disk) (fuse_since c.new.result old.disk _ ((e.image.shaped tells stored.heap shaped).moments only_f)));
+      here = λ image may. stored_keeps d stored image ((e.image.shaped tells stored.heap shaped).crash only_f image may);
       passed = λ u some. fuse_passes old.disk start n tells began_old u passed;
       few = fuse_most old.disk start n tells began_old (omega (arith, passed));
       restarts = e.image.disk.restarts tells ∙ ap d.restarts inner;
@@ -369,10 +365,10 @@ returns-in-Err-clause-image g c =
     (λ tells unstopped fault. absurd (starts_some c.args.stop.again unstopped))
     (λ tells fault.
     let n = fault_calls fault in
-    let passes = subst (λ p. ErrorPasses n p (fuse_passed fuse) (recovery_error c.in-Err.e)) c.new.ensures.passed ((e.image.readable tells fault.1.0 fault.1.1 fault.1.2 fault.1.3).passes) in
+    let passes = subst (λ p. ErrorPasses n p (fuse_passed fuse) (recovery_error c.in-Err.e)) c.new.ensures.passed ((e.image.readable tells fault.1.0 fault.1.1 fault.1.2).passes) in
     opens_few n (d.passed first) (d.passed cut) (d.bytes first) c.in-Err.e fault (e.image.refused tells)
     (λ memory. fuse_none fuse first tells began (fails_none n 0 (fuse_passed fuse) c.in-Err.e memory passes))
-    (fuse_most fuse first n tells began (fails_few n (fuse_passed fuse) (few_calls fault.1.0 fault.1.1) c.in-Err.e passes)))
+    (fuse_most fuse first n tells began (fails_few n (fuse_passed fuse) (few_calls fault.1.0) c.in-Err.e passes)))
     (λ tells. restarts_none asked _ _ _ (λ done. absurd (open_not_done c.in-Err.e done)) (e.image.disk.restarts tells))
     (λ tells t image le may. g.met.D.Disk.counts_now tells cut t image le may) in
     rw (c.into_inner.ensures, c.from.ensures) (subst (λ x. AnswersImage d (Unit {0}) asked x cut (open_status c.in-Err.e) (c.args.sink.now ≡ c.args.sink.now)) inner image)

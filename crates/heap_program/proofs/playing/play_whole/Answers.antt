@@ -32,29 +32,29 @@ returns-in-Err-clause-played g c tells stored only =
     let d = g.D.Disk in
     let e = c.in-Err.ensures in
     let shaped = shaped_image stored.legal in
-    let passes = (e.image.shaped tells stored.super stored.batches stored.pages shaped).passes in
-    let outside = (e.image.shaped tells stored.super stored.batches stored.pages shaped).error in
+    let passes = (e.image.shaped tells stored.heap shaped).passes in
+    let outside = (e.image.shaped tells stored.heap shaped).error in
     let few = fails_most (stored_calls stored) (d.passed c.args.disk) (d.passed c.in-Err.disk) c.in-Err.e passes in
     let most = counted_mono few.0 (stored_calls stored) (d.passed c.args.disk) few.1 in
     let total = counted_mono few.0 (stored_calls stored + 0) (d.passed c.args.disk) (omega (arith, few.1)) in
     ends_unopened d stored None (all_events None (stored_core stored) (events c.args.script.now)) c.in-Err.e c.from.result c.args.disk c.in-Err.disk g.K.Sink.tells (g.K.Sink.written c.args.sink.now) c.from.ensures outside
-    (stored_moments d stored c.args.disk c.in-Err.disk ((e.image.shaped tells stored.super stored.batches stored.pages shaped).moments only))
-    (opening_behind d (stored_core stored) stored.super stored.batches (d.bytes c.args.disk) c.args.disk c.in-Err.disk (stored_super d stored)
-    ((e.image.readable tells stored.super stored.batches shaped.log.state (shaped_readable stored.super stored.batches stored.pages (d.bytes c.args.disk) shaped)).moments only))
-    (λ image left. stored_keeps d stored image ((e.image.shaped tells stored.super stored.batches stored.pages shaped).crash only image left))
+    (stored_moments d stored c.args.disk c.in-Err.disk ((e.image.shaped tells stored.heap shaped).moments only))
+    (opening_behind d (stored_core stored) stored.heap (d.bytes c.args.disk) c.args.disk c.in-Err.disk (stored_super d stored)
+    ((e.image.readable tells stored.heap shaped.log.state (shaped_readable stored.heap (d.bytes c.args.disk) shaped)).moments only))
+    (λ image left. stored_keeps d stored image ((e.image.shaped tells stored.heap shaped).crash only image left))
     (λ image since. g.met.D.Disk.only_now tells c.in-Err.disk image since) (e.image.disk.restarts tells)
     (λ none. fails_none (stored_calls stored) (d.passed c.args.disk) (d.passed c.in-Err.disk) c.in-Err.e (ap open_status none) passes)
     (λ other u. u (open_harm _ _ _ _ c.in-Err.e outside other e.image.disk.cause))
     (omega (arith, few.2, most)) (omega (arith, few.2, total))
     (λ refused. reads_only d c.args.disk c.in-Err.disk ((e.image.left_alone (refused_memory c.in-Err.e refused)).contents tells) only)
     (λ stop. opening_stops d (stored_calls stored) c.args.disk c.in-Err.disk c.in-Err.e outside passes e.image.disk.cause
-    (λ none. (e.image.shaped tells stored.super stored.batches stored.pages shaped).no_first_stop (no_rollback (rollback_of stored.super stored.batches) none)))
+    (λ none. (e.image.shaped tells stored.heap shaped).no_first_stop (no_rollback (rollback_of stored.heap) none)))
 
 pub returns-in-Ok-play_all-clause-played : goal.returns-in-Ok-play_all-clause-played
 returns-in-Ok-play_all-clause-played g c tells stored only =
     let d = g.D.Disk in
     let k = g.K.Sink in
-    let s = stored.super in
+    let s = stored.heap.super in
     let first = stored_core stored in
     let n = stored_calls stored in
     let shaped = shaped_image stored.legal in
@@ -66,28 +66,28 @@ returns-in-Ok-play_all-clause-played g c tells stored only =
     let before = k.written c.args.sink.now in
     let after = k.written c.play_all.new.sink in
     let e = c.in-Ok.ensures in
-    let plays = c.in-Ok-play_all.ensures.plays tells s first (e.holds tells s stored.batches stored.pages stored.legal only stored.places stored.graph stored.found) running in
+    let plays = c.in-Ok-play_all.ensures.plays tells s first (e.holds tells stored.heap stored.legal only stored.places stored.graph stored.found) running in
     let whole = plays.ends in
-    let passed : d.passed old.disk ≡ counted n (d.passed c.args.disk) = (e.image.shaped tells s stored.batches stored.pages shaped).passes.ok in
+    let passed : d.passed old.disk ≡ counted n (d.passed c.args.disk) = (e.image.shaped tells stored.heap shaped).passes.ok in
     let images : HasImages d = record { counts = λ disk t image le may. g.met.D.Disk.counts_now tells disk t image le may; now = λ disk image since. g.met.D.Disk.only_now tells disk image since; reads = λ disk. g.met.D.Disk.reads_an_image tells disk } in
     let keeps = keeps_own s first running refl es playable old new k.tells before after (Ok tt) plays tells n c.args.disk images
-    (stored_moments d stored c.args.disk old.disk ((e.image.shaped tells s stored.batches stored.pages shaped).moments only))
-    (opening_behind d first s stored.batches (d.bytes c.args.disk) c.args.disk old.disk (stored_super d stored) ((e.image.readable tells s stored.batches shaped.log.state (shaped_readable s stored.batches stored.pages (d.bytes c.args.disk) shaped)).moments only))
-    (λ image left. stored_keeps d stored image ((e.image.shaped tells s stored.batches stored.pages shaped).crash only image left)) passed (e.image.disk.restarts tells) (keeps_counts d c.args.disk old.disk tt e.image.disk) in
+    (stored_moments d stored c.args.disk old.disk ((e.image.shaped tells stored.heap shaped).moments only))
+    (opening_behind d first stored.heap (d.bytes c.args.disk) c.args.disk old.disk (stored_super d stored) ((e.image.readable tells stored.heap shaped.log.state (shaped_readable stored.heap (d.bytes c.args.disk) shaped)).moments only))
+    (λ image left. stored_keeps d stored image ((e.image.shaped tells stored.heap shaped).crash only image left)) passed (e.image.disk.restarts tells) (keeps_counts d c.args.disk old.disk tt e.image.disk) in
     let all = total_calls first plays.made in
     let calls : d.passed new.disk ≡ counted (n + all) (d.passed c.args.disk) = whole.1.passes ∙ ap (counted all) passed ∙ counted-add all n (d.passed c.args.disk) in
     rw (c.close.ensures, c.status_after-status.ensures) (ends_whole s first running refl es playable old new k.tells before after (Ok tt) plays d c.args.disk new.disk n keeps
     c.write_graph.result (k.written c.write_graph.new.sink) whole.0 whole.1.reached
     (lines_wrote s first running refl es playable old new k.tells before after (Ok tt) plays (Ok tt) refl)
     (λ t. c.write_graph.ensures.wrote t plays.core plays.heap.core (run_reached s first running refl es playable old new k.tells before after (Ok tt) plays).1) refl calls
-    (unfailed_only s first running refl es playable old new k.tells before after (Ok tt) plays (sym plays.heap.core.memory.failure ∙ played_unfailed first c.args.script.now new k.tells before after running c.requires (c.in-Ok-play_all.ensures.core first (e.holds tells s stored.batches stored.pages stored.legal only stored.places stored.graph stored.found).core running)))
+    (unfailed_only s first running refl es playable old new k.tells before after (Ok tt) plays (sym plays.heap.core.memory.failure ∙ played_unfailed first c.args.script.now new k.tells before after running c.requires (c.in-Ok-play_all.ensures.core first (e.holds tells stored.heap stored.legal only stored.places stored.graph stored.found).core running)))
     (keeps_counts d c.args.disk old.disk tt e.image.disk))
 
 pub returns-in-Err-play_all-clause-played : goal.returns-in-Err-play_all-clause-played
 returns-in-Err-play_all-clause-played g c tells stored only =
     let d = g.D.Disk in
     let k = g.K.Sink in
-    let s = stored.super in
+    let s = stored.heap.super in
     let first = stored_core stored in
     let n = stored_calls stored in
     let shaped = shaped_image stored.legal in
@@ -102,13 +102,13 @@ returns-in-Err-play_all-clause-played g c tells stored only =
     let e = c.in-Ok.ensures in
     let unharmed = λ (u : Unharmed d c.args.disk new.disk) (rose : DiskRose (d.faults old.disk) (d.stops old.disk) (d.faults new.disk) (d.stops new.disk)).
     u (disk_rose_since _ _ _ _ _ _ e.image.disk.cause.faults_kept e.image.disk.cause.stops_kept c.play_all.ensures.disk.cause.faults_kept c.play_all.ensures.disk.cause.stops_kept rose) in
-    let plays = c.in-Err-play_all.ensures.plays tells s first (e.holds tells s stored.batches stored.pages stored.legal only stored.places stored.graph stored.found) running in
-    let passed : d.passed old.disk ≡ counted n (d.passed c.args.disk) = (e.image.shaped tells s stored.batches stored.pages shaped).passes.ok in
+    let plays = c.in-Err-play_all.ensures.plays tells s first (e.holds tells stored.heap stored.legal only stored.places stored.graph stored.found) running in
+    let passed : d.passed old.disk ≡ counted n (d.passed c.args.disk) = (e.image.shaped tells stored.heap shaped).passes.ok in
     let images : HasImages d = record { counts = λ disk t image le may. g.met.D.Disk.counts_now tells disk t image le may; now = λ disk image since. g.met.D.Disk.only_now tells disk image since; reads = λ disk. g.met.D.Disk.reads_an_image tells disk } in
     let keeps = keeps_own s first running refl es playable old new k.tells before after (Err h) plays tells n c.args.disk images
-    (stored_moments d stored c.args.disk old.disk ((e.image.shaped tells s stored.batches stored.pages shaped).moments only))
-    (opening_behind d first s stored.batches (d.bytes c.args.disk) c.args.disk old.disk (stored_super d stored) ((e.image.readable tells s stored.batches shaped.log.state (shaped_readable s stored.batches stored.pages (d.bytes c.args.disk) shaped)).moments only))
-    (λ image left. stored_keeps d stored image ((e.image.shaped tells s stored.batches stored.pages shaped).crash only image left)) passed (e.image.disk.restarts tells) (keeps_counts d c.args.disk old.disk tt e.image.disk) in
+    (stored_moments d stored c.args.disk old.disk ((e.image.shaped tells stored.heap shaped).moments only))
+    (opening_behind d first stored.heap (d.bytes c.args.disk) c.args.disk old.disk (stored_super d stored) ((e.image.readable tells stored.heap shaped.log.state (shaped_readable stored.heap (d.bytes c.args.disk) shaped)).moments only))
+    (λ image left. stored_keeps d stored image ((e.image.shaped tells stored.heap shaped).crash only image left)) passed (e.image.disk.restarts tells) (keeps_counts d c.args.disk old.disk tt e.image.disk) in
     let all = total_calls first plays.made in
     let sum = counted-add all n (d.passed c.args.disk) in
     let whole = λ (u : Unharmed d c.args.disk new.disk). exact_passes s first running refl es playable old new k.tells before after (Err h) plays (unharmed u) ∙ ap (counted all) passed ∙ sum in

@@ -71,7 +71,7 @@ returns-in-None-clause-prints g c tells =
     let read = c.in-Ok.ensures.script in
     let k = g.K.Sink in
     prints_script (IsReadFrom g.S.Source.tells (g.S.Source.left c.args.source.now)) (stop_after c.args.stop) c.deref.result.now c.play_script.result.0 (k.written c.args.sink.now) (k.written c.play_script.new.sink)
-    (record { bytes = read.0; script = read.1 ∙ ap (λ (ls : List Line). Ok ls) (sym c.deref.ensures.value); own = read.2 }) (λ s batches stored gates own none. own) (c.play_script.ensures.prints tells)
+    (record { bytes = read.0; script = read.1 ∙ ap (λ (ls : List Line). Ok ls) (sym c.deref.ensures.value); own = read.2 }) (λ stored gates own none. own) (c.play_script.ensures.prints tells)
 
 -- or that of the heap that was made
 pub returns-in-Ok-format-clause-prints : goal.returns-in-Ok-format-clause-prints
@@ -80,7 +80,7 @@ returns-in-Ok-format-clause-prints g c tells =
     let k = g.K.Sink in
     prints_script (IsReadFrom g.S.Source.tells (g.S.Source.left c.args.source.now)) (stop_after c.args.stop) c.deref-in-Ok-format.result.now c.play_script-in-Ok-format.result.0 (k.written c.args.sink.now) (k.written c.play_script-in-Ok-format.new.sink)
     (record { bytes = read.0; script = read.1 ∙ ap (λ (ls : List Line). Ok ls) (sym c.deref-in-Ok-format.ensures.value); own = read.2 })
-    (λ s batches stored gates own none. let never : None ≡ Some c.in-Some.pages = sym none ∙ c.in-Some.is in cc never) (c.play_script-in-Ok-format.ensures.prints tells)
+    (λ stored gates own none. let never : None ≡ Some c.in-Some.pages = sym none ∙ c.in-Some.is in cc never) (c.play_script-in-Ok-format.ensures.prints tells)
 
 -- no fault of the disk was ignored
 pub returns-in-Ok-format-clause-unfaulted : goal.returns-in-Ok-format-clause-unfaulted

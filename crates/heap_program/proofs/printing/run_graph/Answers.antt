@@ -21,24 +21,24 @@ use Rattle.heap_program.proofs.ImageLaws.{answers_failed, answers_opened}
 use Rattle.heap_program.proofs.printing.run_graph.Goals as goal
 
 pub returns-in-Ok-clause-graph : goal.returns-in-Ok-clause-graph
-returns-in-Ok-clause-graph g c tells only s batches stored shaped born places graph found =
+returns-in-Ok-clause-graph g c tells only stored shaped born places graph found =
     let d = g.D.Disk in
     let k = g.K.Sink in
     let e = c.in-Ok.ensures in
-    let gates = open_gates s.log_bytes (d.bytes c.args.disk) in
-    let core = opened s batches stored gates born places graph in
-    let is = e.found tells s batches stored shaped born places graph found in
-    let reached = opened_reached s batches stored shaped.log gates born places graph found in
+    let gates = open_gates stored.super.log_bytes (d.bytes c.args.disk) in
+    let core = opened stored gates born places graph in
+    let is = e.found tells stored shaped born places graph found in
+    let reached = opened_reached stored shaped.log gates born places graph found in
     let before = k.written c.args.sink.now in
     let after = k.written c.write_graph.new.sink in
-    let passed : d.passed c.in-Ok.heap.disk ≡ counted (opening_calls s batches) (d.passed c.args.disk) = (e.image.shaped tells s batches stored shaped).passes.ok in
+    let passed : d.passed c.in-Ok.heap.disk ≡ counted (opening_calls stored) (d.passed c.args.disk) = (e.image.shaped tells stored shaped).passes.ok in
     rw (c.close.ensures, c.status_after-status.ensures) (record {
-      moments = (e.image.shaped tells s batches stored shaped).moments only;
-      left = (e.image.shaped tells s batches stored shaped).crash only;
-      outside = left_outside d s batches c.args.disk c.in-Ok.heap.disk ((e.image.readable tells s batches shaped.log.state (shaped_readable s batches stored (d.bytes c.args.disk) shaped)).moments only);
-      calls = record { times = opening_calls s batches; most = omega arith; all = λ done. refl; told = passed };
+      moments = (e.image.shaped tells stored shaped).moments only;
+      left = (e.image.shaped tells stored shaped).crash only;
+      outside = left_outside d stored c.args.disk c.in-Ok.heap.disk ((e.image.readable tells stored shaped.log.state (shaped_readable stored (d.bytes c.args.disk) shaped)).moments only);
+      calls = record { times = opening_calls stored; most = omega arith; all = λ done. refl; told = passed };
       restarts = e.image.disk.restarts tells;
-      holds = λ done. ((e.image.shaped tells s batches stored shaped).holds, e.image.durable tells only);
+      holds = λ done. ((e.image.shaped tells stored shaped).holds, e.image.durable tells only);
       settled = λ other. e.image.durable tells only;
       written = λ t. record {
         front = wrote_some c.write_graph.result before (graph_text graph) after (c.write_graph.ensures.wrote t core is reached);
@@ -48,21 +48,21 @@ returns-in-Ok-clause-graph g c tells only s batches stored shaped born places gr
     })
 
 pub returns-in-Err-clause-graph : goal.returns-in-Err-clause-graph
-returns-in-Err-clause-graph g c tells only s batches stored shaped born places graph found =
+returns-in-Err-clause-graph g c tells only stored shaped born places graph found =
     let d = g.D.Disk in
     let k = g.K.Sink in
     let e = c.in-Err.ensures in
-    let most = fails_most (opening_calls s batches) (d.passed c.args.disk) (d.passed c.in-Err.disk) c.in-Err.e ((e.image.shaped tells s batches stored shaped).passes) in
+    let most = fails_most (opening_calls stored) (d.passed c.args.disk) (d.passed c.in-Err.disk) c.in-Err.e ((e.image.shaped tells stored shaped).passes) in
     rw c.from.ensures (record {
-      moments = (e.image.shaped tells s batches stored shaped).moments only;
-      left = (e.image.shaped tells s batches stored shaped).crash only;
-      outside = left_outside d s batches c.args.disk c.in-Err.disk ((e.image.readable tells s batches shaped.log.state (shaped_readable s batches stored (d.bytes c.args.disk) shaped)).moments only);
+      moments = (e.image.shaped tells stored shaped).moments only;
+      left = (e.image.shaped tells stored shaped).crash only;
+      outside = left_outside d stored c.args.disk c.in-Err.disk ((e.image.readable tells stored shaped.log.state (shaped_readable stored (d.bytes c.args.disk) shaped)).moments only);
       calls = record { times = most.0; most = most.1; all = λ done. absurd (open_not_done c.in-Err.e done); told = most.2 };
       restarts = e.image.disk.restarts tells;
       holds = λ done. absurd (open_not_done c.in-Err.e done);
-      settled = λ other. reads_only d c.args.disk c.in-Err.disk ((e.image.left_alone (refused_memory c.in-Err.e (outside_memory c.in-Err.e ((e.image.shaped tells s batches stored shaped).error) other))).contents tells) only;
+      settled = λ other. reads_only d c.args.disk c.in-Err.disk ((e.image.left_alone (refused_memory c.in-Err.e (outside_memory c.in-Err.e ((e.image.shaped tells stored shaped).error) other))).contents tells) only;
       written = λ t. record { front = none_written (k.written c.args.sink.now) (graph_text graph); whole = λ done. absurd (open_not_done c.in-Err.e done) };
-      end = open_end c.in-Err.e ((e.image.shaped tells s batches stored shaped).error);
+      end = open_end c.in-Err.e ((e.image.shaped tells stored shaped).error);
     })
 
 pub returns-in-Ok-clause-prints : goal.returns-in-Ok-clause-prints

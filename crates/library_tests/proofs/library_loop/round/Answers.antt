@@ -13,10 +13,10 @@ loop-event-init g c = (
   λ tells only gr k stands.
       let found = found_of stands in
       record {
-        super = stands.super;
+        super = stands.stored.super;
         core = core_of stands;
         going = going_opened _ stands;
-        is = c.in-Ok.ensures.holds tells stands.super stands.batches stands.stored (legal_of stands) only found.0 found.1 found.2;
+        is = c.in-Ok.ensures.holds tells stands.stored (legal_of stands) only found.0 found.1 found.2;
       },
 )
 

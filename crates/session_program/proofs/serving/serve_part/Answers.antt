@@ -73,8 +73,8 @@ returns-in-Err-clause-served g c tells only stored =
     let k = g.K.Sink in
     let e = c.in-Err.ensures in
     let shaped = shaped_image stored.legal in
-    let passes = (e.image.shaped tells stored.super stored.batches stored.pages shaped).passes in
-    let outside = (e.image.shaped tells stored.super stored.batches stored.pages shaped).error in
+    let passes = (e.image.shaped tells stored.heap shaped).passes in
+    let outside = (e.image.shaped tells stored.heap shaped).error in
     let few = fails_most (stored_calls stored) (d.passed c.args.disk) (d.passed c.in-Err.disk) c.in-Err.e passes in
     let most = counted_mono few.0 (stored_calls stored) (d.passed c.args.disk) few.1 in
     let total = counted_mono few.0 (stored_calls stored + 0) (d.passed c.args.disk) (omega (arith, few.1)) in
@@ -84,9 +84,9 @@ returns-in-Err-clause-served g c tells only stored =
       rest = s.left c.args.source.now;
       input = (refl, refl);
       is = served_none d stored s.tells stream (s.left c.args.source.now) c.args.disk c.in-Err.disk c.in-Err.e k.tells (k.written c.args.sink.now) outside
-          (stored_moments d stored c.args.disk c.in-Err.disk ((e.image.shaped tells stored.super stored.batches stored.pages shaped).moments only))
-          (opening_behind d (stored_core stored) stored.super stored.batches (d.bytes c.args.disk) c.args.disk c.in-Err.disk (stored_super d stored) ((e.image.readable tells stored.super stored.batches shaped.log.state (shaped_readable stored.super stored.batches stored.pages (d.bytes c.args.disk) shaped)).moments only))
-          (λ image left. stored_keeps d stored image ((e.image.shaped tells stored.super stored.batches stored.pages shaped).crash only image left))
+          (stored_moments d stored c.args.disk c.in-Err.disk ((e.image.shaped tells stored.heap shaped).moments only))
+          (opening_behind d (stored_core stored) stored.heap (d.bytes c.args.disk) c.args.disk c.in-Err.disk (stored_super d stored) ((e.image.readable tells stored.heap shaped.log.state (shaped_readable stored.heap (d.bytes c.args.disk) shaped)).moments only))
+          (λ image left. stored_keeps d stored image ((e.image.shaped tells stored.heap shaped).crash only image left))
           (λ image since. g.met.D.Disk.only_now tells c.in-Err.disk image since) (e.image.disk.restarts tells)
           (λ none. fails_none (stored_calls stored) (d.passed c.args.disk) (d.passed c.in-Err.disk) c.in-Err.e (ap open_status none) passes)
           (λ other u. u (open_harm _ _ _ _ c.in-Err.e outside other e.image.disk.cause))
@@ -105,7 +105,7 @@ returns-in-Ok-serve_all-clause-served g c tells only stored =
     let old = c.in-Ok.heap in
     let new = c.serve_all.new.heap in
     let e = c.in-Ok.ensures in
-    let o = c.in-Ok-serve_all.ensures.plays tells stored.super first (e.holds tells stored.super stored.batches stored.pages stored.legal only stored.places stored.graph stored.found) running in
+    let o = c.in-Ok-serve_all.ensures.plays tells stored.heap.super first (e.holds tells stored.heap stored.legal only stored.places stored.graph stored.found) running in
     let unharmed = λ (u : Unharmed d c.args.disk new.disk) (rose : DiskRose (d.faults old.disk) (d.stops old.disk) (d.faults new.disk) (d.stops new.disk)).
     u (disk_rose_since _ _ _ _ _ _ e.image.disk.cause.faults_kept e.image.disk.cause.stops_kept c.serve_all.ensures.disk.cause.faults_kept c.serve_all.ensures.disk.cause.stops_kept rose) in
     rw (c.close.ensures) (record {
@@ -114,10 +114,10 @@ returns-in-Ok-serve_all-clause-served g c tells only stored =
       input = o.input;
       is = served_opened stored running s.tells o.part o.rest c.args.disk old new k.tells (k.written c.args.sink.now) (k.written c.serve_all.new.sink) (Ok c.in-Ok-serve_all.next) o.is
           tells (record { counts = λ disk t image le may. g.met.D.Disk.counts_now tells disk t image le may; now = λ disk image since. g.met.D.Disk.only_now tells disk image since; reads = λ disk. g.met.D.Disk.reads_an_image tells disk })
-          (stored_moments d stored c.args.disk old.disk ((e.image.shaped tells stored.super stored.batches stored.pages shaped).moments only))
-          (opening_behind d first stored.super stored.batches (d.bytes c.args.disk) c.args.disk old.disk (stored_super d stored) ((e.image.readable tells stored.super stored.batches shaped.log.state (shaped_readable stored.super stored.batches stored.pages (d.bytes c.args.disk) shaped)).moments only))
-          (λ image left. stored_keeps d stored image ((e.image.shaped tells stored.super stored.batches stored.pages shaped).crash only image left))
-          (e.image.shaped tells stored.super stored.batches stored.pages shaped).passes.ok (e.image.disk.restarts tells) (keeps_counts d c.args.disk old.disk tt e.image.disk) unharmed;
+          (stored_moments d stored c.args.disk old.disk ((e.image.shaped tells stored.heap shaped).moments only))
+          (opening_behind d first stored.heap (d.bytes c.args.disk) c.args.disk old.disk (stored_super d stored) ((e.image.readable tells stored.heap shaped.log.state (shaped_readable stored.heap (d.bytes c.args.disk) shaped)).moments only))
+          (λ image left. stored_keeps d stored image ((e.image.shaped tells stored.heap shaped).crash only image left))
+          (e.image.shaped tells stored.heap shaped).passes.ok (e.image.disk.restarts tells) (keeps_counts d c.args.disk old.disk tt e.image.disk) unharmed;
     })
 
 pub returns-in-Err-serve_all-clause-served : goal.returns-in-Err-serve_all-clause-served
@@ -131,7 +131,7 @@ returns-in-Err-serve_all-clause-served g c tells only stored =
     let old = c.in-Ok.heap in
     let new = c.serve_all.new.heap in
     let e = c.in-Ok.ensures in
-    let o = c.in-Err-serve_all.ensures.plays tells stored.super first (e.holds tells stored.super stored.batches stored.pages stored.legal only stored.places stored.graph stored.found) running in
+    let o = c.in-Err-serve_all.ensures.plays tells stored.heap.super first (e.holds tells stored.heap stored.legal only stored.places stored.graph stored.found) running in
     let unharmed = λ (u : Unharmed d c.args.disk new.disk) (rose : DiskRose (d.faults old.disk) (d.stops old.disk) (d.faults new.disk) (d.stops new.disk)).
     u (disk_rose_since _ _ _ _ _ _ e.image.disk.cause.faults_kept e.image.disk.cause.stops_kept c.serve_all.ensures.disk.cause.faults_kept c.serve_all.ensures.disk.cause.stops_kept rose) in
     rw (c.close-in-Err-serve_all.ensures, c.break_status.ensures) (record {
@@ -140,17 +140,17 @@ returns-in-Err-serve_all-clause-served g c tells only stored =
       input = o.input;
       is = served_opened stored running s.tells o.part o.rest c.args.disk old new k.tells (k.written c.args.sink.now) (k.written c.serve_all.new.sink) (Err c.in-Err-serve_all.ended) o.is
           tells (record { counts = λ disk t image le may. g.met.D.Disk.counts_now tells disk t image le may; now = λ disk image since. g.met.D.Disk.only_now tells disk image since; reads = λ disk. g.met.D.Disk.reads_an_image tells disk })
-          (stored_moments d stored c.args.disk old.disk ((e.image.shaped tells stored.super stored.batches stored.pages shaped).moments only))
-          (opening_behind d first stored.super stored.batches (d.bytes c.args.disk) c.args.disk old.disk (stored_super d stored) ((e.image.readable tells stored.super stored.batches shaped.log.state (shaped_readable stored.super stored.batches stored.pages (d.bytes c.args.disk) shaped)).moments only))
-          (λ image left. stored_keeps d stored image ((e.image.shaped tells stored.super stored.batches stored.pages shaped).crash only image left))
-          (e.image.shaped tells stored.super stored.batches stored.pages shaped).passes.ok (e.image.disk.restarts tells) (keeps_counts d c.args.disk old.disk tt e.image.disk) unharmed;
+          (stored_moments d stored c.args.disk old.disk ((e.image.shaped tells stored.heap shaped).moments only))
+          (opening_behind d first stored.heap (d.bytes c.args.disk) c.args.disk old.disk (stored_super d stored) ((e.image.readable tells stored.heap shaped.log.state (shaped_readable stored.heap (d.bytes c.args.disk) shaped)).moments only))
+          (λ image left. stored_keeps d stored image ((e.image.shaped tells stored.heap shaped).crash only image left))
+          (e.image.shaped tells stored.heap shaped).passes.ok (e.image.disk.restarts tells) (keeps_counts d c.args.disk old.disk tt e.image.disk) unharmed;
     })
 
 -- Without a fault it is done, or memory ran out.
 pub returns-in-Err-clause-complete : goal.returns-in-Err-clause-complete
 returns-in-Err-clause-complete g c tells only stored no_source no_sink no_disk =
     let e = c.in-Err.ensures in
-    let outside = (e.image.shaped tells stored.super stored.batches stored.pages (shaped_image stored.legal)).error in
+    let outside = (e.image.shaped tells stored.heap (shaped_image stored.legal)).error in
     inr (c.from.ensures ∙ outside_memory c.in-Err.e outside (λ is. no_disk (open_harm _ _ _ _ c.in-Err.e outside (λ none. let same : status.NoMemory ≡ status.DiskFault = sym (ap open_status none) ∙ is in cc) e.image.disk.cause)))
 
 pub returns-in-Err-serve_all-clause-complete : goal.returns-in-Err-serve_all-clause-complete

@@ -38,9 +38,9 @@ returns-in-Ok-Threads-clause-threads_safe g c tells only fresh tries is =
 
 -- words for which there was no memory
 pub returns-in-Err-NoMemory-clause-graph : goal.returns-in-Err-NoMemory-clause-graph
-returns-in-Err-NoMemory-clause-graph g c tells only is s batches stored shaped born places graph found =
+returns-in-Err-NoMemory-clause-graph g c tells only is stored shaped born places graph found =
     let now = (g.met.D.Disk g.world.𝓛 g.world.𝓜 g.world.𝓡 ((λ s x. x), (λ x. x), (λ x. x), λ x. x)).only_now in
-    graph_unread g.D.Disk c.args.disk asking.NoMemory _ is (λ same. cc) _ refl (λ image since. now tells c.args.disk image since) only s batches stored graph shaped.held g.K.Sink.tells (g.K.Sink.written c.args.sink.now)
+    graph_unread g.D.Disk c.args.disk asking.NoMemory _ is (λ same. cc) _ refl (λ image since. now tells c.args.disk image since) only stored graph shaped.held g.K.Sink.tells (g.K.Sink.written c.args.sink.now)
 
 -- no fault of the disk is ignored
 pub returns-in-Ok-Threads-clause-unfaulted : goal.returns-in-Ok-Threads-clause-unfaulted

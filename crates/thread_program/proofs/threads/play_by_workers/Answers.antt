@@ -26,42 +26,42 @@ returns-in-Err-clause-played g c tells stored only =
     let d = g.D.Disk in
     let e = c.in-Err.ensures in
     let shaped = shaped_image stored.legal in
-    let passes = (e.image.shaped tells stored.super stored.batches stored.pages shaped).passes in
-    let outside = (e.image.shaped tells stored.super stored.batches stored.pages shaped).error in
+    let passes = (e.image.shaped tells stored.heap shaped).passes in
+    let outside = (e.image.shaped tells stored.heap shaped).error in
     let few = fails_most (stored_calls stored) (d.passed c.args.disk) (d.passed c.in-Err.disk) c.in-Err.e passes in
     let most = counted_mono few.0 (stored_calls stored) (d.passed c.args.disk) few.1 in
     let total = counted_mono few.0 (stored_calls stored + 0) (d.passed c.args.disk) (omega (arith, few.1)) in
     unopened_together d stored c.args.tries c.args.script.now c.in-Err.e c.from.result c.args.disk c.in-Err.disk g.K.Sink.tells (g.K.Sink.written c.args.sink.now) c.requires.tries c.from.ensures outside
-    (stored_moments d stored c.args.disk c.in-Err.disk ((e.image.shaped tells stored.super stored.batches stored.pages shaped).moments only))
-    (opening_behind d (stored_core stored) stored.super stored.batches (d.bytes c.args.disk) c.args.disk c.in-Err.disk (stored_super d stored)
-    ((e.image.readable tells stored.super stored.batches shaped.log.state (shaped_readable stored.super stored.batches stored.pages (d.bytes c.args.disk) shaped)).moments only))
-    (λ image left. stored_keeps d stored image ((e.image.shaped tells stored.super stored.batches stored.pages shaped).crash only image left))
+    (stored_moments d stored c.args.disk c.in-Err.disk ((e.image.shaped tells stored.heap shaped).moments only))
+    (opening_behind d (stored_core stored) stored.heap (d.bytes c.args.disk) c.args.disk c.in-Err.disk (stored_super d stored)
+    ((e.image.readable tells stored.heap shaped.log.state (shaped_readable stored.heap (d.bytes c.args.disk) shaped)).moments only))
+    (λ image left. stored_keeps d stored image ((e.image.shaped tells stored.heap shaped).crash only image left))
     (λ image since. (g.met.D.Disk g.world.𝓛 g.world.𝓜 g.world.𝓡 ((λ s x. x), (λ x. x), (λ x. x), λ x. x)).only_now tells c.in-Err.disk image since) (e.image.disk.restarts tells)
     (λ none. fails_none (stored_calls stored) (d.passed c.args.disk) (d.passed c.in-Err.disk) c.in-Err.e (ap open_status none) passes)
     (λ other u. u (open_harm _ _ _ _ c.in-Err.e outside other e.image.disk.cause))
     (omega (arith, few.2, most)) (omega (arith, few.2, total))
     (λ refused. reads_only d c.args.disk c.in-Err.disk ((e.image.left_alone (refused_memory c.in-Err.e refused)).contents tells) only)
-    (opening_stops d (stored_calls stored) c.args.disk c.in-Err.disk c.in-Err.e outside passes e.image.disk.cause (λ none. (e.image.shaped tells stored.super stored.batches stored.pages shaped).no_first_stop (no_rollback (rollback_of stored.super stored.batches) none)))
+    (opening_stops d (stored_calls stored) c.args.disk c.in-Err.disk c.in-Err.e outside passes e.image.disk.cause (λ none. (e.image.shaped tells stored.heap shaped).no_first_stop (no_rollback (rollback_of stored.heap) none)))
 
 pub returns-in-Ok-clause-played : goal.returns-in-Ok-clause-played
 returns-in-Ok-clause-played g c tells stored only =
     let d = g.D.Disk in
     let k = g.K.Sink in
-    let s = stored.super in
+    let s = stored.heap.super in
     let first = stored_core stored in
     let n = stored_calls stored in
     let shaped = shaped_image stored.legal in
     let running = stored_running d stored in
     let old = c.in-Ok.heap in
     let e = c.in-Ok.ensures in
-    let made_by = c.play_opened-status.ensures.holds tells s first (e.holds tells s stored.batches stored.pages stored.legal only stored.places stored.graph stored.found) running refl in
+    let made_by = c.play_opened-status.ensures.holds tells s first (e.holds tells stored.heap stored.legal only stored.places stored.graph stored.found) running refl in
     let images : HasImages d = record { counts = λ disk t image le may. (g.met.D.Disk g.world.𝓛 g.world.𝓜 g.world.𝓡 ((λ s x. x), (λ x. x), (λ x. x), λ x. x)).counts_now tells disk t image le may; now = λ disk image since. (g.met.D.Disk g.world.𝓛 g.world.𝓜 g.world.𝓡 ((λ s x. x), (λ x. x), (λ x. x), λ x. x)).only_now tells disk image since; reads = λ disk. (g.met.D.Disk g.world.𝓛 g.world.𝓜 g.world.𝓡 ((λ s x. x), (λ x. x), (λ x. x), λ x. x)).reads_an_image tells disk } in
     let opened : OpenedOn d n first c.args.disk old.disk = record {
       has = images;
-      opening = stored_moments d stored c.args.disk old.disk ((e.image.shaped tells s stored.batches stored.pages shaped).moments only);
-      behind = opening_behind d first s stored.batches (d.bytes c.args.disk) c.args.disk old.disk (stored_super d stored) ((e.image.readable tells s stored.batches shaped.log.state (shaped_readable s stored.batches stored.pages (d.bytes c.args.disk) shaped)).moments only);
-      here = λ image left. stored_keeps d stored image ((e.image.shaped tells s stored.batches stored.pages shaped).crash only image left);
-      passed = (e.image.shaped tells s stored.batches stored.pages shaped).passes.ok;
+      opening = stored_moments d stored c.args.disk old.disk ((e.image.shaped tells stored.heap shaped).moments only);
+      behind = opening_behind d first stored.heap (d.bytes c.args.disk) c.args.disk old.disk (stored_super d stored) ((e.image.readable tells stored.heap shaped.log.state (shaped_readable stored.heap (d.bytes c.args.disk) shaped)).moments only);
+      here = λ image left. stored_keeps d stored image ((e.image.shaped tells stored.heap shaped).crash only image left);
+      passed = (e.image.shaped tells stored.heap shaped).passes.ok;
       restarts = e.image.disk.restarts tells;
       counts = keeps_counts d c.args.disk old.disk tt e.image.disk;
       faults = e.image.disk.cause.faults_kept;

@@ -73,7 +73,7 @@ returns-in-None-clause-prints g c =
     let read = c.in-Ok.ensures.script in
     let k = g.K.Sink in
     prints_script (IsReadFrom g.S.Source.tells (g.S.Source.left c.args.source.now)) c.args.tries c.deref.result.now c.play_by_workers.result.0 k.tells (k.written c.args.sink.now) (k.written c.play_by_workers.new.sink)
-    (record { bytes = read.0; script = read.1 ∙ ap (λ (ls : List Line). Ok ls) (sym c.deref.ensures.value); own = read.2 }) (λ s batches stored gates own none. own) (λ rose. rose) c.play_by_workers.ensures.prints
+    (record { bytes = read.0; script = read.1 ∙ ap (λ (ls : List Line). Ok ls) (sym c.deref.ensures.value); own = read.2 }) (λ stored gates own none. own) (λ rose. rose) c.play_by_workers.ensures.prints
 
 -- or that of the heap that was made
 pub returns-in-Ok-format-clause-prints : goal.returns-in-Ok-format-clause-prints
@@ -83,7 +83,7 @@ returns-in-Ok-format-clause-prints g c =
     let made = c.in-Ok-format.ensures.disk.cause in
     prints_script (IsReadFrom g.S.Source.tells (g.S.Source.left c.args.source.now)) c.args.tries c.deref-in-Ok-format.result.now c.play_by_workers-in-Ok-format.result.0 k.tells (k.written c.args.sink.now) (k.written c.play_by_workers-in-Ok-format.new.sink)
     (record { bytes = read.0; script = read.1 ∙ ap (λ (ls : List Line). Ok ls) (sym c.deref-in-Ok-format.ensures.value); own = read.2 })
-    (λ s batches stored gates own none. let never : None ≡ Some c.in-Some.pages = sym none ∙ c.in-Some.is in cc never)
+    (λ stored gates own none. let never : None ≡ Some c.in-Some.pages = sym none ∙ c.in-Some.is in cc never)
     (λ rose. rose_from _ _ _ _ _ _ made.faults_kept made.stops_kept c.play_by_workers-in-Ok-format.ensures.disk.kept rose) c.play_by_workers-in-Ok-format.ensures.prints
 
 -- the heap was not made

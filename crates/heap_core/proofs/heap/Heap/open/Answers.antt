@@ -19,22 +19,22 @@ use Rattle.heap_core.proofs.heap.Heap.open.Goals as goal
 pub new-engine-requires-clause-sized : goal.new-engine-requires-clause-sized
 new-engine-requires-clause-sized g c =
     let found = c.in-Ok-recover.ensures.opens in
-    (opened_bounds found.0 found.1 found.2 c.in-Ok-recover.found found.3 found.4).size ∙ ap (λ x. words_in x.pages) (sym c.spaces-spaces.ensures)
+    (opened_bounds found.0 c.in-Ok-recover.found found.1 found.2).size ∙ ap (λ x. words_in x.pages) (sym c.spaces-spaces.ensures)
 
 pub new-engine-requires-clause-new : goal.new-engine-requires-clause-new
 new-engine-requires-clause-new g c =
     let found = c.in-Ok-recover.ensures.opens in
-    (opened_bounds found.0 found.1 found.2 c.in-Ok-recover.found found.3 found.4).new
+    (opened_bounds found.0 c.in-Ok-recover.found found.1 found.2).new
 
 pub new-engine-requires-clause-few : goal.new-engine-requires-clause-few
 new-engine-requires-clause-few g c =
     let found = c.in-Ok-recover.ensures.opens in
-    subst (λ x. x.pages ≤ 16384) (sym c.spaces-spaces.ensures) (opened_bounds found.0 found.1 found.2 c.in-Ok-recover.found found.3 found.4).few
+    subst (λ x. x.pages ≤ 16384) (sym c.spaces-spaces.ensures) (opened_bounds found.0 c.in-Ok-recover.found found.1 found.2).few
 
 pub new-engine-requires-clause-gray : goal.new-engine-requires-clause-gray
 new-engine-requires-clause-gray g c k run =
     let found = c.in-Ok-recover.ensures.opens in
-    let bounds = opened_bounds found.0 found.1 found.2 c.in-Ok-recover.found found.3 found.4 in
+    let bounds = opened_bounds found.0 c.in-Ok-recover.found found.1 found.2 in
     let runs = sym c.into_collection-collection.ensures ∙ run in
     let within = bounds.within k runs in
     subst (λ (x : SpacesState). IsSoundCollection x k) (sym c.spaces-spaces.ensures) (record { copied = within.copied; used = within.used; gray = bounds.gray k runs })
@@ -42,52 +42,48 @@ new-engine-requires-clause-gray g c k run =
 pub new-engine-requires-clause-number : goal.new-engine-requires-clause-number
 new-engine-requires-clause-number g c =
     let found = c.in-Ok-recover.ensures.opens in
-    subst (λ x. 1 ≤ x.next) (sym c.set_next.ensures) (subst (λ n. 1 ≤ n) (sym c.next.ensures) (opened_bounds found.0 found.1 found.2 c.in-Ok-recover.found found.3 found.4).next)
+    subst (λ x. 1 ≤ x.next) (sym c.set_next.ensures) (subst (λ n. 1 ≤ n) (sym c.next.ensures) (opened_bounds found.0 c.in-Ok-recover.found found.1 found.2).next)
 
 pub returns-in-Ok-recover-clause-opens : goal.returns-in-Ok-recover-clause-opens
 returns-in-Ok-recover-clause-opens g c =
     let found = c.in-Ok-recover.ensures.opens in
     let fresh = is_fresh c.in-Ok-recover.found c.spaces-spaces.result c.into_collection-collection.result c.set_next.new.self c.in-Ok.table _ c.new-engine.ensures c.spaces-spaces.ensures c.into_collection-collection.ensures (c.set_next.ensures ∙ ap (λ (n : ℕ). let t : TableState = record { next = n; active = c.in-Ok.table.active } in t) c.next.ensures) in
     let image = g.D.Disk.bytes c.recover.new.disk in
-    let gates : ℕ → ℕ = λ p. open_gates found.0.log_bytes image p in (
+    let gates : ℕ → ℕ = λ p. open_gates found.0.super.log_bytes image p in (
       found.0,
-      found.1,
-      found.2,
       gates,
-      found.3,
+      found.1,
       λ born places gr stands.
-          opened_core g.D.Disk found.0 found.1 found.2 gates born places gr c.in-Ok-recover.found c.new-engine.result c.new-core.result c.recover.new.disk found.3 found.4 fresh c.in-Ok-recover.ensures.known (λ told p. refl) c.new-core.ensures.engine c.new-core.ensures.entries (c.new-core.ensures.before ∙ c.commits-commits.ensures) c.new-core.ensures.unfailed,
+          opened_core g.D.Disk found.0 gates born places gr c.in-Ok-recover.found c.new-engine.result c.new-core.result c.recover.new.disk found.1 found.2 fresh c.in-Ok-recover.ensures.known (λ told p. refl) c.new-core.ensures.engine c.new-core.ensures.entries (c.new-core.ensures.before ∙ c.commits-commits.ensures) c.new-core.ensures.unfailed,
     )
 
 pub returns-in-Ok-recover-clause-sound : goal.returns-in-Ok-recover-clause-sound
 returns-in-Ok-recover-clause-sound g c tells =
     let found = c.in-Ok-recover.ensures.sound tells in
     let fresh = is_fresh c.in-Ok-recover.found c.spaces-spaces.result c.into_collection-collection.result c.set_next.new.self c.in-Ok.table _ c.new-engine.ensures c.spaces-spaces.ensures c.into_collection-collection.ensures (c.set_next.ensures ∙ ap (λ (n : ℕ). let t : TableState = record { next = n; active = c.in-Ok.table.active } in t) c.next.ensures) in
-    let gates = open_gates found.0.log_bytes (g.D.Disk.bytes c.args.disk) in
-    let still = (c.in-Ok-recover.ensures.image.shaped tells found.0 found.1 found.2 found.3).gates in (
+    let gates = open_gates found.0.super.log_bytes (g.D.Disk.bytes c.args.disk) in
+    let still = (c.in-Ok-recover.ensures.image.shaped tells found.0 found.1).gates in (
       found.0,
       found.1,
-      found.2,
-      found.3,
       λ born places gr stands.
-          opened_core g.D.Disk found.0 found.1 found.2 gates born places gr c.in-Ok-recover.found c.new-engine.result c.new-core.result c.recover.new.disk found.3.log found.4 fresh c.in-Ok-recover.ensures.known (λ told. still) c.new-core.ensures.engine c.new-core.ensures.entries (c.new-core.ensures.before ∙ c.commits-commits.ensures) c.new-core.ensures.unfailed,
+          opened_core g.D.Disk found.0 gates born places gr c.in-Ok-recover.found c.new-engine.result c.new-core.result c.recover.new.disk found.1.log found.2 fresh c.in-Ok-recover.ensures.known (λ told. still) c.new-core.ensures.engine c.new-core.ensures.entries (c.new-core.ensures.before ∙ c.commits-commits.ensures) c.new-core.ensures.unfailed,
     )
 
 pub returns-in-Ok-recover-clause-found : goal.returns-in-Ok-recover-clause-found
-returns-in-Ok-recover-clause-found g c tells s batches stored shaped born places gr stands =
-    let found = c.in-Ok-recover.ensures.found tells s batches stored shaped in
+returns-in-Ok-recover-clause-found g c tells stored shaped born places gr stands =
+    let found = c.in-Ok-recover.ensures.found tells stored shaped in
     let fresh = is_fresh c.in-Ok-recover.found c.spaces-spaces.result c.into_collection-collection.result c.set_next.new.self c.in-Ok.table _ c.new-engine.ensures c.spaces-spaces.ensures c.into_collection-collection.ensures (c.set_next.ensures ∙ ap (λ (n : ℕ). let t : TableState = record { next = n; active = c.in-Ok.table.active } in t) c.next.ensures) in
-    let gates = open_gates s.log_bytes (g.D.Disk.bytes c.args.disk) in
-    let still = (c.in-Ok-recover.ensures.image.shaped tells s batches stored shaped).gates in
-    opened_core g.D.Disk s batches stored gates born places gr c.in-Ok-recover.found c.new-engine.result c.new-core.result c.recover.new.disk shaped.log found fresh c.in-Ok-recover.ensures.known (λ told. still) c.new-core.ensures.engine c.new-core.ensures.entries (c.new-core.ensures.before ∙ c.commits-commits.ensures) c.new-core.ensures.unfailed
+    let gates = open_gates stored.super.log_bytes (g.D.Disk.bytes c.args.disk) in
+    let still = (c.in-Ok-recover.ensures.image.shaped tells stored shaped).gates in
+    opened_core g.D.Disk stored gates born places gr c.in-Ok-recover.found c.new-engine.result c.new-core.result c.recover.new.disk shaped.log found fresh c.in-Ok-recover.ensures.known (λ told. still) c.new-core.ensures.engine c.new-core.ensures.entries (c.new-core.ensures.before ∙ c.commits-commits.ensures) c.new-core.ensures.unfailed
 
 pub returns-in-Ok-recover-clause-holds : goal.returns-in-Ok-recover-clause-holds
-returns-in-Ok-recover-clause-holds g c tells s batches stored legal only places gr stands =
+returns-in-Ok-recover-clause-holds g c tells stored legal only places gr stands =
     let shaped = shaped_image legal in
-    let gates = open_gates s.log_bytes (g.D.Disk.bytes c.args.disk) in
+    let gates = open_gates stored.super.log_bytes (g.D.Disk.bytes c.args.disk) in
     record {
-      core = returns-in-Ok-recover-clause-found g c tells s batches stored shaped true places gr stands;
-      disk = opened_disk_holds s batches stored gates places gr _ _ legal.log (c.in-Ok-recover.ensures.image.shaped tells s batches stored shaped).holds (c.in-Ok-recover.ensures.image.durable tells only);
+      core = returns-in-Ok-recover-clause-found g c tells stored shaped true places gr stands;
+      disk = opened_disk_holds stored gates places gr _ _ legal.log (c.in-Ok-recover.ensures.image.shaped tells stored shaped).holds (c.in-Ok-recover.ensures.image.durable tells only);
     }
 
 -- the table is allocated before the disk is read
