@@ -1,5 +1,5 @@
 -- Laws of images that differ in one part alone.
-use Rattle.std.proofs.Common.{◌≡◌, ℕ, ◌+◌, ◌≤◌, List, refl, sym, ◌∙◌, arith}
+use Rattle.std.proofs.Common.{ℕ, ◌≤◌, List, refl, sym, ◌∙◌, arith}
 use Rattle.disk_model.specs.Disk.{SameOutside}
 
 -- what was not touched

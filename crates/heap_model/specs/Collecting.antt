@@ -20,7 +20,6 @@ use Rattle.heap_words.specs.Word.{meaning}
 use Rattle.heap_spaces.specs.declared.collection.CopiedObject.{CopiedObject}
 use Rattle.heap_spaces.specs.Collection.{Collection, page_of}
 use Rattle.heap_spaces.specs.Spaces.{SpacesState}
-use Rattle.log_records.specs.declared.copies.ObjectCopy.{ObjectCopy}
 use Rattle.log_records.specs.declared.Record.{Record}
 use Rattle.log_records.specs.declared.Record.TheVariants.{Collected}
 use Rattle.log_machine.specs.declared.UndoEntry.{UndoEntry}

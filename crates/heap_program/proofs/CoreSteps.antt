@@ -18,7 +18,6 @@ use Rattle.core_laws.proofs.Opening.Opened.{opened_reached}
 use Rattle.core_laws.proofs.Run.Events.{step_reached}
 use Rattle.core_laws.specs.Valid.{IsReached}
 use Rattle.heap_model.proofs.Step.Calls.{whole_run, run_step}
-use Rattle.page_redo.specs.Pages.{first_pages}
 use Rattle.page_store.specs.Gates.{open_gates}
 use Rattle.heap_model.specs.NewHeap.{new_heap, root_place}
 use Rattle.heap_model.proofs.Opening.New.{new_legal, new_found}

@@ -1,6 +1,5 @@
 -- What is said of a run of a load, from what its parts promise.
-use Rattle.std.proofs.Common.{◌≡◌, ◌≢◌, inl, inr, ⊎_elim, ℕ, ◌*◌, ◌<◌, ◌≤◌, Bool, List, [], ◌∷◌, ◌++◌, Option, None, Some, Result, Ok, Err, refl, sym, ap, ◌∙◌, subst, arith}
-use Rattle.std.specs.Prelude.{IsTrue}
+use Rattle.std.proofs.Common.{◌≡◌, inr, ⊎_elim, ℕ, ◌<◌, ◌≤◌, Bool, List, [], ◌++◌, None, Result, Ok, Err, refl, sym, ap, ◌∙◌, subst, arith}
 use Rattle.std.specs.List.{AllByRecursion}
 use Rattle.std.proofs.lemmas.List.{append-nil}
 use Rattle.counts.specs.Count.{Rose}
@@ -23,7 +22,7 @@ use Rattle.heap_program.specs.declared.status.Status.{Status}
 use Rattle.heap_program.specs.declared.status.Status.TheVariants as status
 use Rattle.heap_program.proofs.CoreSteps.{all_playable}
 use Rattle.heap_program.proofs.Limits.{limits_law}
-use Rattle.heap_program.specs.Headline.{IsOpened, IsOfDisk}
+use Rattle.heap_program.specs.Headline.{IsOpened}
 use Rattle.heap_program.specs.Load.{WritesSummary, SummarizesSome, core_summary, summary_text}
 use Rattle.heap_program.specs.Output.{WroteText, status_after}
 use Rattle.heap_program.specs.Play.{IsRunning, PlaysCore}

@@ -1,5 +1,5 @@
 -- What a run of a load promises, and the summary that it prints.
-use Rattle.std.specs.Prelude.{◌≡◌, ◌≢◌, ◌⊎◌, ℕ, ◌+◌, List, [], ◌∷◌, ◌++◌, length, count_by, codes, Bool, true, false, IsTrue, Option, None, Some}
+use Rattle.std.specs.Prelude.{◌≡◌, ◌≢◌, ◌⊎◌, ℕ, List, [], ◌∷◌, ◌++◌, length, count_by, codes, Bool, true, false, IsTrue, Option, None, Some}
 use Rattle.std.specs.Fmt.{decimal}
 use Rattle.disk_model.specs.declared.disk.Disk.{Ghosts}
 use Rattle.graph_model.specs.declared.event.Event.{Event}
@@ -19,7 +19,6 @@ use Rattle.heap_program.specs.declared.summary.Summary.{Summary}
 use Rattle.heap_program.specs.Commands.{WritesText}
 use Rattle.heap_program.specs.Headline.{made_super, made_core, HasMade, IsOfDisk, IsOpened, IsFormatted, IsNotMade, IsNotBegun, IsPlayed}
 use Rattle.heap_program.specs.Limits.{KeepsLimits}
-use Rattle.heap_program.specs.Play.{WroteFront}
 use Rattle.heap_program.specs.Stored.{IsStored, stored_core, stored_calls}
 
 -- the replies that a summary counts

@@ -2,7 +2,7 @@
 use Rattle.std.proofs.Common.{◌≡◌, inl, inr, ⊎_elim, ℕ, zero, suc, ◌+◌, ◌-◌, ◌<◌, ◌≤◌, ◌^◌, List, [], ◌∷◌, ◌++◌, length, length-append, take, None, Some, true, is_some, refl, sym, ap, ◌∙◌, subst, arith}
 use Rattle.std.proofs.lemmas.Bool.{cases_order}
 use Rattle.std.specs.List.{AllByRecursion}
-use Rattle.std.specs.Prelude.{◌⊎◌, Option}
+use Rattle.std.specs.Prelude.{Option}
 use Rattle.disk_model.specs.Disk.{SameOutside}
 use Rattle.gate_slot.proofs.ImageLaws.{length_part}
 use Rattle.gated_log.specs.Log.{BreaksAt, HoldsBatches, batches_bytes, with_batch}
@@ -12,7 +12,7 @@ use Rattle.image_plan.specs.Plan.{log_offset}
 use Rattle.image_plan.proofs.SuperLaws.{one_super}
 use Rattle.log_records.specs.declared.Record.{Record}
 use Rattle.log_records.specs.Record.{IsRecord}
-use Rattle.log_machine.specs.Machine.{settled, State, start, after_all, losing_in, all_taken_back, each_taken_back, rollback, abort_each, reserve}
+use Rattle.log_machine.specs.Machine.{settled, State, after_all, losing_in, all_taken_back, each_taken_back, rollback, abort_each, reserve}
 use Rattle.log_machine.specs.declared.UndoEntry.{UndoEntry}
 use Rattle.log_machine.proofs.MapLaws.{entries_empty}
 use Rattle.log_machine.proofs.MachineLaws.{after_all-append2}

@@ -1,5 +1,5 @@
 -- What an opening answers to an image, and does to it: one that ends before a write, and one that ends with its force or after it.
-use Rattle.std.proofs.Common.{◌≡◌, ◌≢◌, ◌⊎◌, ⊎_elim, ℕ, ◌≤◌, List, [], Result, Ok, Err, sym, ◌∙◌, subst}
+use Rattle.std.proofs.Common.{◌≡◌, ◌≢◌, ℕ, ◌≤◌, List, [], Result, Ok, Err, sym, subst}
 use Rattle.std.specs.Prelude.{IsTrue, IfErr, IsErrAnd, OnOk}
 use Rattle.disk_model.specs.declared.disk.Disk.{Ghosts}
 use Rattle.disk_model.specs.Disk.{Only}
@@ -16,7 +16,7 @@ use Rattle.heap_recovery.specs.declared.at.At.TheVariants.{Address}
 use Rattle.heap_recovery.specs.declared.error.RecoverError.{RecoverError}
 use Rattle.heap_recovery.specs.declared.error.RecoverError.TheVariants.{Damaged}
 use Rattle.heap_recovery.specs.Causes.{error_device, open_device}
-use Rattle.heap_recovery.specs.Faults.{HoldsLog, IsNoHeap, IsReadable, IsFaultAt, IsToldOf, IsErrorOrOutside, ComesBeforeWrites, IsLogLeft}
+use Rattle.heap_recovery.specs.Faults.{IsNoHeap, IsReadable, IsFaultAt, IsToldOf, IsErrorOrOutside, ComesBeforeWrites, IsLogLeft}
 use Rattle.heap_recovery.specs.Opens.{OpensReadable, OpensImage}
 use Rattle.heap_recovery.specs.Recovered.{OpenPasses}
 use Rattle.heap_recovery.proofs.FaultLaws.{one_opening, told_not_heap, told_damaged, readable_heap, readable_late, shaped_readable, left_same}

@@ -29,7 +29,7 @@ use Rattle.heap_recovery.specs.declared.reading.Reading.{Reading}
 use Rattle.heap_recovery.specs.declared.recovery.Recovered.{Recovered}
 use Rattle.heap_recovery.specs.Causes.{open_device}
 use Rattle.heap_recovery.specs.Opens.{outcome}
-use Rattle.heap_recovery.specs.Faults.{stored_in, HasSuper, HoldsLog, IsReadable, IsFaultAt, IsToldOf, ComesBeforeWrites, IsLogLeft}
+use Rattle.heap_recovery.specs.Faults.{HasSuper, HoldsLog, IsReadable, IsFaultAt, IsToldOf, ComesBeforeWrites, IsLogLeft}
 use Rattle.heap_recovery.proofs.FaultLaws.{as_held, shaped_log, shaped_whole, readable_fault, left_fault, left_same, rolled_spelled}
 use Rattle.heap_recovery.specs.Recovered.{IsRead, IsRecovered, IsFromOutside, ErrorPasses, OpenPasses}
 use Rattle.heap_recovery.proofs.Opening.{committed, only_still, in_log, held_there, outside_log, rolled_held, placed_there, read_shaped}

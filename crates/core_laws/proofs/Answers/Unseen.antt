@@ -1,6 +1,6 @@
 -- Transactions do not see collections: with the events of collections taken out, each other event is answered as before.
 use Rattle.std.proofs.Common.{◌≡◌, ◌⊎◌, ℕ, ◌+◌, inl, inr, Bool, true, false, List, [], ◌∷◌, ◌++◌, length, Option, Some, None, refl, sym, ap, ◌∙◌, subst, append_assoc}
-use Rattle.std.specs.Prelude.{◌-◌, ◌*◌, ◌||◌, not, drop, filter, nat_lt, if◌then◌else◌, MatchOption}
+use Rattle.std.specs.Prelude.{◌-◌, ◌*◌, ◌||◌, not, drop, nat_lt, if◌then◌else◌, MatchOption}
 use Rattle.std.specs.List.{AllByRecursion}
 use Rattle.std.specs.Option.{option_to_list}
 use Rattle.std.proofs.lemmas.List.{append-nil}
@@ -14,18 +14,18 @@ use Rattle.graph_model.specs.declared.reply.Reply.{Reply}
 use Rattle.graph_model.specs.declared.reply.Reply.TheVariants.{Flushed, Clean, Refused}
 use Rattle.graph_model.specs.Graph.{Graph}
 use Rattle.graph_model.specs.Transaction.{Transaction}
-use Rattle.graph_model.specs.History.{Account, account, account_after, acknowledged, commits, session_of}
+use Rattle.graph_model.specs.History.{Account, account, account_after, session_of}
 use Rattle.graph_model.specs.Plain.{view, model_refusal, first_of_two, refusal_of, granted, reply_of}
 use Rattle.graph_model.proofs.Runs.History.{account-append}
 use Rattle.log_machine.specs.Machine.{State, owed}
 use Rattle.log_records.specs.declared.Record.{Record}
 use Rattle.heap_spaces.specs.Collection.{Collection}
 use Rattle.heap_model.specs.Collecting.{flip_reply, next_page, scan_reply, scan_reply_in}
-use Rattle.heap_model.specs.Core.{Core, Ground, ground, next_number, own_records, is_dirty, area_refusal, space_refusal, room_refusal, page_refusal, words_refusal, full_log, log_refusal, core_refusal, granted_by, answer, IsCutShort, IsStep, IsRun}
+use Rattle.heap_model.specs.Core.{Core, Ground, ground, next_number, own_records, is_dirty, area_refusal, space_refusal, room_refusal, page_refusal, words_refusal, log_refusal, core_refusal, granted_by, answer, IsStep, IsRun}
 use Rattle.heap_model.proofs.Run.Calls.{same_step, step_history}
 use Rattle.core_laws.proofs.Step.Forms.{granted_plain}
 use Rattle.core_laws.specs.Theorems.{IsOfTransactions}
-use Rattle.core_laws.specs.Unseen.{is_of_collection, is_flush, without_collections, of_transactions, IsFaultless, IsUnhindered, WentFreely, since, AllWentFreely, IsLike, TellTheSame, UnseenTheorem}
+use Rattle.core_laws.specs.Unseen.{is_of_collection, is_flush, without_collections, of_transactions, IsFaultless, IsUnhindered, WentFreely, since, UnseenTheorem}
 
 -- Refusals.
 

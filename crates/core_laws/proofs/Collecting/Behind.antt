@@ -1,6 +1,6 @@
 -- An event after the scan that precedes it. The log has room for the scan's records and the event's own together; that it has room for
 -- the scan's alone follows once both were appended, so they are appended to a larger log first.
-use Rattle.std.proofs.Common.{◌≡◌, ℕ, ◌+◌, ◌≤◌, false, List, ◌++◌, Option, Some, None, sym, ap, ◌∙◌, subst, arith, append_assoc}
+use Rattle.std.proofs.Common.{◌≡◌, ℕ, ◌+◌, ◌≤◌, false, List, ◌++◌, Option, Some, sym, ap, ◌∙◌, subst, arith, append_assoc}
 use Rattle.graph_model.specs.declared.id.Id.{Id}
 use Rattle.graph_model.specs.Transaction.{Transaction, held}
 use Rattle.graph_model.specs.History.{Account}

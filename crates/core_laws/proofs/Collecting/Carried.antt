@@ -1,6 +1,6 @@
 -- What a step of a collection carries along: the same objects are there after it, and what transactions see, hold and wrote leads to them.
-use Rattle.std.proofs.Common.{◌≡◌, ◌⊎◌, ℕ, suc, ◌+◌, ◌<◌, ◌≤◌, inl, inr, true, false, List, [], ◌∷◌, ◌++◌, length, Option, None, Some, is_some, refl, sym, ap, ◌∙◌, subst}
-use Rattle.std.specs.Prelude.{MatchOption, Any, slice_get, unwrap_or}
+use Rattle.std.proofs.Common.{◌≡◌, ℕ, suc, ◌+◌, ◌<◌, ◌≤◌, inl, inr, true, false, List, [], ◌∷◌, ◌++◌, length, Option, None, Some, is_some, refl, sym, ap, ◌∙◌, subst}
+use Rattle.std.specs.Prelude.{MatchOption, unwrap_or}
 use Rattle.std.specs.List.{AllByRecursion}
 use Rattle.std.specs.FinMap.{get}
 use Rattle.std.proofs.lemmas.Option.{same_Some}
@@ -14,8 +14,7 @@ use Rattle.log_machine.specs.declared.UndoEntry.{UndoEntry}
 use Rattle.log_machine.specs.Apart.{others_taken_back}
 use Rattle.log_machine.specs.Machine.{State, owed, undo_of}
 use Rattle.graph_words.specs.Places.{Places, IsAtHand, IsVisible, address_of, made_by}
-use Rattle.graph_words.specs.Area.{HasMade}
-use Rattle.graph_words.specs.Stands.{AreOfFields, AreWritten, IsOfField, IsWritten, Stands}
+use Rattle.graph_words.specs.Stands.{AreOfFields, IsOfField, IsWritten, Stands}
 use Rattle.graph_words.proofs.Area.Fields.{write_at}
 use Rattle.graph_words.proofs.Places.Addresses.{address_of-cases, address_of-one, none_or_some, own_made, some_address}
 use Rattle.graph_words.proofs.Places.Lists.{AllByRecursion-get, Any-head, Any-rest}
@@ -26,7 +25,7 @@ use Rattle.collection_words.specs.Relocated.{HaveSameIds}
 use Rattle.collection_words.proofs.Laid.Names.{own_names}
 use Rattle.collection_words.proofs.Moves.Sources.{put_same}
 use Rattle.heap_model.specs.CoreTold.{HoldsAtHand}
-use Rattle.core_laws.specs.Valid.{AreLockedWrites, AreUnlocked, IsLockedWrite, IsWriting}
+use Rattle.core_laws.specs.Valid.{AreLockedWrites, AreUnlocked, IsWriting}
 
 -- Names.
 

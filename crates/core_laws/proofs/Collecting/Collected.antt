@@ -1,5 +1,5 @@
 -- The end of a collection: nothing is gray, what remains goes, and the core agrees with its history.
-use Rattle.std.proofs.Common.{◌≡◌, ℕ, ◌+◌, ◌≤◌, List, [], ◌∷◌, Option, Some, None, refl, sym, ap, ◌∙◌, subst}
+use Rattle.std.proofs.Common.{◌≡◌, ℕ, ◌+◌, List, [], ◌∷◌, Option, Some, None, refl, sym, ap, ◌∙◌, subst}
 use Rattle.std.specs.FinMap.{entries, remove}
 use Rattle.std.specs.FinSet.{len}
 use Rattle.std.proofs.lemmas.List.{append-nil}
@@ -8,11 +8,9 @@ use Rattle.graph_model.specs.History.{Account}
 use Rattle.graph_model.specs.Locking.{locks_of}
 use Rattle.graph_model.specs.Plain.{view}
 use Rattle.heap_spaces.specs.Collection.{Collection}
-use Rattle.log_records.specs.declared.Record.{Record}
 use Rattle.log_records.specs.declared.Record.TheVariants.{Collected}
-use Rattle.log_machine.specs.declared.UndoEntry.{UndoEntry}
 use Rattle.log_machine.specs.Collecting.{collecting_after}
-use Rattle.log_machine.specs.Machine.{State, after_all, losing, owed, undo_of}
+use Rattle.log_machine.specs.Machine.{State, after_all, losing, owed}
 use Rattle.log_machine.specs.Sound.{IsConsistent}
 use Rattle.log_machine.proofs.CollectingLaws.{consistent_collecting}
 use Rattle.graph_words.specs.Places.{Places, address_of}

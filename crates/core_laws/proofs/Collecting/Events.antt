@@ -1,5 +1,5 @@
 -- The events of a collection, and the barrier before a field is read or written: the core that they leave agrees with its history as before.
-use Rattle.std.proofs.Common.{◌≡◌, ℕ, zero, ◌+◌, ◌≤◌, true, false, Bool, List, [], ◌∷◌, length, Option, Some, None, refl, sym, ap, ◌∙◌, subst, arith}
+use Rattle.std.proofs.Common.{◌≡◌, ℕ, true, false, Bool, List, [], ◌∷◌, Option, Some, None, refl, sym, ap, ◌∙◌, subst, arith}
 use Rattle.std.specs.Prelude.{unwrap_or, if◌then◌else◌, option_and_then}
 use Rattle.std.specs.List.{AllByRecursion, list_any}
 use Rattle.std.specs.Cmp.{nat_cmp_total}
@@ -16,7 +16,6 @@ use Rattle.heap_spaces.specs.Collection.{Collection, page_of}
 use Rattle.log_records.specs.declared.Record.{Record}
 use Rattle.log_records.specs.declared.Record.TheVariants.{Collected}
 use Rattle.log_records.specs.Record.{IsRecord}
-use Rattle.log_machine.specs.declared.UndoEntry.{UndoEntry}
 use Rattle.log_machine.specs.Collecting.{collecting_after}
 use Rattle.log_machine.specs.Machine.{State, after_all, spaces_of, undo_of}
 use Rattle.graph_words.specs.Places.{address_of}
@@ -28,7 +27,7 @@ use Rattle.page_scanner.specs.Scan.{scan_records}
 use Rattle.page_scanner.proofs.After.{after_all_collecting}
 use Rattle.page_scanner.proofs.Total.{all_spelled}
 use Rattle.scan_laws.proofs.Collected.{collected}
-use Rattle.heap_model.specs.Collecting.{barrier_at, barrier_of, least_of, flip_records, flip_records_in, is_gray_in, next_page, page_records, page_records_of, roots_of, scan_event_records, scan_records_in}
+use Rattle.heap_model.specs.Collecting.{barrier_at, least_of, flip_records, flip_records_in, is_gray_in, next_page, page_records, page_records_of, roots_of, scan_event_records, scan_records_in}
 use Rattle.heap_model.specs.Core.{Core, all_words, barrier_for, call_barrier, done, ground, held_barrier, moved, own_records, undo_with}
 use Rattle.read_barrier.specs.Barrier.{barrier_page_of}
 use Rattle.core_laws.proofs.Collecting.Collected as ended

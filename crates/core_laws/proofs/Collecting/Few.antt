@@ -1,10 +1,10 @@
 -- An event but a flip copies few objects.
-use Rattle.std.proofs.Common.{◌≡◌, ◌≢◌, ℕ, ◌+◌, ◌≤◌, true, false, Bool, List, [], ◌∷◌, ◌++◌, length, Option, Some, None, refl, sym, ap, ◌∙◌, subst, arith, length-append}
+use Rattle.std.proofs.Common.{◌≡◌, ◌≢◌, ℕ, ◌≤◌, true, false, Bool, List, [], ◌∷◌, ◌++◌, length, Option, Some, None, refl, sym, ap, ◌∙◌, subst, arith, length-append}
 use Rattle.std.specs.Prelude.{if◌then◌else◌, map, slice_index, unwrap_or}
 use Rattle.std.specs.List.{flat_map}
 use Rattle.std.proofs.lemmas.List.Concat.{flat_map-append}
 use Rattle.graph_model.specs.declared.event.Event.{Event}
-use Rattle.graph_model.specs.declared.event.Event.TheVariants.{Begin, Root, New, Put, Clear, Link, Drop, Get, Same, Len, Seal, Abort, Force, Flip, Scan, Flush}
+use Rattle.graph_model.specs.declared.event.Event.TheVariants.{Begin, Put, Clear, Link, Get, Seal, Abort, Force, Flip, Scan, Flush}
 use Rattle.graph_model.specs.declared.id.Id.{Id}
 use Rattle.graph_model.specs.declared.val.Val.{Val}
 use Rattle.graph_model.specs.declared.val.Val.TheVariants.{Null, Int}
@@ -27,12 +27,11 @@ use Rattle.graph_words.specs.Places.{address_of, place_of}
 use Rattle.graph_words.specs.Promotion.{Field, Move, base_of, fix_meant, fix_of, moves_of, promotion_records, seal_records, written_fields}
 use Rattle.collection_words.proofs.Laid.Underway.{underway}
 use Rattle.page_scanner.specs.Bounds.{AreSmall}
-use Rattle.page_scanner.specs.Scan.{scan_records}
 use Rattle.page_scanner.proofs.Rising.{bounds}
 use Rattle.read_barrier.specs.Barrier.{barrier_page_of}
 use Rattle.scan_laws.proofs.Collected.{gray_apart}
 use Rattle.heap_model.specs.Collecting.{barrier_at, copied_by, copied_in, is_gray_in, next_page, page_records, page_records_of, scan_event_records, scan_records_in}
-use Rattle.heap_model.specs.Core.{Core, Ground, all_words, area_in, barrier_for, barrier_records, behind_barrier, call_barrier, call_records, event_records, ground, held_barrier, next_word, own_records, undo_with, update, write_records}
+use Rattle.heap_model.specs.Core.{Core, Ground, all_words, area_in, barrier_records, behind_barrier, call_barrier, call_records, event_records, ground, held_barrier, next_word, own_records, undo_with, update, write_records}
 use Rattle.core_laws.proofs.Step.Sound.{reached_agrees}
 use Rattle.core_laws.specs.Pause.{PauseTheorem}
 use Rattle.core_laws.specs.Valid.{Agrees}

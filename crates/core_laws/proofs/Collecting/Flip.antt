@@ -1,27 +1,22 @@
 -- A flip: the objects that active transactions name are copied, and the core agrees with its history.
-use Rattle.std.proofs.Common.{◌≡◌, ℕ, ◌+◌, ◌≤◌, true, Bool, List, [], ◌∷◌, ◌++◌, Option, Some, None, is_some, refl, sym, ap, ◌∙◌, subst, arith}
+use Rattle.std.proofs.Common.{◌≡◌, ℕ, ◌+◌, true, List, [], ◌∷◌, ◌++◌, Option, Some, None, is_some, refl, sym, ap, ◌∙◌, subst, arith}
 use Rattle.std.specs.Prelude.{Contains, MatchOption, unwrap_or, ◌<◌}
-use Rattle.std.specs.List.{AllByRecursion, list_any}
+use Rattle.std.specs.List.{list_any}
 use Rattle.std.specs.FinMap.{FinMap, entries, get, remove}
 use Rattle.std.specs.Ordering.{nat_cmp}
 use Rattle.std.proofs.lemmas.List.{append-nil}
 use Rattle.graph_model.specs.declared.id.Id.{Id}
-use Rattle.graph_model.specs.Graph.{Graph, fields}
-use Rattle.graph_model.specs.Transaction.{Transaction, View, serial}
+use Rattle.graph_model.specs.Graph.{fields}
+use Rattle.graph_model.specs.Transaction.{Transaction, serial}
 use Rattle.graph_model.specs.History.{Account}
 use Rattle.graph_model.specs.Locking.{locks_of}
 use Rattle.graph_model.specs.Plain.{view}
-use Rattle.heap_words.specs.declared.Word.TheVariants.{Stable}
-use Rattle.heap_words.specs.Word.{meaning}
-use Rattle.object_layout.specs.Layout.{object_at}
 use Rattle.log_records.specs.declared.Record.{Record}
 use Rattle.log_records.specs.Record.{IsRecord}
 use Rattle.log_machine.specs.declared.UndoEntry.{UndoEntry}
 use Rattle.log_machine.specs.Apart.{others_taken_back}
 use Rattle.log_machine.specs.Collecting.{collecting_after, pairs_of}
-use Rattle.log_machine.specs.Entries.{EachKeyed}
 use Rattle.log_machine.specs.Machine.{State, after_all, all_taken_back, losing, owed, spaces_of, taken_back, undo_of}
-use Rattle.log_machine.specs.Sound.{IsConsistent}
 use Rattle.log_machine.specs.Translation.{translated_list}
 use Rattle.log_machine.proofs.FlipLaws.{get_translated, some_mapped}
 use Rattle.log_machine.proofs.ListLaws.{AllByRecursion-map}
@@ -42,7 +37,7 @@ use Rattle.collection_words.proofs.Laid.Sources.{here_ends}
 use Rattle.collection_words.proofs.Laid.TakenBack.{each_taken_back-list}
 use Rattle.collection_words.proofs.Laid.Write.{as_field}
 use Rattle.flip_copy.specs.Copied.{flip_record, with_base}
-use Rattle.flip_copy.specs.Flipped.{AreRooted, IsRooted}
+use Rattle.flip_copy.specs.Flipped.{AreRooted}
 use Rattle.flip_copy.proofs.FlipLaws.{planned_collects}
 use Rattle.flip_copy.proofs.ObjectWordsLaws.{Contains-with_base}
 use Rattle.flip_laws.specs.Flip.{AreEntriesOf, CanFlip, copies_of, copy_places, entries_behind, left_places}
@@ -64,7 +59,7 @@ use Rattle.core_laws.proofs.Collecting.Roots.{any_in, entry_object, entry_was, h
 use Rattle.core_laws.proofs.Collecting.Told.{IsLeft, IsSeen, carried_agrees}
 use Rattle.core_laws.proofs.Step.Goes.{words_with}
 use Rattle.core_laws.proofs.Step.Granted.{HasRoom}
-use Rattle.core_laws.specs.Valid.{Agrees, IsActive, IsWriter, IsWriting}
+use Rattle.core_laws.specs.Valid.{Agrees, IsWriter, IsWriting}
 
 module _ (a : Account) (c : Core) (h : Agrees a c) (none : h.behind.collection ≡ None) where
   -- what the records say before it

@@ -1,16 +1,16 @@
 -- A scan does something, and transactions hold current objects.
-use Rattle.std.proofs.Common.{◌≡◌, ◌⊎◌, ℕ, ◌+◌, inl, inr, true, false, min, List, [], ◌∷◌, ◌++◌, Option, Some, None, refl, sym, ap, ◌∙◌, subst, arith}
+use Rattle.std.proofs.Common.{◌≡◌, ◌⊎◌, ℕ, inl, inr, true, min, List, [], ◌∷◌, Option, Some, None, refl, sym, ap, ◌∙◌, subst}
 use Rattle.std.specs.Prelude.{fold, unwrap_or}
-use Rattle.std.specs.List.{AllByRecursion, list_any}
+use Rattle.std.specs.List.{list_any}
 use Rattle.std.specs.Option.{option_map}
 use Rattle.std.specs.Ordering.{eq_by_cmp, nat_cmp}
 use Rattle.std.specs.FinSet.{contains, contains-items, items}
 use Rattle.std.proofs.lemmas.Option.{same_Some}
 use Rattle.graph_model.specs.declared.event.Event.TheVariants.{Scan}
-use Rattle.graph_model.specs.History.{Account, account}
+use Rattle.graph_model.specs.History.{account}
 use Rattle.heap_spaces.specs.Collection.{Collection, page_of}
 use Rattle.log_records.specs.declared.Record.{Record}
-use Rattle.log_machine.specs.Machine.{State, after_all, spaces_of}
+use Rattle.log_machine.specs.Machine.{State, spaces_of}
 use Rattle.log_machine.proofs.MachineLaws.{after_all-append2}
 use Rattle.collection_words.proofs.Laid.Underway.{underway}
 use Rattle.collection_words.proofs.Laid.Within.{start_within}
@@ -25,8 +25,7 @@ use Rattle.core_laws.proofs.Collecting.Least.{IsAmong, least_among, or_first, or
 use Rattle.core_laws.proofs.Collecting.Scan.{keep}
 use Rattle.core_laws.proofs.Step.Goes.{writing_of}
 use Rattle.core_laws.proofs.Step.Sound.{reached_agrees}
-use Rattle.core_laws.specs.Collects.{HoldsTheorem, CanBeScanned, ScanTheorem}
-use Rattle.core_laws.specs.Valid.{Agrees, IsValid}
+use Rattle.core_laws.specs.Collects.{HoldsTheorem, ScanTheorem}
 
 -- The next page.
 

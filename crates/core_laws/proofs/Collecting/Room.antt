@@ -1,10 +1,10 @@
 -- The log's room after the barrier's records.
-use Rattle.std.proofs.Common.{◌≡◌, ℕ, ◌+◌, ◌≤◌, List, ◌++◌, sym, ap, ◌∙◌, arith, append_assoc}
+use Rattle.std.proofs.Common.{◌≡◌, List, ◌++◌, sym, ap, ◌∙◌, arith, append_assoc}
 use Rattle.graph_model.specs.History.{Account}
 use Rattle.log_records.specs.declared.Record.{Record}
 use Rattle.gated_log.specs.Log.{records_of}
 use Rattle.graph_words.specs.Places.{Places}
-use Rattle.heap_model.specs.Core.{Core, all_records, need, reserved, undo_behind, used}
+use Rattle.heap_model.specs.Core.{Core, all_records, reserved, undo_behind}
 use Rattle.heap_model.proofs.Step.Goes.{used-append}
 use Rattle.heap_model.proofs.Step.Room.{need-parts}
 use Rattle.core_laws.proofs.Step.Granted.{HasRoom}

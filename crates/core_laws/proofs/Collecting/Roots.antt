@@ -1,5 +1,5 @@
 -- The roots of a flip: the current objects that active transactions name, in the order of their addresses.
-use Rattle.std.proofs.Common.{◌≡◌, ◌⊎◌, ℕ, zero, suc, ◌+◌, ◌<◌, ◌≤◌, inl, inr, true, false, Bool, List, [], ◌∷◌, length, Option, Some, None, is_some, refl, sym, ap, ◌∙◌, subst, arith}
+use Rattle.std.proofs.Common.{◌≡◌, ◌⊎◌, ℕ, zero, suc, ◌+◌, ◌<◌, ◌≤◌, inl, inr, true, false, Bool, List, [], ◌∷◌, Option, Some, None, is_some, refl, sym, ap, ◌∙◌, subst, arith}
 use Rattle.std.specs.Prelude.{Contains, filter, slice_index, ◌==◌, ◌||◌, if◌then◌else◌}
 use Rattle.std.specs.List.{AllByRecursion, list_any, range_with_len}
 use Rattle.std.specs.List.Sorted.{IsStrictlyIncreasing}
@@ -7,7 +7,7 @@ use Rattle.std.proofs.lemmas.Bool.{cases_order, eq-eqb}
 use Rattle.graph_model.specs.declared.id.Id.{Id}
 use Rattle.graph_model.specs.declared.val.Val.{Val}
 use Rattle.graph_model.specs.declared.val.Val.TheVariants.{Null, Int, Ref}
-use Rattle.graph_model.specs.Graph.{Graph, fields, is_same_id}
+use Rattle.graph_model.specs.Graph.{Graph, is_same_id}
 use Rattle.graph_model.specs.Transaction.{Transaction, Registers, View, serial}
 use Rattle.graph_model.specs.History.{Account, IsSession, sessions}
 use Rattle.graph_model.specs.Locking.{Lock, locks_of}
@@ -17,11 +17,11 @@ use Rattle.heap_words.specs.declared.Word.TheVariants.{Stable}
 use Rattle.heap_words.specs.Word.{meaning}
 use Rattle.object_layout.proofs.WalkLaws.{Contains-cases, Contains-head, Contains-none, Contains-rest}
 use Rattle.log_machine.specs.declared.UndoEntry.{UndoEntry}
-use Rattle.graph_words.specs.Places.{Places, address_of, addresses, made_by}
+use Rattle.graph_words.specs.Places.{Places, address_of, addresses}
 use Rattle.graph_words.proofs.Places.Addresses.{address_of-cases}
 use Rattle.collection_words.specs.Placed.{Ascend}
 use Rattle.collection_words.proofs.Copy.Ascending.{ascend_from}
-use Rattle.heap_model.specs.Collecting.{holds, is_entry_at, is_held, is_locked_by, is_named, is_reference_to, is_root, names_object, refers_at, refers_to, roots_of}
+use Rattle.heap_model.specs.Collecting.{holds, is_entry_at, is_held, is_locked_by, is_named, is_reference_to, is_root, names_object, refers_at, refers_to}
 use Rattle.core_laws.proofs.Collecting.Carried.{IsStillThere, StaysCurrent, StaysHeld}
 
 -- Tests.

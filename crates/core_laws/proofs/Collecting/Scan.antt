@@ -1,5 +1,5 @@
 -- A scan of a page: objects are copied and references updated to the copies, and the core agrees with its history.
-use Rattle.std.proofs.Common.{◌≡◌, ℕ, ◌+◌, ◌≤◌, true, false, Bool, cond, List, [], ◌∷◌, ◌++◌, Option, Some, None, is_some, refl, sym, ap, ◌∙◌, subst}
+use Rattle.std.proofs.Common.{◌≡◌, ℕ, ◌+◌, true, false, Bool, cond, List, [], ◌∷◌, ◌++◌, Option, Some, None, is_some, refl, sym, ap, ◌∙◌, subst}
 use Rattle.std.specs.List.{AllByRecursion}
 use Rattle.std.specs.FinMap.{FinMap, entries, find, get, get-entries, remove}
 use Rattle.std.specs.Ordering.{eq_by_cmp, nat_cmp}
@@ -14,16 +14,15 @@ use Rattle.heap_spaces.specs.Collection.{Collection}
 use Rattle.log_records.specs.declared.Record.{Record}
 use Rattle.log_records.specs.Record.{IsRecord}
 use Rattle.log_machine.specs.declared.UndoEntry.{UndoEntry}
-use Rattle.log_machine.specs.Apart.{others_taken_back}
-use Rattle.log_machine.specs.Machine.{Loser, State, after_all, all_taken_back, losing, owed, spaces_of, taken_back, undo_in, undo_of}
+use Rattle.log_machine.specs.Machine.{Loser, State, after_all, losing, owed, spaces_of, taken_back, undo_in, undo_of}
 use Rattle.log_machine.proofs.ListLaws.{AllByRecursion-behind, AllByRecursion-front}
 use Rattle.graph_words.specs.Places.{Places, address_of, made_by}
 use Rattle.graph_words.specs.Stands.{Stands, StandsCommitted}
 use Rattle.graph_words.proofs.Places.Addresses.{some_address}
 use Rattle.collection_words.specs.Completed.{StandsCompleted, completed, completed_places}
-use Rattle.collection_words.specs.LaidOut.{AreHeapWords, IsUnderway}
+use Rattle.collection_words.specs.LaidOut.{IsUnderway}
 use Rattle.collection_words.specs.Placing.{Placing, placing_of}
-use Rattle.collection_words.specs.Writes.{AreBacked, IsHereWrite}
+use Rattle.collection_words.specs.Writes.{IsHereWrite}
 use Rattle.collection_words.proofs.Laid.TakenBack.{each_taken_back-list}
 use Rattle.page_scanner.specs.Passing.{collecting_after_all}
 use Rattle.page_scanner.specs.Scan.{scan_records}

@@ -1,16 +1,13 @@
 -- The record of a flip has a spelling.
-use Rattle.std.proofs.Common.{◌≡◌, ℕ, ◌+◌, ◌*◌, ◌^◌, ◌<◌, ◌≤◌, List, Option, Some, None, refl, sym, ap, ◌∙◌, subst, arith}
+use Rattle.std.proofs.Common.{◌≡◌, None, refl, ap, arith}
 use Rattle.std.specs.Prelude.{slice_index}
 use Rattle.graph_model.specs.History.{Account}
-use Rattle.heap_words.specs.declared.Word.{Word}
-use Rattle.heap_words.specs.declared.Word.TheVariants as word
 use Rattle.heap_words.specs.Word.{IsFieldWord, meaning}
-use Rattle.heap_words.proofs.WordLaws.{bits-meaning}
 use Rattle.heap_spaces.specs.Spaces.{IsSpaces}
 use Rattle.log_records.specs.Record.{IsRecord}
 use Rattle.log_machine.specs.Machine.{field_at, spaces_of}
 use Rattle.graph_words.specs.Places.{addresses}
-use Rattle.collection_words.specs.LaidOut.{LeadsHere, is_gray_field}
+use Rattle.collection_words.specs.LaidOut.{is_gray_field}
 use Rattle.collection_words.proofs.Laid.Within.{start_within}
 use Rattle.flip_copy.proofs.FlipRecord.{planned_record}
 use Rattle.flip_laws.proofs.Roots.{flip_planned, root_start}

@@ -1,40 +1,36 @@
 -- Records encode after a step of a collection what they encoded before, and a core that agreed with its history still does.
-use Rattle.std.proofs.Common.{◌≡◌, ℕ, ◌+◌, ◌≤◌, true, false, Bool, List, [], ◌∷◌, ◌++◌, length, Option, None, Some, is_some, refl, sym, ap, ◌∙◌, subst, arith}
-use Rattle.std.specs.Prelude.{IsTrue, ◌*◌, if◌then◌else◌}
-use Rattle.std.specs.List.{AllByRecursion, flat_map}
-use Rattle.std.specs.FinMap.{get}
+use Rattle.std.proofs.Common.{◌≡◌, ℕ, ◌+◌, true, false, Bool, List, [], ◌∷◌, ◌++◌, Option, None, Some, is_some, refl, sym, ap, ◌∙◌, subst, arith}
+use Rattle.std.specs.Prelude.{IsTrue, if◌then◌else◌}
+use Rattle.std.specs.List.{AllByRecursion}
 use Rattle.std.proofs.lemmas.List.{append-nil}
 use Rattle.graph_model.specs.declared.id.Id.{Id}
 use Rattle.graph_model.specs.Graph.{Graph, is_same_id}
-use Rattle.graph_model.specs.Transaction.{Transaction, View, serial}
+use Rattle.graph_model.specs.Transaction.{Transaction, serial}
 use Rattle.graph_model.specs.History.{Account}
 use Rattle.graph_model.specs.Locking.{locks_of}
 use Rattle.graph_model.specs.Plain.{view}
 use Rattle.log_records.specs.declared.Record.{Record}
 use Rattle.log_records.specs.Record.{IsRecord}
-use Rattle.log_machine.specs.declared.UndoEntry.{UndoEntry}
 use Rattle.log_machine.specs.Apart.{others_taken_back}
-use Rattle.log_machine.specs.Machine.{State, after_all, all_taken_back, losing, owed, taken_back, undo_bytes, undo_of}
+use Rattle.log_machine.specs.Machine.{State, after_all, all_taken_back, owed}
 use Rattle.log_machine.proofs.ListLaws.{AllByRecursion-append}
 use Rattle.log_machine.proofs.MachineLaws.{after_all-append2}
 use Rattle.graph_words.specs.Places.{AreOld, IsOld, Places, address_of}
-use Rattle.graph_words.specs.Stands.{AreNamedByBirth, Stands, StandsCommitted}
+use Rattle.graph_words.specs.Stands.{Stands, StandsCommitted}
 use Rattle.graph_words.proofs.Places.Addresses.{address_of-head, placed_as, some_address}
-use Rattle.collection_words.specs.Completed.{completed, completed_places, future}
+use Rattle.collection_words.specs.Completed.{completed, completed_places}
 use Rattle.collection_words.specs.LaidOut.{AreHeapWords}
-use Rattle.collection_words.proofs.Laid.TakenBack.{each_taken_back-list}
 use Rattle.seen_laws.specs.Heap.{AreAllBacked}
 use Rattle.walk_laws.specs.Heap.{TellsBirths}
-use Rattle.seen_laws.proofs.Births.{back_births, completed_old}
-use Rattle.seen_laws.proofs.States.{backed_all, writes_of_all}
-use Rattle.heap_model.specs.Core.{Core, all_records, all_words, log_start}
+use Rattle.seen_laws.proofs.Births.{completed_old}
+use Rattle.heap_model.specs.Core.{Core, all_words}
 use Rattle.heap_model.specs.Bits.{AreOf64Bits}
 use Rattle.heap_model.specs.CoreTold.{IsTold}
 use Rattle.heap_model.proofs.Step.Bits.{fit_behind}
 use Rattle.core_laws.proofs.Collecting.Carried.{HasFewer, IsCarried, KeepsCurrent, carried_writing, was_there}
-use Rattle.core_laws.proofs.Step.Goes.{Goes, goes_on, words_with}
+use Rattle.core_laws.proofs.Step.Goes.{goes_on, words_with}
 use Rattle.core_laws.proofs.Step.Granted.{HasRoom, reserved_told}
-use Rattle.core_laws.specs.Valid.{Agrees, IsWriter, IsWriting}
+use Rattle.core_laws.specs.Valid.{Agrees, IsWriter}
 
 -- Names.
 

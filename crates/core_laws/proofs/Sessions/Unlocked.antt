@@ -1,12 +1,11 @@
 -- What a transaction has locked is current: it had the object at hand, and none at hand remains in the from-space.
-use Rattle.std.proofs.Common.{◌≡◌, ℕ, ◌+◌, inl, inr, List, [], ◌∷◌, ◌++◌, Option, None, Some, refl, sym, ap, ◌∙◌, subst}
-use Rattle.std.specs.List.{AllByRecursion}
+use Rattle.std.proofs.Common.{◌≡◌, ℕ, ◌+◌, inl, inr, List, Option, None, Some, refl, sym, ap, ◌∙◌, subst}
 use Rattle.std.specs.Option.{option_map, option_to_list}
 use Rattle.graph_model.specs.declared.event.Event.{Event}
 use Rattle.graph_model.specs.declared.event.Event.TheVariants.{Put, Clear, Link, Get}
 use Rattle.graph_model.specs.declared.id.Id.{Id}
 use Rattle.graph_model.specs.Graph.{Graph}
-use Rattle.graph_model.specs.Locking.{Exclusive, Lock, Mode, Shared, in_mode, lock_of, lock_on, locks_of}
+use Rattle.graph_model.specs.Locking.{Exclusive, Lock, Mode, Shared, in_mode, lock_of, locks_of}
 use Rattle.graph_model.specs.Transaction.{Transaction, View, fresh_view, held, run}
 use Rattle.commit_order.proofs.LockingLaws.{locks_of_calls-append}
 use Rattle.log_machine.specs.Machine.{State, owed}

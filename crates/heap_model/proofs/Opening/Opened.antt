@@ -1,5 +1,5 @@
 -- A core that was opened on a shaped log is reached, whatever graph stands in its words, under whatever names.
-use Rattle.std.proofs.Common.{◌≡◌, ◌⊎◌, ℕ, ◌+◌, true, false, List, [], ◌∷◌, ◌++◌, Some, unwrap_or, refl, sym, ap, ◌∙◌, arith}
+use Rattle.std.proofs.Common.{◌≡◌, ℕ, ◌+◌, true, false, List, [], ◌∷◌, ◌++◌, Some, unwrap_or, refl, sym, ap, ◌∙◌, arith}
 use Rattle.std.proofs.lemmas.Option.{option_and_then_some}
 use Rattle.graph_model.specs.Graph.{Graph}
 use Rattle.log_records.specs.declared.Record.{Record}
@@ -15,7 +15,7 @@ use Rattle.walk_laws.proofs.Graph.Held.{walked_held}
 use Rattle.heap_model.proofs.Opening.Found.{born_seen, found_of, found_seen}
 use Rattle.heap_model.proofs.Opening.Held.{later_has, later_next, later_of}
 use Rattle.heap_model.specs.CoreCrash.{IsCommitPrefix}
-use Rattle.heap_model.proofs.Opening.Rolled.{next_is, commits_are, rolled_commits, rolled_shaped, rolled_says, shaped_spaces}
+use Rattle.heap_model.proofs.Opening.Rolled.{next_is, commits_are, rolled_commits, rolled_says, shaped_spaces}
 use Rattle.heap_model.specs.Theorems.{SayingTheorem, SaysOn}
 use Rattle.heap_model.specs.Image.{StoredHeap, words_of, IsShapedLog, IsLegalLog, Shows, Says, records_in}
 use Rattle.heap_model.specs.Opening.{rolled_back, next_of, commits_of, next_behind, opened, IsFound, IsLeftByOpening}

@@ -11,7 +11,7 @@ use Rattle.graph_model.specs.declared.reply.Reply.TheVariants.{Refused}
 use Rattle.graph_model.specs.History.{account}
 use Rattle.graph_model.specs.Plain.{model_refusal, first_of_two, refusal_of, reply_of}
 use Rattle.log_records.specs.declared.Record.{Record}
-use Rattle.heap_model.specs.Core.{Core, next_number, words_refusal, log_refusal, core_refusal, granted_by, answer, with_entry, is_dirty, is_ahead, forced, forced_if, page_stored, moved, own_records, barrier_records, done, after_refusal, after, force_calls, AsksDisk, calls_if, calls, IsStep, IsRun}
+use Rattle.heap_model.specs.Core.{Core, next_number, words_refusal, log_refusal, core_refusal, granted_by, answer, with_entry, is_dirty, is_ahead, forced, forced_if, page_stored, moved, own_records, barrier_records, done, after_refusal, after, AsksDisk, calls_if, calls, IsStep, IsRun}
 use Rattle.heap_model.proofs.Run.Opening.{SameOpening}
 use Rattle.heap_model.proofs.Step.Moved.{moved_keeps}
 use Rattle.heap_model.proofs.Step.Step.{done_history}

@@ -1,5 +1,5 @@
 -- Words of 64 bits stay so after records that have spellings.
-use Rattle.std.proofs.Common.{◌≡◌, ℕ, zero, suc, ◌+◌, ◌*◌, ◌^◌, ◌<◌, List, [], ◌∷◌, ◌++◌, Option, None, Some, refl, replicate, arith}
+use Rattle.std.proofs.Common.{◌≡◌, ℕ, zero, suc, ◌+◌, ◌^◌, ◌<◌, List, [], ◌∷◌, Option, None, Some, refl, replicate, arith}
 use Rattle.std.specs.Prelude.{fold, slice_set}
 use Rattle.std.specs.List.{AllByRecursion, flat_map, enumerate_from}
 use Rattle.heap_words.specs.declared.Header.TheVariants.{Forward}

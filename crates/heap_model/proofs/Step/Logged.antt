@@ -14,7 +14,7 @@ use Rattle.gated_log.specs.Log.{records_of}
 use Rattle.page_redo.specs.Pages.{Pages}
 use Rattle.page_redo.specs.Prefix.{EachHoldsPrefix}
 use Rattle.page_redo.proofs.PrefixLaws.{EachHoldsPrefix-append}
-use Rattle.heap_model.specs.Core.{Core, log_origin, all_words, all_records, answer, core_refusal, with_entry, is_dirty, is_ahead, forced, forced_if, page_stored, moved, own_records, barrier_records, done, after_refusal, after, IsStep, IsRun}
+use Rattle.heap_model.specs.Core.{Core, log_origin, all_words, all_records, answer, core_refusal, with_entry, is_dirty, is_ahead, forced, forced_if, page_stored, moved, own_records, barrier_records, done, after_refusal, IsStep}
 use Rattle.heap_model.specs.CoreCrash.{HasLogWords, IsLogged, IsSuperOf}
 use Rattle.heap_model.specs.Image.{StoredHeap, origin_of}
 use Rattle.heap_model.proofs.Step.Moved.{moved_keeps}

@@ -1,14 +1,11 @@
 -- What records encode where no collection is under way: the completed words are the words, and objects stand there where they do.
-use Rattle.std.proofs.Common.{◌≡◌, ℕ, ◌+◌, inl, inr, Bool, List, ◌++◌, None, Some, refl, sym, ap, ◌∙◌, subst, arith}
-use Rattle.std.specs.Prelude.{IsTrue}
+use Rattle.std.proofs.Common.{◌≡◌, ℕ, ◌+◌, List, ◌++◌, sym, ap, ◌∙◌, subst, arith}
 use Rattle.std.proofs.lemmas.List.{append-nil}
-use Rattle.graph_model.specs.Graph.{Graph}
-use Rattle.log_records.specs.declared.Record.{Record}
-use Rattle.log_machine.specs.Machine.{State, all_taken_back, losing, owed, start, taken_back}
-use Rattle.graph_words.specs.Places.{AreOld, Places}
-use Rattle.graph_words.specs.Stands.{AreNamedByBirth, StandsCommitted}
+use Rattle.log_machine.specs.Machine.{State, all_taken_back, losing, owed, taken_back}
+use Rattle.graph_words.specs.Places.{Places}
+use Rattle.graph_words.specs.Stands.{AreNamedByBirth}
 use Rattle.collection_words.specs.Completed.{completed, completed_places}
-use Rattle.collection_words.proofs.Heap.Cases.{HasNone, IsPlain, heap_cases, plain}
+use Rattle.collection_words.proofs.Heap.Cases.{HasNone, IsPlain}
 use Rattle.collection_words.proofs.Laid.TakenBack.{each_taken_back-list}
 use Rattle.collection_words.specs.LaidOut.{AreHeapWords}
 use Rattle.walk_laws.specs.Births.{HasOriginals}
@@ -16,7 +13,6 @@ use Rattle.walk_laws.specs.Heap.{TellsBirths}
 use Rattle.seen_laws.specs.Heap.{AreAllBacked}
 use Rattle.seen_laws.proofs.Births.{births_kept}
 use Rattle.seen_laws.proofs.States.{backed_all, writes_of_all}
-use Rattle.heap_model.specs.CoreTold.{IsTold}
 
 -- what holds of the completed words holds of the words
 pub as_plain : {s : State} {places remaining : Places} {words : List ℕ} (P : Places → List ℕ → ℕ → Type 0) → IsPlain s places remaining words

@@ -1,4 +1,4 @@
-use Rattle.std.proofs.Common.{◌≡◌, ℕ, ◌-◌, ◌≤◌, List, [], take, drop, length, get_or, refl, ap, sym, ◌∙◌, arith, subst, Err, rules}
+use Rattle.std.proofs.Common.{◌≡◌, ℕ, ◌-◌, ◌≤◌, List, take, drop, length, get_or, refl, ap, sym, ◌∙◌, arith, subst, Err, rules}
 use Rattle.std.proofs.lemmas.Result.{on_ok_weaker}
 use Rattle.counts.specs.Count.{counted}
 use Rattle.disk_model.specs.Disk.{SameOutside}

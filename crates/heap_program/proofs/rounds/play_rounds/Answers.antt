@@ -1,12 +1,9 @@
 use Rattle.std.proofs.Common.{◌≡◌, List, [], ◌++◌, Ok, Err, rules, refl, sym, ap, ◌∙◌, subst, arith}
 use Rattle.std.specs.List.{AllByRecursion}
 use Rattle.std.proofs.lemmas.List.{append-nil}
-use Rattle.std.proofs.lemmas.Grind.{flat_map-append}
 use Rattle.heap_program.proofs.PlaysLaws.{played_none, played_on}
 use Rattle.graph_model.specs.History.{IsOfSession}
 use Rattle.heap_core.specs.HeapState.{heap_disk}
-use Rattle.heap_model.proofs.ListLaws.{AllByRecursion-behind}
-use Rattle.core_laws.proofs.Run.Calls.{of_session_front}
 use Rattle.heap_program.specs.declared.play.Halt.TheVariants as halt
 use Rattle.heap_program.specs.Play.{Plays, PlaysCore}
 use Rattle.script_text.specs.declared.line.Line.{Line}

@@ -1,6 +1,6 @@
-use Rattle.std.proofs.Common.{◌≡◌, ℕ, List, ◌++◌, ◌∙◌, ap, rules, Some}
+use Rattle.std.proofs.Common.{ℕ, List, ◌∙◌, ap}
 use Rattle.graph_model.specs.declared.reply.Entry.{Entry}
-use Rattle.heap_program.specs.Load.{summary_of, summary_text, core_summary}
+use Rattle.heap_program.specs.Load.{summary_of, summary_text}
 use Rattle.heap_program.proofs.Written.{wrote_nothing, wrote_front}
 use Rattle.heap_program.proofs.summary.write_summary.Goals as goal
 

@@ -4,7 +4,7 @@ use Rattle.image_plan.specs.Plan.{image_size}
 use Rattle.page_store.specs.StoreState.{Knows}
 use Rattle.page_cache.specs.CacheState.{cache_store}
 use Rattle.heap_recovery.specs.declared.error.RecoverError.{RecoverError}
-use Rattle.heap_recovery.specs.Faults.{stored_in, HasSuper, IsReadable, IsToldOf}
+use Rattle.heap_recovery.specs.Faults.{HasSuper, IsReadable, IsToldOf}
 use Rattle.heap_recovery.specs.Recovered.{IsRead}
 use Rattle.heap_recovery.proofs.Refusals.{numbers_told, err_outside, read_own}
 use Rattle.heap_recovery.proofs.read_image.read_image.Goals as goal

@@ -1,4 +1,4 @@
-use Rattle.std.proofs.Common.{◌≡◌, List, refl, ap, ◌∙◌}
+use Rattle.std.proofs.Common.{refl, ap, ◌∙◌}
 use Rattle.image_plan.specs.declared.plan.Plan.{Plan}
 use Rattle.page_cache.specs.CacheState.{cached}
 use Rattle.page_cache.specs.Stored.{stored_pages}

@@ -11,7 +11,6 @@ use Rattle.heap_model.specs.Opening.{rolled_back}
 use Rattle.heap_recovery.proofs.Opening.{only_still, held, outside_log, rolled_held, recovered, opened_shaped, forced_passes, nothing_waits, known_still, known_found, placed_there}
 use Rattle.page_cache.specs.CacheState.{cached}
 use Rattle.heap_recovery.specs.declared.error.RecoverError.TheVariants.{NoMemory, Disk}
-use Rattle.heap_recovery.specs.Faults.{stored_in}
 use Rattle.heap_recovery.specs.Opens.{outcome}
 use Rattle.heap_recovery.proofs.OpensLaws.{only_read, opens_forced}
 use Rattle.heap_recovery.proofs.Refusals.{finish_passes, finish_told, finish_late, found_whole, on_ok, on_damaged, device_of, walk_told, found_on, forced_run}
