@@ -9,10 +9,11 @@ use Rattle.graph_model.specs.declared.reply.Refusal.TheVariants.{DiskFault, Stop
 use Rattle.graph_model.specs.declared.reply.Reply.{Reply}
 use Rattle.graph_model.specs.declared.reply.Reply.TheVariants.{Refused}
 use Rattle.graph_model.specs.Transaction.{Transaction, serial}
+use Rattle.graph_model.specs.Kinds.{Saves, kind_of}
 use Rattle.graph_model.specs.History.{Account, account, account_after, first_failure, sealed, commits, acknowledged}
 use Rattle.graph_model.proofs.Runs.History.{account-append}
 use Rattle.graph_model.proofs.Refusals.Plain.{IsNoFault, account_after-refused}
-use Rattle.heap_model.specs.Core.{Core, with_entry, AsksDisk}
+use Rattle.heap_model.specs.Core.{Core, with_entry}
 use Rattle.heap_model.specs.CoreCrash.{IsCommitPrefix}
 use Rattle.heap_model.specs.Image.{Says}
 
@@ -53,15 +54,15 @@ pub keeps_refused : (c : Core) (event : Event) (why : Refusal) (image : List ℕ
 keeps_refused c event why image sound kept = keeps_entry c event (Refused why) (record (account c.history) { entries = (account c.history).entries + 1 }) image (account_after-refused (account c.history) event why sound) refl refl refl kept
 
 -- the reply to an event that the disk cut short is only the failure
-pub cut_account : (a : Account) (event : Event) (reply : Reply) → AsksDisk event → (reply ≡ Refused DiskFault) ⊎ (reply ≡ Refused Stopped)
+pub cut_account : (a : Account) (event : Event) (reply : Reply) → kind_of event ≡ Saves → (reply ≡ Refused DiskFault) ⊎ (reply ≡ Refused Stopped)
     → account_after a (record { event = event; reply = reply }) ≡ record a { failed = first_failure a.failed (a.entries + 1); entries = a.entries + 1 }
-cut_account a Force reply asks (inl told) = ap (λ (r : Reply). account_after a (record { event = Force; reply = r })) told
-cut_account a Force reply asks (inr told) = ap (λ (r : Reply). account_after a (record { event = Force; reply = r })) told
-cut_account a (Flush p) reply asks (inl told) = ap (λ (r : Reply). account_after a (record { event = Flush p; reply = r })) told
-cut_account a (Flush p) reply asks (inr told) = ap (λ (r : Reply). account_after a (record { event = Flush p; reply = r })) told
-cut_account a event reply asks told = absurd asks
+cut_account a Force reply saves (inl told) = ap (λ (r : Reply). account_after a (record { event = Force; reply = r })) told
+cut_account a Force reply saves (inr told) = ap (λ (r : Reply). account_after a (record { event = Force; reply = r })) told
+cut_account a (Flush p) reply saves (inl told) = ap (λ (r : Reply). account_after a (record { event = Flush p; reply = r })) told
+cut_account a (Flush p) reply saves (inr told) = ap (λ (r : Reply). account_after a (record { event = Flush p; reply = r })) told
+cut_account a event reply saves told = absurd (cc saves)
 
 -- such an event leaves a commit prefix
-pub keeps_cut : (c : Core) (event : Event) (reply : Reply) (image : List ℕ) → AsksDisk event → (reply ≡ Refused DiskFault) ⊎ (reply ≡ Refused Stopped) → IsCommitPrefix c image
+pub keeps_cut : (c : Core) (event : Event) (reply : Reply) (image : List ℕ) → kind_of event ≡ Saves → (reply ≡ Refused DiskFault) ⊎ (reply ≡ Refused Stopped) → IsCommitPrefix c image
     → IsCommitPrefix (with_entry c event reply) image
-keeps_cut c event reply image asks told kept = keeps_entry c event reply _ image (cut_account (account c.history) event reply asks told) refl refl refl kept
+keeps_cut c event reply image saves told kept = keeps_entry c event reply _ image (cut_account (account c.history) event reply saves told) refl refl refl kept

@@ -1,6 +1,5 @@
 -- Laws of steps on a disk: they are a run of the core, and no moment of them loses what had been acknowledged or forced.
-use Rattle.std.specs.Prelude.{if◌then◌else◌}
-use Rattle.std.proofs.Common.{◌≡◌, inl, inr, ℕ, ◌+◌, ◌≤◌, ⊎_elim, Bool, true, false, List, [], ◌∷◌, Option, Some, None, refl, sym, ap, ◌∙◌, subst, arith}
+use Rattle.std.proofs.Common.{◌≡◌, inl, inr, ℕ, ◌+◌, ◌≤◌, ⊎_elim, List, [], ◌∷◌, Option, Some, None, refl, sym, ap, ◌∙◌, subst, arith}
 use Rattle.std.specs.List.{AllByRecursion}
 use Rattle.disk_model.specs.declared.disk.Disk.{Ghosts}
 use Rattle.disk_model.specs.Moments.{LeavesOnly}
@@ -19,10 +18,11 @@ use Rattle.log_machine.specs.Machine as machine
 use Rattle.log_machine.specs.Origin.{commits_in}
 use Rattle.log_machine.proofs.MachineLaws.{commits-append}
 use Rattle.log_machine.proofs.StateLaws.{commits-start}
-use Rattle.heap_model.specs.Core.{Core, barrier_records, moved, own_records, commits_on_disk, core_refusal, is_dirty, is_ahead, forced, forced_if, page_stored, after_refusal, IsStep, IsRun}
+use Rattle.heap_model.specs.Core.{Core, barrier_records, moved, own_records, commits_on_disk, core_refusal, Transfer, Lands, Stores, made, noted, transfers, after_refusal, IsStep, IsRun}
 use Rattle.heap_model.specs.Core as model
 use Rattle.log_records.specs.declared.Record.{Record}
 use Rattle.heap_model.proofs.Step.Room.{forced-with_batch, records_of-with_batch}
+use Rattle.heap_model.proofs.Step.Transfers.{all_made}
 use Rattle.heap_model.specs.CoreCrash.{IsCommitPrefix, HasAtLeast}
 use Rattle.core_laws.proofs.Crash.Grow.{has_at_least_on}
 use Rattle.heap_model.proofs.Step.Grow.{has_fewer}
@@ -79,27 +79,30 @@ disk_commits c h =
     let b = sound_agrees c h in
     ap commits_in b.disk.told.reached ∙ commits-start c.pages c.first_number b.disk.state (records_of c.batches) b.disk.told.reached
 
-forced_commits : (c : Core) → on_disk c ≤ on_disk (forced c c.pending)
-forced_commits c =
-    let all : on_disk (forced c c.pending) ≡ on_disk c + machine.commits c.pending =
+landed_commits : (c : Core) → on_disk c ≤ on_disk (made c Lands)
+landed_commits c =
+    let all : on_disk (made c Lands) ≡ on_disk c + machine.commits c.pending =
     ap on_disk (forced-with_batch c) ∙ ap machine.commits (records_of-with_batch c.batches c.pending) ∙ commits-append (records_of c.batches) c.pending in
     omega (arith, all)
+
+made_commits : (c : Core) (t : Transfer) → on_disk c ≤ on_disk (made c t)
+made_commits c Lands = landed_commits c
+made_commits c (Stores p lsn) = omega arith
 
 moved_commits : (c : Core) (records : List Record) → on_disk c ≤ on_disk (moved c records)
 moved_commits c [] = omega arith
 moved_commits c (rec ∷ more) = omega arith
 
+noted_commits : (c : Core) (event : Event) → on_disk c ≤ on_disk (noted c event)
+noted_commits c Force = omega arith
+noted_commits c (Flush p) = omega arith
+noted_commits c Flip = moved_commits c (own_records c Flip)
+noted_commits c Scan = moved_commits c (own_records c Scan)
+noted_commits c event = moved_commits c (barrier_records c event)
+
 done_commits : (c : Core) (event : Event) → on_disk c ≤ on_disk (model.done c event)
-done_commits c Force = forced_commits c
-done_commits c Flip = moved_commits c (own_records c Flip)
-done_commits c Scan = moved_commits c (own_records c Scan)
-done_commits c (Flush p) = flushed_commits (is_dirty c p) (is_ahead c p)
-  where
-    flushed_commits : (dirty ahead : Bool) → on_disk c ≤ on_disk (if dirty then page_stored (forced_if ahead c) p else c)
-    flushed_commits true true = forced_commits c
-    flushed_commits true false = omega arith
-    flushed_commits false ahead = omega arith
-done_commits c event = moved_commits c (barrier_records c event)
+done_commits c event =
+    all_made (λ d. on_disk c ≤ on_disk d) (λ d t few. omega (arith, few, made_commits d t)) (noted c event) (transfers c event) (noted_commits c event)
 
 refusal_commits : (o : Option Refusal) (c : Core) (event : Event) → on_disk c ≤ on_disk (after_refusal o c event)
 refusal_commits None c event = done_commits c event

@@ -1,5 +1,5 @@
 -- What a crash leaves of a reached core: the graph of the first k commits since its opening, with all that were acknowledged among them.
-use Rattle.std.proofs.Common.{◌≡◌, inl, inr, ℕ, ◌+◌, ◌≤◌, List, ◌++◌, length, take, Option, None, sym, ap, ◌∙◌, subst, arith}
+use Rattle.std.proofs.Common.{◌≡◌, ◌⊎◌, inl, inr, ℕ, ◌+◌, ◌≤◌, List, ◌++◌, length, take, Option, None, sym, ap, ◌∙◌, subst, arith}
 use Rattle.std.specs.Prelude.{IsTrue}
 use Rattle.std.specs.Option.{option_to_list}
 use Rattle.std.proofs.lemmas.List.{append-nil}
@@ -7,7 +7,7 @@ use Rattle.graph_model.specs.Transaction.{Transaction, serial}
 use Rattle.graph_model.specs.History.{Account, account, sealed, commits, acknowledged}
 use Rattle.image_plan.specs.declared.superblock.Super.{Super}
 use Rattle.log_records.specs.declared.Record.{Record}
-use Rattle.gated_log.specs.Log.{batches_bytes, records_of}
+use Rattle.gated_log.specs.Log.{batches_bytes, records_of, with_batch}
 use Rattle.log_machine.specs.Machine.{State, start, reserve}
 use Rattle.log_machine.specs.Origin.{Origin, words_from, commits_in}
 use Rattle.page_redo.specs.Pages.{Pages}
@@ -20,6 +20,7 @@ use Rattle.heap_model.specs.CoreTold.{IsTold}
 use Rattle.heap_model.proofs.Step.Goes.{told_sound}
 use Rattle.heap_model.proofs.Opening.Legal.{told_says}
 use Rattle.heap_model.proofs.Step.Logged.{super_origin, all_logged}
+use Rattle.heap_model.proofs.Step.Transfers.{stage_is}
 use Rattle.heap_model.proofs.Step.Room.{records_of-with_batch, length-with_batch}
 use Rattle.heap_model.specs.Image.{origin_of, Says}
 use Rattle.heap_model.specs.Opening.{next_of, next_in}
@@ -77,19 +78,22 @@ forced_commits a c b = ap commits_in b.disk.told.reached ∙ b.disk.told.count
 
 -- pages that may stand beside the forced records may stand beside these batches
 pub prefixes_on : (c : Core) (batches : List (List Record)) (stored : Pages) → IsLogged c stored → IsOnDisk c batches → EachHoldsPrefix (log_origin c) (records_of batches) stored
-prefixes_on c batches stored logged (inl is) = subst (λ (bs : List (List Record)). EachHoldsPrefix (log_origin c) (records_of bs) stored) (sym is) logged.prefixes
-prefixes_on c batches stored logged (inr is) =
-    subst (λ (rs : List Record). EachHoldsPrefix (log_origin c) rs stored) (sym (ap records_of is ∙ records_of-with_batch c.batches c.pending))
-    (EachHoldsPrefix-append (log_origin c) (records_of c.batches) c.pending stored logged.prefixes)
+prefixes_on c batches stored logged on = prefixes_at (stage_is c batches on)
+  where
+    prefixes_at : (batches ≡ c.batches) ⊎ (batches ≡ with_batch c.batches c.pending) → EachHoldsPrefix (log_origin c) (records_of batches) stored
+    prefixes_at (inl is) = subst (λ (bs : List (List Record)). EachHoldsPrefix (log_origin c) (records_of bs) stored) (sym is) logged.prefixes
+    prefixes_at (inr is) =
+        subst (λ (rs : List Record). EachHoldsPrefix (log_origin c) rs stored) (sym (ap records_of is ∙ records_of-with_batch c.batches c.pending))
+        (EachHoldsPrefix-append (log_origin c) (records_of c.batches) c.pending stored logged.prefixes)
 
 -- the batches on the disk encode a commit prefix
-pub tell_first : (c : Core) (batches : List (List Record)) → IsSound c → HasLogWords c → IsOnDisk c batches → (k : ℕ) × TellFirst c k batches
-tell_first c batches h logged (inl is) =
+tell_at : (c : Core) (batches : List (List Record)) → IsSound c → HasLogWords c → (batches ≡ c.batches) ⊎ (batches ≡ with_batch c.batches c.pending) → (k : ℕ) × TellFirst c k batches
+tell_at c batches h logged (inl is) =
     let b = sound_agrees c h in
     let forced = forced_commits (record (account c.history) { failed = None }) c b in
     let P : List (List Record) → Type 0 = λ bs. TellFirst c b.disk.commits bs in
     (b.disk.commits, subst P (sym is) (tell_sealed c b.disk.commits c.batches b.disk.places b.disk.remaining c.words b.disk.state h b.disk.told logged b.disk.has_room b.disk.first_known b.disk.acknowledged_last (omega arith) b.disk.sealed_first))
-tell_first c batches h logged (inr is) =
+tell_at c batches h logged (inr is) =
     let b = sound_agrees c h in
     let a = record (account c.history) { failed = None } in
     let all = length (sealed c.history) in
@@ -105,6 +109,9 @@ tell_first c batches h logged (inr is) =
     let known = known_on a c b in
     let forced = forced_commits a c b in
     (all, tell_sealed c all batches c.places c.remaining (all_words c) b.behind h told words (omega arith) known (omega arith) (omega arith) (omega arith))
+
+pub tell_first : (c : Core) (batches : List (List Record)) → IsSound c → HasLogWords c → IsOnDisk c batches → (k : ℕ) × TellFirst c k batches
+tell_first c batches h logged on = tell_at c batches h logged (stage_is c batches on)
 
 module _ (c : Core) (s : Super) (batches : List (List Record)) (stored : Pages) (h : IsSound c) (logged : HasLogWords c) (beside : EachHoldsPrefix (log_origin c) (records_of batches) stored) (on : IsOnDisk c batches) (of : IsSuperOf s c) where
   first : (k : ℕ) × TellFirst c k batches

@@ -36,8 +36,9 @@ use Rattle.heap_model.proofs.Step.Goes.{need_nothing}
 use Rattle.heap_model.proofs.Step.Handles.{ReadsVisible, held_at_hand}
 use Rattle.heap_model.proofs.Step.Moved.{behind_none, moved_is}
 use Rattle.heap_model.proofs.Step.Room.{full_log-none, full_log-room}
-use Rattle.heap_model.proofs.Step.Step.{core_refusal-HasNoFault, done_history}
-use Rattle.core_laws.proofs.Step.Forms.{is_write, has_barrier, no_barrier, quiet_records, call_places, is_new, quiet_call, done_records, no_call, two_tests, not_active, has_transaction, area_fits, put_bounds, reference_visible, link_field}
+use Rattle.heap_model.proofs.Step.Step.{core_refusal-HasNoFault}
+use Rattle.heap_model.proofs.Step.Transfers.{done_history}
+use Rattle.core_laws.proofs.Step.Forms.{is_write, has_barrier, no_barrier, quiet_records, call_places, is_new, quiet_call, done_records, two_tests, not_active, has_transaction, area_fits, put_bounds, reference_visible, link_field}
 use Rattle.core_laws.proofs.Collecting.Behind.{behind, behind_both, black_call, call_behind, roomy}
 use Rattle.core_laws.proofs.Collecting.Events.{barrier_kept, done_flip, done_scan}
 use Rattle.core_laws.proofs.Step.Goes.{writing_of, agrees_history, places_still}
@@ -46,7 +47,7 @@ use Rattle.core_laws.proofs.Step.GrantedWrites.{write_agrees}
 use Rattle.core_laws.proofs.Step.GrantedEnds.{abort_room, abort_agrees, force_agrees, flush_agrees}
 use Rattle.core_laws.proofs.Step.Reserved.{reserved_same}
 use Rattle.core_laws.proofs.Seal.Agrees.{seal_agrees}
-use Rattle.core_laws.proofs.Sessions.Actives.{called, called_reserved}
+use Rattle.core_laws.proofs.Sessions.Actives.{called}
 use Rattle.core_laws.proofs.Sessions.Apart.{value_at_hand}
 use Rattle.core_laws.proofs.Step.Sound.{agrees_entry}
 use Rattle.core_laws.proofs.Step.TwoPhase.{model_granted, free_call}

@@ -6,7 +6,8 @@ use Rattle.graph_model.specs.declared.reply.Reply.TheVariants.{Flushed}
 use Rattle.core_laws.specs.Valid.{IsReached}
 use Rattle.heap_model.specs.Core.{Core}
 use Rattle.memory_laws.specs.CoreMemory.{IsMemory}
-use Rattle.core_laws.proofs.Step.Flush.{calls-flushed}
+use Rattle.core_laws.proofs.Step.Flush.{flush_granted}
+use Rattle.heap_model.proofs.Run.Calls.{calls-granted}
 use Rattle.core_laws.proofs.Step.Events.{valid_after}
 use Rattle.memory_laws.proofs.Step.Flush.{flush_no_page, flush_clean, flush_done}
 use Rattle.heap_engine.specs.declared.step_error.StepError.TheVariants.{Disk}
@@ -90,7 +91,7 @@ returns-clause-holds g c tells =
           c.store.ensures.moments tells s core is.memory (knows_as core (memory e) _ _ refl (is.pages tells)) disk reached.sound;
       passes = λ core is reached.
           let valid = engine_valid d core e c.args.disk.now is reached in
-          subst (λ (n : ℕ). Passes n (d.passed c.args.disk.now) (d.passed c.store.new.disk) (Ok tt)) (sym (calls-flushed core p valid (within core e p is.memory page)))
+          subst (λ (n : ℕ). Passes n (d.passed c.args.disk.now) (d.passed c.store.new.disk) (Ok tt)) (sym (calls-granted core (Flush p) (flush_granted core p valid (within core e p is.memory page))))
           (c.in_ok-store.ensures.passes tells core is.memory (knows_as core (memory e) _ _ refl (is.pages tells)));
     }
 
@@ -127,6 +128,6 @@ returns-in_err-store-clause-holds g c tells =
           c.store.ensures.moments tells s core is.memory (knows_as core (memory old) _ _ refl (is.pages tells)) disk reached.sound;
       passes = λ core is reached.
           let valid = engine_valid d core old c.args.disk.now is reached in
-          subst (λ (n : ℕ). Passes n (d.passed c.args.disk.now) (d.passed c.store.new.disk) (Err e)) (sym (calls-flushed core p valid (within core old p is.memory page)))
+          subst (λ (n : ℕ). Passes n (d.passed c.args.disk.now) (d.passed c.store.new.disk) (Err e)) (sym (calls-granted core (Flush p) (flush_granted core p valid (within core old p is.memory page))))
           (c.in_err-store.ensures.passes tells core is.memory (knows_as core (memory old) _ _ refl (is.pages tells)));
     })
