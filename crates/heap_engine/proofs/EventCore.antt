@@ -1,16 +1,19 @@
 -- An event that the disk did not cut short is a step of the core that an engine is.
-use Rattle.std.proofs.Common.{◌≡◌, inl, ℕ, ◌<◌, ◌≤◌, List, [], Option, Some, None, Result, Ok, Err, is_some, refl, sym, ap, ◌∙◌, subst, arith}
+use Rattle.std.proofs.Common.{◌≡◌, inl, ℕ, ◌<◌, ◌≤◌, Bool, true, false, List, [], Option, Some, None, Result, Ok, Err, is_some, refl, sym, ap, ◌∙◌, subst, arith}
 use Rattle.std.specs.List.{AllByRecursion}
-use Rattle.std.specs.Prelude.{IsTrue, IsFalse}
+use Rattle.std.specs.Prelude.{IsTrue, IsFalse, nat_lt, if◌then◌else◌}
 use Rattle.disk_model.specs.declared.disk.Disk.{Ghosts}
 use Rattle.disk_model.specs.Moments.{LeavesOnly}
 use Rattle.gated_log.specs.LogState.{IsPlaced}
 use Rattle.graph_model.specs.declared.event.Event.{Event}
 use Rattle.graph_model.specs.declared.event.Event.TheVariants.{Force, Flip, Scan, Flush}
 use Rattle.graph_model.specs.declared.reply.Refusal.{Refusal}
+use Rattle.graph_model.specs.declared.reply.Refusal.TheVariants.{Stopped}
 use Rattle.graph_model.specs.declared.reply.Reply.{Reply}
+use Rattle.graph_model.specs.declared.reply.Reply.TheVariants.{Refused}
 use Rattle.graph_model.specs.History.{account}
 use Rattle.graph_model.specs.History.{IsOfSession}
+use Rattle.core_laws.proofs.Crash.Cut.{prefix_cut}
 use Rattle.core_laws.proofs.Crash.Image.{crash_law, prefixes_on}
 use Rattle.core_laws.proofs.Step.Sound.{sound_valid}
 use Rattle.core_laws.proofs.Step.Events.{valid_after}
@@ -23,7 +26,7 @@ use Rattle.page_cache.specs.CacheState.{cache_store}
 use Rattle.page_store.specs.declared.store.PageStore.{PageStore}
 use Rattle.page_store.specs.Gates.{open_gates}
 use Rattle.page_store.specs.StoreState.{store_size, has_failed, Knows}
-use Rattle.heap_model.specs.Core.{Core, core_refusal, answer, barrier_records, noted, transfers, done, after_refusal, after, calls, moved, own_records}
+use Rattle.heap_model.specs.Core.{Core, core_refusal, answer, barrier_records, noted, transfers, done, after_refusal, after, calls, cut, with_entry, moved, own_records}
 use Rattle.heap_model.specs.CoreCrash.{IsLogged, IsSuperOf, IsCommitPrefix}
 use Rattle.heap_model.proofs.Step.Logged.{logged_step}
 use Rattle.heap_model.proofs.Step.Transfers.{IsLanding, all_landed, done_noted, gates_landed, none_stored, stage_now}
@@ -147,6 +150,25 @@ disk_leaves s c image may_leave disk sound d left = record {
   outside = subst (SameBehind c image) (sym (disk.only d left)) (untouched 0 (image_size c.pages c.room) image);
 }
 
+-- Such an image is left by an event that may be cut short,
+pub behind_cut : (c : Core) (event : Event) (old image : List ℕ) → SameBehind c old image → SameBehind (cut c event) old image
+behind_cut c event old image same = by (nat_lt 0 (calls c event))
+  where
+    by : (some : Bool) → SameBehind (if some then with_entry c event (Refused Stopped) else c) old image
+    by true = same
+    by false = same
+
+-- and the bytes past the plan are the same
+pub cut_behind : (c : Core) (event : Event) (old image : List ℕ) → SameBehind (cut c event) old image → SameBehind c old image
+cut_behind c event old image = by (nat_lt 0 (calls c event))
+  where
+    by : (some : Bool) → SameBehind (if some then with_entry c event (Refused Stopped) else c) old image → SameBehind c old image
+    by true same = same
+    by false same = same
+
+pub left_cut : (c : Core) (event : Event) (old image : List ℕ) → IsSound c → IsLeftByStep c old image → IsLeftByStep (cut c event) old image
+left_cut c event old image sound left = record { commits = prefix_cut c event image sound left.commits; outside = behind_cut c event old image left.outside }
+
 -- the sessions of an event that the disk cut short are as they were
 pub cut_short : (c : Core) (event : Event) (old new : Engine) → IsMemory (memory old) (account c.history) c → 0 < calls c event → new.sealed ≡ old.sealed → new.table ≡ old.table → WasCutShort c event new
 cut_short c event old new is some sealed table = record {
@@ -219,8 +241,10 @@ module _ {D : Type 0} (g : Ghosts D) where
   module _ (event : Event) (old new : Engine) (disk : D) where
     -- at each moment of it a crash leaves what it left before
     alone : ((image : List ℕ) → g.left_since disk (g.moment disk) image → g.may_leave disk image) → (s : Super) (c : Core) → IsReached c → OnDisk s c (g.bytes disk) (g.may_leave disk)
-        → LeavesOnly g.moment g.left_since disk disk (IsLeftByStep c (g.bytes disk))
-    alone now s c reached held = stays g.moment g.left_since disk (g.may_leave disk) (IsLeftByStep c (g.bytes disk)) now (disk_leaves s c (g.bytes disk) (g.may_leave disk) held reached.sound)
+        → LeavesOnly g.moment g.left_since disk disk (IsLeftByStep (cut c event) (g.bytes disk))
+    alone now s c reached held =
+        stays g.moment g.left_since disk (g.may_leave disk) (IsLeftByStep (cut c event) (g.bytes disk)) now
+        (λ image left. left_cut c event (g.bytes disk) image reached.sound (disk_leaves s c (g.bytes disk) (g.may_leave disk) held reached.sound image left))
 
     -- a call of a session, or a begin
     pub call_leaves : (reply : Reply) → IsOfSession event → ((c : Core) → transfers c event ≡ []) → LeavesStored old new

@@ -14,13 +14,13 @@ use Rattle.core_laws.proofs.Step.Flush.{flush_granted, flush_refused, calls-flus
 use Rattle.core_laws.proofs.Step.Events.{valid_after}
 use Rattle.core_laws.specs.Valid.{IsValid}
 use Rattle.heap_memory.specs.Memory.{Memory}
-use Rattle.heap_model.specs.Core.{Core, core_refusal, answer, with_entry, present_lsn, is_dirty, is_ahead, made, storing, done, force_calls, store_calls, calls_if, calls, after_refusal, after}
+use Rattle.heap_model.specs.Core.{Core, core_refusal, answer, with_entry, present_lsn, is_dirty, is_ahead, made, storing, done, force_calls, store_calls, calls_if, calls, cut, after_refusal, after}
 use Rattle.memory_laws.specs.CoreMemory.{IsMemory}
 use Rattle.memory_laws.proofs.Does.{Does}
 use Rattle.heap_engine.specs.Refinement.{OnDisk, IsLeftByStep, KnowsPages, Steps, StepsOn}
 use Rattle.heap_engine.proofs.StoreCore.{some_store}
 use Rattle.heap_engine.proofs.DeviceCalls.{stays, none_pass}
-use Rattle.heap_engine.proofs.EventCore.{disk_leaves, engine_valid, engine_after}
+use Rattle.heap_engine.proofs.EventCore.{disk_leaves, left_cut, engine_valid, engine_after}
 use Rattle.heap_engine.specs.declared.engine.Engine.{Engine}
 use Rattle.heap_engine.specs.EngineState.{memory}
 
@@ -96,6 +96,8 @@ module _ {D : Type 0} (g : Ghosts D) (p : ℕ) (e : Engine) (disk : D) where
     pub idle_on : ((image : List ℕ) → g.left_since disk (g.moment disk) image → g.may_leave disk image) → StepsOn g (Flush p) e disk e disk (Ok reply)
     idle_on now = record {
       holds = λ s c is reached held. disk_left c c p (left c is.memory (engine_valid g c e disk is reached)) s (g.bytes disk) (g.may_leave disk) held;
-      moments = λ s c is reached held. stays g.moment g.left_since disk (g.may_leave disk) (IsLeftByStep c (g.bytes disk)) now (disk_leaves s c (g.bytes disk) (g.may_leave disk) held reached.sound);
+      moments = λ s c is reached held.
+          stays g.moment g.left_since disk (g.may_leave disk) (IsLeftByStep (cut c (Flush p)) (g.bytes disk)) now
+          (λ image left. left_cut c (Flush p) (g.bytes disk) image reached.sound (disk_leaves s c (g.bytes disk) (g.may_leave disk) held reached.sound image left));
       passes = λ c is reached. none_pass (calls c (Flush p)) (g.passed disk) (Ok tt) (none c is.memory (engine_valid g c e disk is reached));
     }

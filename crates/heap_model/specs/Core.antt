@@ -421,6 +421,11 @@ pub record IsCutShort (c : Core) (event : Event) (reply : Reply) : Type 0 where
   pub some : 0 < calls c event
   pub told : (reply ≡ Refused DiskFault) ⊎ (reply ≡ Refused Stopped)
 
+-- What the disk leaves of a core if it cuts an event short: nothing but the entry, and a seal is in doubt then. An event that makes no call is not
+-- cut short.
+abbrev pub cut : Core → Event → Core
+cut c event = if nat_lt 0 (calls c event) then with_entry c event (Refused Stopped) else c
+
 -- From c an event may be answered so, and leave d.
 abbrev pub IsStep : Core → Event → Reply → Core → Type 0
 IsStep c event reply d =
