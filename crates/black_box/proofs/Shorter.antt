@@ -1,26 +1,24 @@
 -- The short form of the theorem follows from the long one.
-use Rattle.std.proofs.Common.{◌≡◌, ◌≢◌, ◌⊎◌, inl, inr, ℕ, zero, suc, ◌-◌, ◌≤◌, List, [], ◌∷◌, ◌++◌, length, map, take, Option, None, refl, sym, ap, ◌∙◌, subst, arith, append-nil, append_assoc}
+use Rattle.std.proofs.Common.{◌≡◌, ◌≢◌, ◌⊎◌, inl, inr, ℕ, zero, suc, ◌-◌, ◌≤◌, List, [], ◌∷◌, ◌++◌, length, take, Option, refl, sym, ap, ◌∙◌, subst, arith, append-nil, append_assoc}
 use Rattle.std.specs.List.{AllByRecursion, AllPairs, flat_map}
 use Rattle.std.specs.Option.{option_to_list}
 use Rattle.std.proofs.lemmas.Grind.{flat_map-append}
-use Rattle.std.proofs.lemmas.List.{append_cancel_left, length-append, length-map, take-append-le}
-use Rattle.std.proofs.Math.Seq.{take-append_seam, take-length}
+use Rattle.std.proofs.lemmas.List.{append_cancel_left, length-append, take-append-le}
 use Rattle.graph_model.specs.declared.event.Event.{Event}
 use Rattle.graph_model.specs.declared.event.Event.TheVariants.{Abort, Force}
 use Rattle.graph_model.specs.declared.reply.Entry.{Entry}
 use Rattle.graph_model.specs.Canon.{canon}
 use Rattle.graph_model.specs.Graph.{Graph}
-use Rattle.graph_model.specs.History.{account, sealed, commits}
+use Rattle.graph_model.specs.History.{sealed, commits}
 use Rattle.graph_model.specs.Text.{canon_text, line}
-use Rattle.graph_model.specs.Transaction.{Transaction, run, serial, serial_replies}
-use Rattle.commit_order.specs.Heard.{heard_in, replies_of_commits}
+use Rattle.graph_model.specs.Transaction.{Transaction, serial, serial_replies}
 use Rattle.commit_order.proofs.PlaceLaws.{EachEntry-before}
 use Rattle.script_text.specs.declared.line.Line.{Line}
 use Rattle.script_text.specs.Line.{events}
 use Rattle.heap_program.specs.declared.status.Status.{Status}
 use Rattle.heap_program.specs.Play.{lines_text}
 use Rattle.black_box.specs.Told.{EndsScript, Fits, TellsRun, text_of}
-use Rattle.black_box.specs.Tale.{Tale, Tells, committed, text_after}
+use Rattle.black_box.specs.Tale.{Tells, text_after}
 use Rattle.black_box.proofs.NumberLaws.{begun_once, numbers_differ}
 use Rattle.black_box.proofs.TaleLaws.{fits_told, tale_so_far, tale_certain, tale_commits, tale_replies}
 

@@ -1,5 +1,5 @@
 -- What a crash leaves in an event that the disk may cut short: a commit prefix of the core that it leaves then.
-use Rattle.std.proofs.Common.{◌≡◌, ◌⊎◌, inl, inr, ℕ, ◌+◌, ◌<◌, ◌≤◌, Bool, true, false, List, [], ◌∷◌, ◌++◌, length, take, Option, None, Some, refl, sym, ap, ◌∙◌, subst, arith, length-append}
+use Rattle.std.proofs.Common.{◌≡◌, ◌⊎◌, inl, inr, ℕ, ◌+◌, ◌<◌, ◌≤◌, Bool, true, false, List, [], ◌∷◌, ◌++◌, length, take, Option, None, refl, sym, ap, ◌∙◌, subst, arith, length-append}
 use Rattle.std.specs.Prelude.{nat_lt, if◌then◌else◌}
 use Rattle.std.specs.Option.{option_to_list}
 use Rattle.std.proofs.lemmas.Bool.{lt-ltb, ltb-true}
@@ -15,13 +15,12 @@ use Rattle.graph_model.specs.Plain.{reply_of}
 use Rattle.graph_model.specs.Transaction.{Transaction, serial}
 use Rattle.graph_model.specs.History.{Account, account, account_after, first_failure, cut_short, commits, acknowledged}
 use Rattle.graph_model.proofs.Runs.History.{account-append}
-use Rattle.heap_model.specs.Core.{Core, core_refusal, granted_by, answer, with_entry, after, calls, cut, IsStep}
+use Rattle.heap_model.specs.Core.{Core, granted_by, with_entry, calls, cut, IsStep}
 use Rattle.heap_model.specs.CoreCrash.{IsSuperOf, IsCommitPrefix, HasAtLeast}
 use Rattle.heap_model.specs.Image.{StandsFor}
 use Rattle.heap_model.specs.Opening.{next_of}
 use Rattle.heap_model.proofs.Run.Calls.{after_history, calls-moves, calls-unfailed, same_step}
 use Rattle.core_laws.proofs.Crash.Grow.{commits_grow, has_at_least_by, has_at_least_on}
-use Rattle.core_laws.proofs.Crash.Image.{commits-sealed}
 use Rattle.core_laws.proofs.Step.Sound.{sound_valid}
 use Rattle.core_laws.specs.Valid.{IsSound}
 
