@@ -4,3 +4,7 @@ pub mod Counts
 pub mod Acts
 pub mod Keeps
 pub mod Deals
+pub mod TwinActs
+pub mod TwinParts
+pub mod TwinTies
+pub mod TwinKeeps

@@ -5,9 +5,13 @@ mod law;
 mod lock;
 mod pass;
 mod turns;
+mod twin_view;
+mod twins;
 mod view;
 
 pub use lock::{Held, TurnLock};
 pub use pass::Pass;
 pub use turns::Turns;
+pub use twin_view::{Cell, Counted, More, TwinView};
+pub use twins::Twins;
 pub use view::{Stage, View};
