@@ -663,22 +663,22 @@ module _ {T E : Type 0} (entries : T → List E) (stood : T → ℕ) (front : E 
     pub turns_are : (length (entries value) - stood first + empty_turns value) % W ≡ v.turns % W
     pub front_in : v.front ≤ fr (entries value)
 
-  numbers_none : (s : St) (r : Rule s) (id : ℕ) (v : V) → get_elem? s.views id ≡ some v → ((n : ℕ) → n < passes → 0 < times n v.numbers) → (j : ℕ) (u : V) → j ≢ id → get_elem? s.views j ≡ some u → u.numbers ≡ []
+  pub numbers_none : (s : St) (r : Rule s) (id : ℕ) (v : V) → get_elem? s.views id ≡ some v → ((n : ℕ) → n < passes → 0 < times n v.numbers) → (j : ℕ) (u : V) → j ≢ id → get_elem? s.views j ≡ some u → u.numbers ≡ []
   numbers_none s r id v at all j u apart is = no_number u.numbers (λ n has.
       let f : V → ℕ = λ x. times n x.numbers in let c : ℕ → ℕ = λ k. total (λ (x : V). times k x.numbers) s.views in let sh = r.knows in
       let in_all = once_inside c c 0 passes sh.numbers_once n (omega (arith, term_le f s.views j u is, has)) in
       absurd (omega (arith, terms_le f s.views id j v u apart at is, has, all n in_all.1, once_bound c c 0 passes sh.numbers_once n)))
 
-  pub ends : (ws : List ℕ) (xs : List (Option T)) (id : ℕ) (v : V) → v.stage ≡ Resting → ((n : ℕ) → n < passes → 0 < times n v.numbers) → Final (Seen Rule id v) ws xs → (value : T) × (get_elem? xs 0 ≡ some (Some value)) × Ends v value
-  ends ws xs id v st all f =
-      let s : St = f.0 in let r : Rule s = f.1.0 in let at = f.1.1 in let sh = r.knows in let fit = sh.each id v at in
+  pub ends_at : (s : St) → Rule s → (id : ℕ) (v : V) → get_elem? s.views id ≡ some v → v.stage ≡ Resting → ((n : ℕ) → n < passes → 0 < times n v.numbers) → (value : T) × (get_elem? s.homes 0 ≡ some (some (Some value))) × Ends v value
+  ends_at s r id v at st all =
+      let sh = r.knows in let fit = sh.each id v at in
       let others : (j : ℕ) (u : V) → j ≢ id → get_elem? s.views j ≡ some u → (u.stage ≡ Resting) × (u.mine ≡ []) × (u.turns ≡ 0) = λ j u n is. (sh.each j u is).idle (numbers_none s r id v at all j u n is) in
       let alone_at : (k : ℕ) → total (times_at k) s.views ≡ times_at k v = λ k. total_alone (times_at k) s.views id v at (λ j u n is. ap (λ (m : List (ℕ × E)). times k (places m)) (others j u n is).1) in
       let turns_alone : total (λ (u : V). u.turns) s.views ≡ v.turns = total_alone (λ (u : V). u.turns) s.views id v at (λ j u n is. (others j u n is).2) in
       ⊎_elim
       (λ h. let es = h.entries_are in (
         h.value,
-        f.4 0 (Some h.value) (ap (λ hs. get_elem? hs 0) r.homes_are ∙ ap some h.home_is),
+        ap (λ hs. get_elem? hs 0) r.homes_are ∙ ap some h.home_is,
         record {
           stood_is = h.stood_is;
           follows_is = h.follows_is;
@@ -694,6 +694,9 @@ module _ {T E : Type 0} (entries : T → List E) (stood : T → ℕ) (front : E 
       (λ e. no_bool (is_held o.view.stage) o.held (ap (λ (x : V). is_held x.stage) (some-injective o.view v (sym o.seat_is ∙ (ap (get_elem? s.views) e ∙ at))) ∙ ap is_held st))
       (λ n. no_bool (is_held o.view.stage) o.held (ap is_held (others o.seat o.view n o.seat_is).0))))
       r.slot
+
+  pub ends : (ws : List ℕ) (xs : List (Option T)) (id : ℕ) (v : V) → v.stage ≡ Resting → ((n : ℕ) → n < passes → 0 < times n v.numbers) → Final (Seen Rule id v) ws xs → (value : T) × (get_elem? xs 0 ≡ some (Some value)) × Ends v value
+  ends ws xs id v st all f = let e = ends_at f.0 f.1.0 id v f.1.1 st all in (e.0, f.4 0 (Some e.0) e.1, e.2)
 
   -- the first seat once the passes below k have their numbers
   abbrev pub dealing : ℕ → V

@@ -8,3 +8,4 @@ pub mod TwinActs
 pub mod TwinParts
 pub mod TwinTies
 pub mod TwinKeeps
+pub mod TwinEnds

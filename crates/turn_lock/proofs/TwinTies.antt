@@ -37,18 +37,18 @@ one_not_zero e = omega (arith, e)
 longer_list : {A : Type 0} (xs : List A) (x : A) → xs ≡ x ∷ xs → ⊥
 longer_list xs x e = let n : length xs ≡ suc (length xs) = ap length e in omega (arith, n)
 
-no_bool : (b : Bool) → b ≡ true → b ≡ false → ⊥
+pub no_bool : (b : Bool) → b ≡ true → b ≡ false → ⊥
 no_bool b t f = search (Rattle.std.proofs.Common.rules, sym t ∙ f)
 
 module _ {T D : Type 0} where
-  abbrev value_in : T → maybe.Option (maybe.Option (Cell (Option T) (Option D))) → T
+  abbrev pub value_in : T → maybe.Option (maybe.Option (Cell (Option T) (Option D))) → T
   value_in d (some (some (OfValue (Some x)))) = x
   value_in d (some (some (OfValue None))) = d
   value_in d (some (some (OfDevice y))) = d
   value_in d (some none) = d
   value_in d none = d
 
-  abbrev device_in : D → maybe.Option (maybe.Option (Cell (Option T) (Option D))) → D
+  abbrev pub device_in : D → maybe.Option (maybe.Option (Cell (Option T) (Option D))) → D
   device_in d (some (some (OfDevice (Some x)))) = x
   device_in d (some (some (OfDevice None))) = d
   device_in d (some (some (OfValue y))) = d
@@ -84,34 +84,34 @@ module _ {T D : Type 0} where
 
 module _ {T E D F : Type 0} (entries : T → List E) (stood : T → ℕ) (front : E → ℕ) (empty_turns : T → ℕ) (follows : T → T → Type 0) (first : T) (passes : ℕ) where
   -- where the value is at home, no pass has it
-  nobody_has : (s : State (Cell (Option T) (Option D)) (Seen T E D F)) (x : T) → Kept entries stood front empty_turns follows first passes (value_side s) → get_elem? s.homes 0 ≡ some (some (OfValue (Some x)))
+  pub nobody_has : (s : State (Cell (Option T) (Option D)) (Seen T E D F)) (x : T) → Kept entries stood front empty_turns follows first passes (value_side s) → get_elem? s.homes 0 ≡ some (some (OfValue (Some x)))
       → (seat : ℕ) (v : Seen T E D F) → get_elem? s.views seat ≡ some v → is_held v.value.stage ≡ false
   nobody_has s x r home seat v at = ⊎_elim (λ h. h.nobody seat v.value (at_map value_of s.views seat v at))
       (λ o. absurd (some-ne-none (Some x) (sym (first_home s.homes x r.home home r.homes_are) ∙ o.home_is))) r.slot
 
 module _ {T E D F : Type 0} (entries' : D → List F) (stood' : D → ℕ) (front' : F → ℕ) (empty_turns' : D → ℕ) (follows' : D → D → Type 0) (first' : D) (passes : ℕ) where
-  nobody_down : (s : State (Cell (Option T) (Option D)) (Seen T E D F)) (y : D) → Kept entries' stood' front' empty_turns' follows' first' passes (device_side s) → get_elem? s.homes 1 ≡ some (some (OfDevice (Some y)))
+  pub nobody_down : (s : State (Cell (Option T) (Option D)) (Seen T E D F)) (y : D) → Kept entries' stood' front' empty_turns' follows' first' passes (device_side s) → get_elem? s.homes 1 ≡ some (some (OfDevice (Some y)))
       → (seat : ℕ) (v : Seen T E D F) → get_elem? s.views seat ≡ some v → is_held v.device.stage ≡ false
   nobody_down s y r home seat v at = ⊎_elim (λ h. h.nobody seat v.device (at_map device_of s.views seat v at))
       (λ o. absurd (some-ne-none (Some y) (sym (second_home s.homes y r.home home r.homes_are) ∙ o.home_is))) r.slot
 
 module _ {T E D F : Type 0} where
-  down_set : (views : List (Seen T E D F)) (id : ℕ) (v w : Seen T E D F) (device : D) → get_elem? views id ≡ some v → (is_held v.device.stage ≡ true → (is_held w.device.stage ≡ true) × (w.more.down ≡ v.more.down)) → IsDown views device → IsDown (set views id w) device
+  pub down_set : (views : List (Seen T E D F)) (id : ℕ) (v w : Seen T E D F) (device : D) → get_elem? views id ≡ some v → (is_held v.device.stage ≡ true → (is_held w.device.stage ≡ true) × (w.more.down ≡ v.more.down)) → IsDown views device → IsDown (set views id w) device
   down_set views id v w device at keep o = dite (ℕ_discrete o.seat id)
       (λ e. let is : o.view ≡ v = some-injective o.view v (sym o.seat_is ∙ (ap (get_elem? views) e ∙ at)) in let t = keep (subst (λ (u : Seen T E D F). is_held u.device.stage ≡ true) is o.held) in
       record { seat = id; view = w; seat_is = set_here views id w (at_within views id v at); held = t.0; down_is = t.1 ∙ (ap (λ (u : Seen T E D F). u.more.down) (sym is) ∙ o.down_is) })
       (λ n. record { seat = o.seat; view = o.view; seat_is = set_else views id o.seat w n ∙ o.seat_is; held = o.held; down_is = o.down_is })
 
-  saw_set : (later : D → D → Type 0) (views : List (Seen T E D F)) (id : ℕ) (v w : Seen T E D F) (old new : D) → ((seat : ℕ) (u : Seen T E D F) → get_elem? views seat ≡ some u → (d : D) → u.more.saw ≡ Some d → later d old) → ((d : D) → later d old → later d new) → ((d : D) → w.more.saw ≡ Some d → later d new)
+  pub saw_set : (later : D → D → Type 0) (views : List (Seen T E D F)) (id : ℕ) (v w : Seen T E D F) (old new : D) → ((seat : ℕ) (u : Seen T E D F) → get_elem? views seat ≡ some u → (d : D) → u.more.saw ≡ Some d → later d old) → ((d : D) → later d old → later d new) → ((d : D) → w.more.saw ≡ Some d → later d new)
       → (seat : ℕ) (u : Seen T E D F) → get_elem? (set views id w) seat ≡ some u → (d : D) → u.more.saw ≡ Some d → later d new
   saw_set later views id v w old new seen grows mine seat u at d saw = ⊎_elim (λ t. mine d (ap (λ (x : Seen T E D F). x.more.saw) t.1 ∙ saw)) (λ t. grows d (seen seat u t.1 d saw)) (at_set views id seat w u at)
 
-  idle_set : (views : List (Seen T E D F)) (id : ℕ) (w : Seen T E D F) → ((seat : ℕ) (u : Seen T E D F) → get_elem? views seat ≡ some u → u.value.numbers ≡ [] → u.more.owes ≡ 0) → (w.value.numbers ≡ [] → w.more.owes ≡ 0)
+  pub idle_set : (views : List (Seen T E D F)) (id : ℕ) (w : Seen T E D F) → ((seat : ℕ) (u : Seen T E D F) → get_elem? views seat ≡ some u → u.value.numbers ≡ [] → u.more.owes ≡ 0) → (w.value.numbers ≡ [] → w.more.owes ≡ 0)
       → (seat : ℕ) (u : Seen T E D F) → get_elem? (set views id w) seat ≡ some u → u.value.numbers ≡ [] → u.more.owes ≡ 0
   idle_set views id w others mine seat u at = ⊎_elim (λ t. subst (λ (x : Seen T E D F). x.value.numbers ≡ [] → x.more.owes ≡ 0) t.1 mine) (λ t. others seat u t.1) (at_set views id seat w u at)
 
 module _ {T E D F : Type 0} (entries : T → List E) (follows : T → T → Type 0) (first : T) where
-  own_set : (views : List (Seen T E D F)) (id : ℕ) (v w : Seen T E D F) (value : T) → get_elem? views id ≡ some v
+  pub own_set : (views : List (Seen T E D F)) (id : ℕ) (v w : Seen T E D F) (value : T) → get_elem? views id ≡ some v
       → (is_held v.value.stage ≡ true → (is_held w.value.stage ≡ true) × (w.more.own ≡ v.more.own) × (w.value.seen ≡ v.value.seen)) → IsOwn entries follows first views value → IsOwn entries follows first (set views id w) value
   own_set views id v w value at keep o = dite (ℕ_discrete o.seat id)
       (λ e. let is : o.view ≡ v = some-injective o.view v (sym o.seat_is ∙ (ap (get_elem? views) e ∙ at)) in let t = keep (subst (λ (u : Seen T E D F). is_held u.value.stage ≡ true) is o.held) in
