@@ -9,3 +9,5 @@ pub mod TwinParts
 pub mod TwinTies
 pub mod TwinKeeps
 pub mod TwinEnds
+pub mod TwinLaws
+pub mod TwinDeals

@@ -121,10 +121,10 @@ module _ {T E D F : Type 0}
       → me.1 ≡ (1, OfDevice (Some value)) ∷ under → device_part under ≡ [] → IsOneTurn front' me.0.device.seen me.0.device.empty me.0.device.seen empty' 0
       → ((known : ℕ) → GoesBack entries' stood' empty_turns' follows' first' (raising me.0.device me.0.device.seen empty' known) value) → ((d : D) → later d d) → ((a b c : D) → later a b → later b c → later a c)
       → MayPut beside later owed (λ v. IsBeginning me.0.value.seen (entries v) × follows first v) old me.0.more.owes value owes'
-      → Allows Rule 2 id me 4 (λ n. (n + 1) % W) (λ _. device_passed value empty' owes' me)
+      → Allows Rule 2 id me 4 (λ n. (n + 1) % W) (λ _. device_passed empty' (gave_device me.0.more value owes') me)
   passes_device_on id me old value under empty' owes' turn first_is number down_is top nothing one back itself on may =
       let parts : device_part me.1 ≡ (0, Some value) ∷ [] = ap device_part top ∙ ap (λ l. (0, Some value) ∷ l) nothing in
-      device_puts R Q Tie id me (Some value) under (raised stood' front' me.0.device.seen empty' (device_me me)) (λ _ you. (known : ℕ) × (you.0 ≡ resting (raising me.0.device me.0.device.seen empty' known))) (λ _. device_passed value empty' owes' me) top
+      device_puts R Q Tie id me (Some value) under (raised stood' front' me.0.device.seen empty' (device_me me)) (λ _ you. (known : ℕ) × (you.0 ≡ resting (raising me.0.device me.0.device.seen empty' known))) (λ _. device_passed empty' (gave_device me.0.more value owes') me) top
       (raises_as entries' stood' front' empty_turns' follows' first' passes 1 id (device_me me) me.0.device.seen empty' 0 turn first_is one)
       (λ w r s k two at small.
       let is : w ≡ raising me.0.device me.0.device.seen empty' r.0 = ap (λ (x : Me (Option D) (View D F)). x.0) r.1 in

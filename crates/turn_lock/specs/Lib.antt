@@ -7,3 +7,4 @@ pub mod Acts
 pub mod Twin
 pub mod Tied
 pub mod TwinSteps
+pub mod TwinPasses

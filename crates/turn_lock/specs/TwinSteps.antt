@@ -61,9 +61,9 @@ module _ {T E D F : Type 0} where
   abbrev pub value_passed : Knows T E D F → Knows T E D F → Type 0
   value_passed m n = n ≡ (with_value m.0 (resting m.0.value) m.0.more, rest m.1)
 
-  -- the device's turn was an empty one and was passed, and its slot was put back with this device
-  abbrev pub device_passed : D → ℕ → ℕ → Knows T E D F → Knows T E D F → Type 0
-  device_passed device empty owes m n = (known : ℕ) × (n ≡ (with_device m.0 (resting (raising m.0.device m.0.device.seen empty known)) (gave_device m.0.more device owes), rest m.1))
+  -- the device's turn was an empty one and was passed, its slot was put back, and this is known of both
+  abbrev pub device_passed : ℕ → More T D → Knows T E D F → Knows T E D F → Type 0
+  device_passed empty more m n = (known : ℕ) × (n ≡ (with_device m.0 (resting (raising m.0.device m.0.device.seen empty known)) more, rest m.1))
 
   -- the front was read, which is at least any that the pass knew
   abbrev pub value_read : Knows T E D F → ℕ → Knows T E D F → Type 0

@@ -1,12 +1,14 @@
 //! What a table with two turns holds, and what a pass knows of both: plain data, of which the views exist in proofs alone.
 
 /// What a slot holds: the value, or the device.
+#[derive(Drop)]
 pub enum Cell<A, B> {
     OfValue(A),
     OfDevice(B),
 }
 
 /// The device, with the number of its turns, modulo 2^64.
+#[derive(Drop)]
 pub struct Counted<D> {
     pub device: D,
     pub turns: u64,
