@@ -1,5 +1,5 @@
 -- A step whose act is known is a step.
-use Rattle.std.proofs.Common.{◌≡◌, ℕ, List}
+use Rattle.std.proofs.Common.{ℕ}
 use Rattle.atomic_table.specs.Table.{State, Me, Act, Allows}
 use Rattle.turn_lock.specs.Acts.{AllowsAs}
 

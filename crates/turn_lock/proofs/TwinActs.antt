@@ -1,5 +1,5 @@
 -- The acts of one turn as acts of the table with two turns, and the part of a pass that one turn sees.
-use Rattle.std.proofs.Common.{◌≡◌, ℕ, ◌+◌, List, [], ◌∷◌}
+use Rattle.std.proofs.Common.{◌≡◌, ℕ, ◌+◌, List, ◌∷◌}
 use Rattle.atomic_table.specs.Table.{Me, Act, keeps, takes, gives, chain}
 use Rattle.turn_lock.specs.declared.twin_view.Cell.{Cell}
 use Rattle.turn_lock.specs.declared.twin_view.Cell.TheVariants.{OfValue, OfDevice}

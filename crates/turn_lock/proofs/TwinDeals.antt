@@ -1,9 +1,10 @@
 -- A pass of a lock with two turns that was just made, and the slots of a table once both are taken.
-use Rattle.std.proofs.Common.{◌≡◌, ℕ, zero, suc, ◌+◌, ◌<◌, Bool, false, List, [], ◌∷◌, length, ap, sym, refl, ◌∙◌, arith, None, slice_index_or, slice_set}
+use Rattle.std.proofs.Common.{◌≡◌, ℕ, zero, suc, ◌+◌, ◌<◌, Bool, false, List, [], ◌∷◌, length, ap, sym, refl, ◌∙◌, arith, Option, Some, None, slice_index_or, slice_set}
+use Rattle.turn_lock.specs.declared.twin_view.Cell.{Cell}
+use Rattle.turn_lock.specs.declared.twin_view.Cell.TheVariants.{OfValue, OfDevice}
 use Rattle.turn_lock.specs.declared.twin_lock.TwinLock.{TwinLock}
 use Rattle.turn_lock.specs.declared.twin_pass.TwinPass.{TwinPass}
 use Rattle.turn_lock.specs.declared.twin_view.Counted.{Counted}
-use Rattle.turn_lock.specs.Steps.{left_to_deal, dealt}
 use Rattle.turn_lock.specs.Tied.{Seen, no_entries, none_stood, no_front, turns_of, any_follows}
 use Rattle.turn_lock.specs.TwinSteps.{twin_left, twin_dealt, more_spent}
 use Rattle.turn_lock.specs.TwinPasses.{first_of, first_device_of, IsNew, uncounted}
@@ -11,6 +12,19 @@ use Rattle.turn_lock.proofs.Keeps.{dealing, deals_next, deals_number}
 
 not_none : (k : ℕ) (l : List ℕ) → l ≡ k ∷ [] → l ≡ [] → ⊥
 not_none k l is none = let n : suc 0 ≡ 0 = ap length (sym is ∙ none) in omega arith
+
+module _ {T D : Type 0} where
+  -- the value in a slot
+  abbrev pub cell_value : T → Cell (Option T) (Option D) → T
+  cell_value d (OfValue (Some x)) = x
+  cell_value d (OfValue None) = d
+  cell_value d (OfDevice y) = d
+
+  -- the device in a slot
+  abbrev pub cell_device : D → Cell (Option T) (Option D) → D
+  cell_device d (OfDevice (Some y)) = y
+  cell_device d (OfDevice None) = d
+  cell_device d (OfValue x) = d
 
 -- both slots are empty once both values are taken
 pub both_taken : (l : List Bool) (k : ℕ) → k < 2 → slice_index_or (slice_set (slice_set l 0 false) 1 false) k false ≡ false

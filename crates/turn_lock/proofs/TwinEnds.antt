@@ -1,5 +1,5 @@
 -- A table with two turns at its beginning and at its end, and passes that are made and joined.
-use Rattle.std.proofs.Common.{◌≡◌, ◌≢◌, ℕ, zero, suc, ◌+◌, ◌<◌, ◌≤◌, ◌⊎◌, true, false, List, [], ◌∷◌, ◌++◌, map, ◌∙◌, length, take, drop, set, sym, refl, ap, subst, inl, inr, ⊎_elim, arith, Option, Some, None}
+use Rattle.std.proofs.Common.{◌≡◌, ℕ, zero, suc, ◌<◌, ◌≤◌, List, [], ◌∷◌, ◌++◌, map, ◌∙◌, length, set, sym, refl, ap, subst, inl, inr, ⊎_elim, arith, Option, Some, None}
 use mathlib.Core.Option.{some, some-injective}
 use mathlib.Core.Option as maybe
 use lib.ListN.{get_elem?}
@@ -10,10 +10,9 @@ use Rattle.turn_lock.specs.declared.view.View.{View}
 use Rattle.turn_lock.specs.declared.view.Stage.TheVariants.{Resting}
 use Rattle.turn_lock.specs.declared.twin_view.Cell.{Cell}
 use Rattle.turn_lock.specs.declared.twin_view.Cell.TheVariants.{OfValue, OfDevice}
-use Rattle.turn_lock.specs.declared.twin_view.More.{More}
 use Rattle.turn_lock.specs.Turning.{total, times}
 use Rattle.turn_lock.specs.Rule.{Kept, is_held, newcomer}
-use Rattle.turn_lock.specs.Steps.{left_to_deal, dealt, joined, spent}
+use Rattle.turn_lock.specs.Steps.{spent}
 use Rattle.turn_lock.specs.Twin.{value_side, device_side, Together}
 use Rattle.turn_lock.specs.Tied.{Seen, IsOwn, IsDown, Tied}
 use Rattle.turn_lock.specs.TwinSteps.{twin_left, twin_dealt, twin_joined, twin_spent, either_saw}

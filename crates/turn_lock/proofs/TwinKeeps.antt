@@ -1,19 +1,15 @@
 -- Each kind of step on a table with two turns keeps the whole rule: both turns, and what ties them.
-use Rattle.std.proofs.Common.{◌≡◌, ◌≢◌, ℕ, zero, suc, ◌+◌, ◌%◌, ◌<◌, ◌≤◌, ◌⊎◌, true, false, List, [], ◌∷◌, ◌++◌, map, max, ◌∙◌, length, take, drop, get_or, set, sym, refl, ap, subst, inl, inr, ⊎_elim, arith, Option, Some, None}
-use mathlib.Core.Option.{none, some, some-injective, some-ne-none}
-use lib.ListN.{get_elem?}
+use Rattle.std.proofs.Common.{◌≡◌, ◌≢◌, ℕ, ◌+◌, ◌%◌, List, [], ◌∷◌, max, ◌∙◌, get_or, sym, refl, ap, subst, ⊎_elim, arith, Option, Some}
 use Rattle.atomic_table.specs.Table.{State, Me, Act, keeps, takes, gives, Allows, Splits, Joins, opening, Final, stepped}
 use Rattle.turn_lock.specs.declared.view.View.{View}
 use Rattle.turn_lock.specs.declared.view.Stage.TheVariants.{Resting, Waiting, Turn, Raised}
 use Rattle.turn_lock.specs.declared.twin_view.Cell.{Cell}
 use Rattle.turn_lock.specs.declared.twin_view.Cell.TheVariants.{OfValue, OfDevice}
-use Rattle.turn_lock.specs.declared.twin_view.TwinView.{TwinView}
-use Rattle.turn_lock.specs.declared.twin_view.More.{More}
 use Rattle.turn_lock.specs.Acts.{IsLook}
 use Rattle.turn_lock.specs.Turning.{IsOneTurn, IsBeginning}
 use Rattle.turn_lock.specs.Rule.{Kept, is_held}
 use Rattle.turn_lock.specs.Steps.{queued, looked, raised, passed, read, raising, resting, GoesBack}
-use Rattle.turn_lock.specs.Twin.{value_part, device_part, value_side, device_side, Together}
+use Rattle.turn_lock.specs.Twin.{value_part, device_part, Together}
 use Rattle.turn_lock.specs.Tied.{Seen, MayRaise, MayRaiseBoth, MayPut, Tied}
 use Rattle.turn_lock.specs.TwinSteps.{raises_value, raises_both, gave_device, value_queued, value_looked, value_passed, value_read, twin_raised, device_queued, device_looked, device_passed}
 use Rattle.turn_lock.proofs.Keeps.{takes_ticket_as, looks_as, raises_as, passes_on_as, reads_front_as}

@@ -1,10 +1,9 @@
 -- The laws of steps for a device with its count of turns, in the words of contracts, where the count is left out.
-use Rattle.std.proofs.Common.{◌≡◌, ◌≢◌, ℕ, ◌+◌, ◌%◌, ◌≤◌, ◌<◌, max, length, List, [], ◌∷◌, sym, refl, ap, ◌∙◌, subst, inr, Option, Some, None}
+use Rattle.std.proofs.Common.{◌≡◌, ◌≢◌, ℕ, ◌+◌, ◌%◌, ◌<◌, max, length, List, [], ◌∷◌, sym, refl, subst, inr, Option, Some, None}
 use mathlib.Core.Option.{some}
 use lib.ListN.{get_elem?}
 use Rattle.std.proofs.lemmas.Option.{none-some, same_Some}
 use Rattle.atomic_table.specs.Table.{State, Me, Allows, Splits, Joins, opening, Final, rest}
-use Rattle.turn_lock.specs.declared.view.View.{View}
 use Rattle.turn_lock.specs.declared.view.Stage.TheVariants.{Resting, Waiting, Turn, Raised}
 use Rattle.turn_lock.specs.declared.twin_view.Cell.{Cell}
 use Rattle.turn_lock.specs.declared.twin_view.Cell.TheVariants.{OfValue, OfDevice}
@@ -16,17 +15,18 @@ use Rattle.turn_lock.specs.Steps.{GoesBack}
 use Rattle.turn_lock.specs.TwinSteps.{raises_value, raises_both, gave_device, value_queued, value_looked, value_passed, value_read, twin_raised, device_queued, device_looked, device_passed, twin_left, twin_dealt, twin_joined, twin_spent}
 use Rattle.turn_lock.specs.TwinPasses.{uncounted}
 use Rattle.turn_lock.proofs.TwinKeeps.{takes_value_ticket, looks_at_value, raises_value_front, raises_both_front, passes_value_on, reads_value_front, takes_device_ticket, looks_at_device, passes_device_on}
+use Rattle.turn_lock.proofs.TwinDeals.{cell_value, cell_device}
 use Rattle.turn_lock.proofs.TwinEnds.{twin_splits, twin_joins, twin_opens, twin_ends, TwinEnds}
 
-module _ {T D : Type 0} (beside : T → D → Type 0) (later : D → D → Type 0) (owed : T → D → ℕ) where
-  -- the device that a pass saw, without its count
-  saw_later : (saw : Option (Counted D)) (device : D) → ((c : Counted D) → saw ≡ Some c → later c.device device) → (d : D) → uncounted saw ≡ Some d → later d device
-  saw_later (Some c) device h d is = subst (λ (x : D). later x device) (same_Some c.device d is) (h c refl)
-  saw_later None device h d is = absurd (none-some d is)
+-- the device that a pass saw, without its count
+pub saw_known : {D : Type 0} (later : D → D → Type 0) (saw : Option (Counted D)) (device : D) → ((c : Counted D) → saw ≡ Some c → later c.device device) → (d : D) → uncounted saw ≡ Some d → later d device
+saw_known later (Some c) device h d is = subst (λ x. later x device) (same_Some c.device d is) (h c refl)
+saw_known later None device h d is = absurd (none-some d is)
 
+module _ {T D : Type 0} (beside : T → D → Type 0) (later : D → D → Type 0) (owed : T → D → ℕ) where
   pub may_raise : (saw : Option (Counted D)) (old : T) (owes : ℕ) (new : T) (owes' : ℕ) → MayRaise beside later owed (uncounted saw) old owes new owes'
       → MayRaise (λ v (c : Counted D). beside v c.device) (λ c d. later c.device d.device) (λ v c. owed v c.device) saw old owes new owes'
-  may_raise saw old owes new owes' may c known = may c.device (saw_later saw c.device known)
+  may_raise saw old owes new owes' may c known = may c.device (saw_known later saw c.device known)
 
   -- the device that is out, with its count
   pub counted_is : (x : Option (Counted D)) (d : D) → uncounted x ≡ Some d → (c : Counted D) × (x ≡ Some c) × (c.device ≡ d)
@@ -106,7 +106,7 @@ module _ {T D E : Type 0} (entries : T → List E) (stood : T → ℕ) (front : 
       → Rule (opening (0 ∷ 0 ∷ 0 ∷ 0 ∷ 0 ∷ []) (OfValue (Some first) ∷ OfDevice (Some first') ∷ []) (Rattle.turn_lock.specs.Tied.twin_newcomer entries first first' passes))
   opens starts all none_empty no_turns few stands nothing = twin_opens entries stood front empty_turns follows first no_entries none_stood no_front turns_of any_follows first' passes (λ v c. beside first v c.device) (λ c d. later c.device d.device) (λ v c. owed v c.device) starts all none_empty tt refl no_turns few stands nothing
 
-  abbrev Ending : Seen T E (Counted D) ℕ → T → Counted D → Type 0
+  abbrev pub Ending : Seen T E (Counted D) ℕ → T → Counted D → Type 0
   Ending = TwinEnds entries stood front empty_turns follows first no_entries none_stood no_front turns_of any_follows first' passes (λ v c. beside first v c.device) (λ c d. later c.device d.device) (λ v c. owed v c.device)
 
   pub ends : (ws : List ℕ) (xs : List (Cell (Option T) (Option (Counted D)))) (id : ℕ) (v : Seen T E (Counted D) ℕ) → v.value.stage ≡ Resting → v.device.stage ≡ Resting → ((n : ℕ) → n < passes → 0 < times n v.value.numbers)
@@ -114,3 +114,6 @@ module _ {T D E : Type 0} (entries : T → List E) (stood : T → ℕ) (front : 
       → (value : T) × (device : Counted D) × (get_elem? xs 0 ≡ some (OfValue (Some value))) × (get_elem? xs 1 ≡ some (OfDevice (Some device))) × Ending v value device
   ends ws xs id v stage device_stage all same nothing f = twin_ends entries stood front empty_turns follows first no_entries none_stood no_front turns_of any_follows first' passes (λ v c. beside first v c.device) (λ c d. later c.device d.device) (λ v c. owed v c.device)
       ws xs id v stage device_stage all (λ n h. subst (λ (l : List ℕ). 0 < times n l) (sym same) (all n h)) nothing f
+
+  pub same_ending : (v : Seen T E (Counted D) ℕ) (a a' : T) (d d' : Counted D) → ◌≡◌ {A = Cell (Option T) (Option (Counted D))} (OfValue (Some a)) (OfValue (Some a')) → ◌≡◌ {A = Cell (Option T) (Option (Counted D))} (OfDevice (Some d)) (OfDevice (Some d')) → Ending v a d → Ending v a' d'
+  same_ending v a a' d d' value device end = subst (λ (x : Cell (Option T) (Option (Counted D)) × Cell (Option T) (Option (Counted D))). Ending v (cell_value a x.0) (cell_device d x.1)) (λ i. (value i, device i)) end

@@ -1,9 +1,9 @@
 -- One table with two turns, seen as two tables with one turn each.
 -- Words 0 to 2 and slot 0 are the value's turn, words 3 and 4 and slot 1 the device's, whose front is always 0 and no word.
-use Rattle.std.specs.Prelude.{◌≡◌, ℕ, ◌+◌, ◌-◌, List, [], ◌∷◌, ◌++◌, map, take, drop, length}
+use Rattle.std.specs.Prelude.{◌≡◌, ℕ, ◌-◌, List, [], ◌∷◌, ◌++◌, map, take, drop, length}
 use mathlib.Core.Option.{none, some}
 use mathlib.Core.Option as maybe
-use Rattle.atomic_table.specs.Table.{State, Me, Act, keeps, takes, gives, chain}
+use Rattle.atomic_table.specs.Table.{State}
 use Rattle.turn_lock.specs.declared.twin_view.Cell.{Cell}
 use Rattle.turn_lock.specs.declared.twin_view.Cell.TheVariants.{OfValue, OfDevice}
 use Rattle.turn_lock.specs.declared.twin_view.TwinView.{TwinView}

@@ -7,12 +7,9 @@ use Rattle.turn_lock.specs.declared.view.View.{View}
 use Rattle.turn_lock.specs.declared.view.Stage.TheVariants.{Resting, Waiting, Turn, Raised}
 use Rattle.turn_lock.specs.declared.twin_view.Cell.{Cell}
 use Rattle.turn_lock.specs.declared.twin_view.Cell.TheVariants.{OfValue, OfDevice}
-use Rattle.turn_lock.specs.declared.twin_view.More.{More}
 use Rattle.turn_lock.specs.declared.twin_view.Counted.{Counted}
-use Rattle.turn_lock.specs.Steps.{in_turn, resting, Suits}
 use Rattle.turn_lock.specs.Twin.{device_part}
-use Rattle.turn_lock.specs.Tied.{Seen, MayRaise, MayRaiseBoth, MayPut, twin_newcomer}
-use Rattle.turn_lock.specs.TwinSteps.{with_value, with_device}
+use Rattle.turn_lock.specs.Tied.{Seen}
 
 module _ {T D E : Type 0} where
   -- the value that was handed to the lock, as it was then

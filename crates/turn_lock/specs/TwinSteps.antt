@@ -1,7 +1,6 @@
 -- What each kind of step on a table with two turns changes in what the pass knows, and what it returns.
-use Rattle.std.specs.Prelude.{◌≡◌, ◌≢◌, ℕ, ◌+◌, ◌%◌, ◌^◌, ◌≤◌, List, [], ◌∷◌, drop, Option, Some, None}
+use Rattle.std.specs.Prelude.{◌≡◌, ◌≢◌, ℕ, ◌+◌, ◌%◌, ◌^◌, ◌≤◌, List, ◌∷◌, drop, Option, Some, None}
 use Rattle.atomic_table.specs.Table.{Me, rest}
-use Rattle.turn_lock.specs.declared.view.View.{View}
 use Rattle.turn_lock.specs.declared.twin_view.Cell.{Cell}
 use Rattle.turn_lock.specs.declared.twin_view.Cell.TheVariants.{OfValue, OfDevice}
 use Rattle.turn_lock.specs.declared.twin_view.TwinView.{TwinView}

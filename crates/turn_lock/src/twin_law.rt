@@ -25,14 +25,24 @@ pub type Seen<T, E, D> = TwinView<View<T, E>, View<Counted<D>, u64>, More<T, Cou
 /// What a slot of the table holds.
 pub type TwinSlot<T, D> = Cell<Option<T>, Option<Counted<D>>>;
 
-pub type TwinBoard<T, E, D> = Table<TwinSlot<T, D>, Seen<T, E, D>, TwinOpening<T, D>, TwinOrder, Global>;
+pub type TwinBoard<T, E, D> = Table<
+    TwinSlot<T, D>,
+    Seen<T, E, D>,
+    TwinOpening<T, D>,
+    TwinOrder,
+    Global,
+>;
 
 pub type TwinPlace<T, E, D> = Seat<TwinSlot<T, D>, Seen<T, E, D>>;
 
 /// The rule of the two turns.
 pub struct TwinOrder;
 
-impl<T: Twins> TableRule<TwinSlot<T, T::Device>, Seen<T, T::Entry, T::Device>, TwinOpening<T, T::Device>> for TwinOrder {
+impl<T: Twins> TableRule<
+    TwinSlot<T, T::Device>,
+    Seen<T, T::Entry, T::Device>,
+    TwinOpening<T, T::Device>,
+> for TwinOrder {
     ghost use Rattle.turn_lock.specs.Tied.{TwinKept, twin_newcomer};
 
     ghost holds = { λ key. TwinKept T.entries T.stood T.front T.empty_turns T.follows T.beside T.later T.owed key.first.value key.device.value key.passes };
@@ -82,7 +92,10 @@ pub struct RaiseTwin<T, J> {
     left: PhantomData<(T, J)>,
 }
 
-impl<T: Twins, J: TwinLeft<T, T::Entry, T::Device>> Play<TwinSlot<T, T::Device>, Seen<T, T::Entry, T::Device>> for RaiseTwin<T, J> {
+impl<T: Twins, J: TwinLeft<T, T::Entry, T::Device>> Play<
+    TwinSlot<T, T::Device>,
+    Seen<T, T::Entry, T::Device>,
+> for RaiseTwin<T, J> {
     ghost use Rattle.turn_lock.specs.TwinSteps.{twin_raised};
 
     ghost then = { λ _ m _ n. twin_raised T.stood T.front J.log J.empty J.more m n };
@@ -130,7 +143,10 @@ pub struct PassDevice<T, J> {
     left: PhantomData<(T, J)>,
 }
 
-impl<T: Twins, J: TwinLeft<T, T::Entry, T::Device>> Play<TwinSlot<T, T::Device>, Seen<T, T::Entry, T::Device>> for PassDevice<T, J> {
+impl<T: Twins, J: TwinLeft<T, T::Entry, T::Device>> Play<
+    TwinSlot<T, T::Device>,
+    Seen<T, T::Entry, T::Device>,
+> for PassDevice<T, J> {
     ghost use Rattle.turn_lock.specs.TwinSteps.{device_passed};
 
     ghost then = { λ _ m _ n. device_passed J.empty J.more m n };

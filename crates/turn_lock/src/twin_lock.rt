@@ -4,7 +4,10 @@ ghost use Rattle.turn_lock.specs.declared.twin_view.Counted.{Counted};
 ghost use Rattle.turn_lock.specs.declared.twin_view.Cell.TheVariants.{OfValue, OfDevice};
 
 use crate::turns::Turns;
-use crate::twin_law::{DealTwin, LookAtDevice, LookAtValue, MergeTwin, PassDevice, PassValue, QueueDevice, QueueValue, RaiseTwin, ReadTwin, TwinBoard, TwinLeft, TwinOpening, TwinPlace, TwinSlot};
+use crate::twin_law::{
+    DealTwin, LookAtDevice, LookAtValue, MergeTwin, PassDevice, PassValue, QueueDevice, QueueValue,
+    RaiseTwin, ReadTwin, TwinBoard, TwinLeft, TwinOpening, TwinPlace, TwinSlot,
+};
 use crate::twin_pass::TwinPass;
 use crate::twin_view::{Cell, Counted};
 use crate::twins::Twins;
@@ -106,7 +109,12 @@ impl<T: Twins> TwinLock<T> {
             device: Snapshot::of(&counted),
             passes: labels.len(),
         };
-        match Table::new(alloc, &[0, 0, 0, 0, 0], both_slots(slots, value, counted), &about) {
+        match Table::new(
+            alloc,
+            &[0, 0, 0, 0, 0],
+            both_slots(slots, value, counted),
+            &about,
+        ) {
             Ok((table, seat)) => {
                 let lock = TwinLock { table };
                 let passes = lock.deal(seat, labels, passes);
@@ -237,7 +245,13 @@ impl<T: Twins> TwinLock<T> {
     }
 
     // Raises the front, with what only proofs see.
-    fn raise_front<J: TwinLeft<T, T::Entry, T::Device>>(&self, pass: &mut TwinPass<T>, _value: &T, front: u64, _owes: u64)
+    fn raise_front<J: TwinLeft<T, T::Entry, T::Device>>(
+        &self,
+        pass: &mut TwinPass<T>,
+        _value: &T,
+        front: u64,
+        _owes: u64,
+    )
         requires pass { IsPassOf self.now pass.old × HasValue pass.old }
         requires left { (J.log ≡ T.entries _value.now) × (J.empty ≡ T.empty_turns _value.now) × (J.more ≡ raises_value (me_of pass.old).0.more _value.now _owes) }
         requires same_value { T.follows (first_of self.now) _value.now }
@@ -252,7 +266,14 @@ impl<T: Twins> TwinLock<T> {
     }
 
     /// The same while the device is out with the pass as well: both are known as they are put back, the device before the value.
-    pub fn raise_both(&self, pass: &mut TwinPass<T>, held: &TwinHeld<T>, device: &HeldDevice<T::Device>, front: u64, owes: u64)
+    pub fn raise_both(
+        &self,
+        pass: &mut TwinPass<T>,
+        held: &TwinHeld<T>,
+        device: &HeldDevice<T::Device>,
+        front: u64,
+        owes: u64,
+    )
         requires pass { IsPassOf self.now pass.old }
         requires turn { HasBoth pass.old }
         requires same_value { (T.stood held.now.value ≡ T.stood (first_of self.now)) × T.follows (first_of self.now) held.now.value }
@@ -269,7 +290,14 @@ impl<T: Twins> TwinLock<T> {
     }
 
     // Raises the front, with what only proofs see.
-    fn raise_front_of_both<J: TwinLeft<T, T::Entry, T::Device>>(&self, pass: &mut TwinPass<T>, _value: &T, _device: &HeldDevice<T::Device>, front: u64, _owes: u64)
+    fn raise_front_of_both<J: TwinLeft<T, T::Entry, T::Device>>(
+        &self,
+        pass: &mut TwinPass<T>,
+        _value: &T,
+        _device: &HeldDevice<T::Device>,
+        front: u64,
+        _owes: u64,
+    )
         requires pass { IsPassOf self.now pass.old × HasBoth pass.old }
         requires left { (J.log ≡ T.entries _value.now) × (J.empty ≡ T.empty_turns _value.now) × (J.more ≡ raises_both _value.now (record { device = _device.now.device; turns = _device.now.turns }) _owes) }
         requires same_value { T.follows (first_of self.now) _value.now }
@@ -351,7 +379,12 @@ impl<T: Twins> TwinLock<T> {
 
     /// Waits until the ticket is served, and hands out the device for as long as the turn lasts. A thread that has looked often enough
     /// sleeps until the device is put back.
-    pub fn wait_device<R: Wait>(&self, rt: &R, pass: &mut TwinPass<T>, ticket: Ticket) -> HeldDevice<T::Device>
+    pub fn wait_device<R: Wait>(
+        &self,
+        rt: &R,
+        pass: &mut TwinPass<T>,
+        ticket: Ticket,
+    ) -> HeldDevice<T::Device>
         requires pass { IsPassOf self.now pass.old }
         requires waits { WaitsForDevice pass.old ticket.number }
         requires alone { device_part (me_of pass.old).1 ≡ [] }
@@ -442,7 +475,12 @@ impl<T: Twins> TwinLock<T> {
     }
 
     // Puts the device back into its slot, and passes its turn, with what only proofs see.
-    fn pass_device<J: TwinLeft<T, T::Entry, T::Device>>(&self, pass: &mut TwinPass<T>, counted: Counted<T::Device>, _owes: u64)
+    fn pass_device<J: TwinLeft<T, T::Entry, T::Device>>(
+        &self,
+        pass: &mut TwinPass<T>,
+        counted: Counted<T::Device>,
+        _owes: u64,
+    )
         requires pass { IsPassOf self.now pass.old }
         requires turn { (turns : ℕ) × HasDevice pass.old turns × (counted.turns ≡ (turns + 1) % 2 ^ 64) }
         requires left { (J.empty ≡ counted.turns) × (J.more ≡ gave_device (me_of pass.old).0.more counted _owes) }
@@ -523,7 +561,11 @@ fn is_sync<X: Sync>() {}
 fn is_send<X: Send>() {}
 
 // The slots of a table, with the value and the device at home.
-fn both_slots<T, D>(mut slots: Vec<TwinSlot<T, D>>, value: T, device: Counted<D>) -> Vec<TwinSlot<T, D>>
+fn both_slots<T, D>(
+    mut slots: Vec<TwinSlot<T, D>>,
+    value: T,
+    device: Counted<D>,
+) -> Vec<TwinSlot<T, D>>
     requires { (slots.items ≡ []) × (2 ≤ vec_capacity slots) }
     ensures { result.items ≡ OfValue (Some value) ∷ OfDevice (Some device) ∷ [] }
 {

@@ -1,15 +1,18 @@
-use Rattle.std.proofs.Common.{rules, ◌≡◌, ℕ, ◌+◌, ◌<◌, [], length, sym, refl, ap, ◌∙◌, arith, slice_get, slice_index}
+use Rattle.std.proofs.Common.{rules, ◌≡◌, ℕ, ◌+◌, ◌<◌, [], length, sym, ap, ◌∙◌, arith, slice_get, slice_index}
 use Rattle.turn_lock.specs.TwinPasses.{IsNew, first_of, first_device_of, passes_of}
 use Rattle.turn_lock.specs.TwinSteps.{twin_left, twin_dealt}
 use Rattle.turn_lock.proofs.Lists.{each_push}
 use Rattle.turn_lock.proofs.TwinLaws.{deals}
-use Rattle.turn_lock.proofs.TwinDeals.{twin_deals_next, twin_new_pass, twin_dealing}
+use Rattle.turn_lock.proofs.TwinDeals.{twin_deals_next, twin_new_pass}
 use Rattle.turn_lock.proofs.twin_lock.TwinLock.deal.Goals as goal
 
 pub split_seat-requires : goal.split_seat-requires
-split_seat-requires g c = let view = c.loop-label.invariant.view in let t = g.T.Turns in let w = g.T.Twins in
-    (c.loop-label.invariant.seat ∙ c.requires.seat.0, search rules, deals t.entries t.stood t.front t.empty_turns t.follows w.beside w.later w.owed (first_of c.args.self.now) (first_device_of c.args.self.now) (passes_of c.args.self.now) _ _
-    (ap (λ m. m.0.value.stage) view) (ap (λ m. m.0.value.mine) view) (ap (λ m. m.0.value.turns) view) (ap (λ m. m.0.device.stage) view) (ap (λ m. m.0.device.mine) view) (ap (λ m. m.0.device.turns) view) (ap (λ m. m.0.more.owes) view))
+split_seat-requires g c = let view = c.loop-label.invariant.view in let t = g.T.Turns in let w = g.T.Twins in (
+  c.loop-label.invariant.seat ∙ c.requires.seat.0,
+  search rules,
+  deals t.entries t.stood t.front t.empty_turns t.follows w.beside w.later w.owed (first_of c.args.self.now) (first_device_of c.args.self.now) (passes_of c.args.self.now) _ _
+      (ap (λ m. m.0.value.stage) view) (ap (λ m. m.0.value.mine) view) (ap (λ m. m.0.value.turns) view) (ap (λ m. m.0.device.stage) view) (ap (λ m. m.0.device.mine) view) (ap (λ m. m.0.device.turns) view) (ap (λ m. m.0.more.owes) view),
+)
 
 pub loop-label-preserved : goal.loop-label-preserved
 loop-label-preserved g c =
