@@ -1,12 +1,21 @@
 -- The acts of one turn as acts of the table with two turns, and the part of a pass that one turn sees.
-use Rattle.std.proofs.Common.{◌≡◌, ℕ, ◌+◌, List, ◌∷◌}
+use Rattle.std.proofs.Common.{◌≡◌, ℕ, ◌+◌, List, [], ◌∷◌}
 use Rattle.atomic_table.specs.Table.{Me, Act, keeps, takes, gives, chain}
 use Rattle.turn_lock.specs.declared.twin_view.Cell.{Cell}
 use Rattle.turn_lock.specs.declared.twin_view.Cell.TheVariants.{OfValue, OfDevice}
 use Rattle.turn_lock.specs.declared.twin_view.TwinView.{TwinView}
-use Rattle.turn_lock.specs.Twin.{value_part, device_part}
+use Rattle.turn_lock.specs.Twin.{device_part}
 
 module _ {A B : Type 0} where
+  abbrev pub value_onto : ℕ → Cell A B → List (ℕ × A) → List (ℕ × A)
+  value_onto k (OfValue a) l = (k, a) ∷ l
+  value_onto k (OfDevice b) l = l
+
+  -- of the slots that are out with a pass, those of the value's turn
+  abbrev pub value_part : List (ℕ × Cell A B) → List (ℕ × A)
+  value_part [] = []
+  value_part (x ∷ xs) = value_onto x.0 x.1 (value_part xs)
+
   -- an act of the value's turn as one of the table
   abbrev pub up : Act A → Act (Cell A B)
   up keeps = keeps

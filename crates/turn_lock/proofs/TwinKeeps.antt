@@ -5,15 +5,15 @@ use Rattle.turn_lock.specs.declared.view.View.{View}
 use Rattle.turn_lock.specs.declared.view.Stage.TheVariants.{Resting, Waiting, Turn, Raised}
 use Rattle.turn_lock.specs.declared.twin_view.Cell.{Cell}
 use Rattle.turn_lock.specs.declared.twin_view.Cell.TheVariants.{OfValue, OfDevice}
-use Rattle.turn_lock.specs.Acts.{IsLook}
+use Rattle.turn_lock.proofs.Acts.{IsLook}
 use Rattle.turn_lock.specs.Turning.{IsOneTurn, IsBeginning}
 use Rattle.turn_lock.specs.Rule.{Kept, is_held}
 use Rattle.turn_lock.specs.Steps.{queued, looked, raised, passed, read, raising, resting, GoesBack}
-use Rattle.turn_lock.specs.Twin.{value_part, device_part, Together}
+use Rattle.turn_lock.specs.Twin.{device_part, Together}
 use Rattle.turn_lock.specs.Tied.{Seen, MayRaise, MayRaiseBoth, MayPut, Tied}
 use Rattle.turn_lock.specs.TwinSteps.{raises_value, raises_both, gave_device, value_queued, value_looked, value_passed, value_read, twin_raised, device_queued, device_looked, device_passed}
 use Rattle.turn_lock.proofs.Keeps.{takes_ticket_as, looks_as, raises_as, passes_on_as, reads_front_as}
-use Rattle.turn_lock.proofs.TwinActs.{Plain, PlainDown, value_me, device_me}
+use Rattle.turn_lock.proofs.TwinActs.{value_part, Plain, PlainDown, value_me, device_me}
 use Rattle.turn_lock.proofs.TwinParts.{value_allows, device_allows, device_puts}
 use Rattle.turn_lock.proofs.TwinTies.{tie_ticket, tie_look, tie_raise, tie_put, tie_front, tie_device_ticket, tie_device_look, tie_raise_both, tie_device_put}
 

@@ -5,14 +5,14 @@ use mathlib.Core.Option as maybe
 use lib.ListN.{get_elem?}
 use Rattle.atomic_table.specs.Table.{State, Me, Act, keeps, takes, gives, chain, stepped, put_back, rest, carried_after, Valid, Allows}
 use Rattle.atomic_table.proofs.Lists.{set_again, set_here}
-use Rattle.turn_lock.specs.Acts.{AllowsAs}
+use Rattle.turn_lock.proofs.Acts.{AllowsAs}
 use Rattle.turn_lock.proofs.Counts.{at_within}
 use Rattle.turn_lock.specs.declared.twin_view.Cell.{Cell}
 use Rattle.turn_lock.specs.declared.twin_view.Cell.TheVariants.{OfValue, OfDevice}
 use Rattle.turn_lock.specs.declared.twin_view.TwinView.{TwinView}
-use Rattle.turn_lock.specs.Twin.{value_home, device_home, value_part, device_part, value_side, device_side, Together}
+use Rattle.turn_lock.specs.Twin.{value_home, device_home, device_part, value_side, device_side, Together}
 use Rattle.turn_lock.specs.TwinSteps.{with_value, with_device}
-use Rattle.turn_lock.proofs.TwinActs.{up, down, Plain, PlainDown, value_me, device_me}
+use Rattle.turn_lock.proofs.TwinActs.{value_part, up, down, Plain, PlainDown, value_me, device_me}
 
 abbrev W64 : ℕ
 W64 = 18446744073709551616

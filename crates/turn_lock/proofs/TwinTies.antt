@@ -10,7 +10,7 @@ use Rattle.atomic_table.specs.Table.{State, Me, Act, keeps, takes, gives, steppe
 use Rattle.atomic_table.proofs.Lists.{at_set, set_here, set_else}
 use Rattle.turn_lock.specs.declared.view.View.{View}
 use Rattle.turn_lock.specs.declared.view.Stage.TheVariants.{Resting, Waiting, Raised}
-use Rattle.turn_lock.specs.Acts.{IsLook}
+use Rattle.turn_lock.proofs.Acts.{IsLook}
 use Rattle.turn_lock.specs.Turning.{total, IsBeginning}
 use Rattle.turn_lock.specs.Rule.{Kept, is_held}
 use Rattle.turn_lock.specs.Steps.{waiting, resting, queued, looked, raised, passed, read}
@@ -19,10 +19,10 @@ use Rattle.turn_lock.proofs.Keeps.{one_holder}
 use Rattle.turn_lock.specs.declared.twin_view.Cell.{Cell}
 use Rattle.turn_lock.specs.declared.twin_view.Cell.TheVariants.{OfValue, OfDevice}
 use Rattle.turn_lock.specs.declared.twin_view.More.{More}
-use Rattle.turn_lock.specs.Twin.{value_home, device_home, value_part, device_part, value_side, device_side}
+use Rattle.turn_lock.specs.Twin.{value_home, device_home, device_part, value_side, device_side}
 use Rattle.turn_lock.specs.Tied.{Seen, IsOwn, IsDown, Covers, MayRaise, MayRaiseBoth, MayPut, Tied}
 use Rattle.turn_lock.specs.TwinSteps.{with_value, with_device, raises_value, raises_both, gave_device, value_queued, value_looked, value_passed, value_read, twin_raised, device_queued, device_looked}
-use Rattle.turn_lock.proofs.TwinActs.{up, down, value_me, device_me}
+use Rattle.turn_lock.proofs.TwinActs.{value_part, up, down, value_me, device_me}
 use Rattle.turn_lock.proofs.TwinParts.{value_of, device_of, at_map, value_at, device_at}
 
 -- the given that was taken last

@@ -3,7 +3,6 @@ pub mod Rule
 pub mod Steps
 pub mod Passes
 pub mod Merging
-pub mod Acts
 pub mod Twin
 pub mod Tied
 pub mod TwinSteps

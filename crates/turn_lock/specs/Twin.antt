@@ -19,19 +19,11 @@ module _ {A B : Type 0} where
   device_home (some (OfValue a)) = none
   device_home (some (OfDevice b)) = some b
 
-  abbrev pub value_onto : ℕ → Cell A B → List (ℕ × A) → List (ℕ × A)
-  value_onto k (OfValue a) l = (k, a) ∷ l
-  value_onto k (OfDevice b) l = l
-
-  -- of the slots that are out with a pass, those of the value's turn
-  abbrev pub value_part : List (ℕ × Cell A B) → List (ℕ × A)
-  value_part [] = []
-  value_part (x ∷ xs) = value_onto x.0 x.1 (value_part xs)
-
   abbrev pub device_onto : ℕ → Cell A B → List (ℕ × B) → List (ℕ × B)
   device_onto k (OfValue a) l = l
   device_onto k (OfDevice b) l = (k - 1, b) ∷ l
 
+  -- of the slots that are out with a pass, those of the device's turn
   abbrev pub device_part : List (ℕ × Cell A B) → List (ℕ × B)
   device_part [] = []
   device_part (x ∷ xs) = device_onto x.0 x.1 (device_part xs)
