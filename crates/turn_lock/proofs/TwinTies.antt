@@ -462,8 +462,8 @@ module _ {T E D F : Type 0}
       let m : More T D = gave_device me.0.more value owes' in
       let low = down_only s id me.0 other k at held in
       let same : old ≡ k.device = same_Some old k.device (sym down_is ∙ low) in
-      let shown = may.1 k.value (known_value s id me.0 rule k at) (subst (beside k.value) (sym same) k.beside_is) in
-      let grows : later k.device value = subst (λ (d : D). later d value) same may.0 in
+      let shown = may k.value (known_value s id me.0 rule k at) (subst (beside k.value) (sym same) k.beside_is) in
+      let grows : later k.device value = subst (λ (d : D). later d value) same shown.1 in
       let home : put_back s.homes me.1 ≡ set s.homes 1 (some (OfDevice (Some value))) = ap (put_back s.homes) top in
       let there : 1 < length s.homes = second_there s.homes other.home other.homes_are in
       record {
@@ -473,6 +473,6 @@ module _ {T E D F : Type 0}
         device_is = inl (ap (λ hs. get_elem? hs 1) home ∙ set_here s.homes 1 (some (OfDevice (Some value))) there);
         beside_is = shown.0;
         seen_is = saw_set later s.views id me.0 (with_device me.0 w m) k.device value k.seen_is (λ d l. on d k.device value l grows) (λ d saw. subst (λ (z : D). later z value) (same_Some value d saw) (itself value));
-        told = covered s id me.0 (with_device me.0 w m) (owed k.value k.device) (owed k.value value) at (subst (λ (d : D). Covers (owed k.value d) me.0.more.owes (owed k.value value) owes') same shown.1) k.told;
+        told = covered s id me.0 (with_device me.0 w m) (owed k.value k.device) (owed k.value value) at (subst (λ (d : D). Covers (owed k.value d) me.0.more.owes (owed k.value value) owes') same shown.2) k.told;
         idle = idle_set s.views id (with_device me.0 w m) k.idle (λ none. absurd (some_number none));
       }

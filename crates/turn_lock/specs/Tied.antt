@@ -51,7 +51,7 @@ module _ {T D : Type 0} (beside : T → D → Type 0) (later : D → D → Type 
 
   -- The device goes back in place of another one, whatever the value is by now, of those that are possible.
   abbrev pub MayPut : (T → Type 0) → D → ℕ → D → ℕ → Type 0
-  MayPut possible old owes new owes' = later old new × ((value : T) → possible value → beside value old → beside value new × Covers (owed value old) owes (owed value new) owes')
+  MayPut possible old owes new owes' = (value : T) → possible value → beside value old → beside value new × later old new × Covers (owed value old) owes (owed value new) owes'
 
 module _ {T E D F : Type 0} (entries : T → List E) (follows : T → T → Type 0) (first : T) (beside : T → D → Type 0) (later : D → D → Type 0) (owed : T → D → ℕ) where
   -- The value and the device, at home or out with a pass, are what they have to be to each other. No pass saw a later device, and what is owed is owed by passes.

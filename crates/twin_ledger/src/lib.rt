@@ -1,0 +1,8 @@
+//! A journal that threads share with a mirror of it, as an example of a value with a device beside it under a lock with two turns.
+#![tactic(auto)]
+
+mod ledger;
+mod posting;
+
+pub use ledger::{Journal, Mirror};
+pub use posting::{copy, post};
