@@ -1,6 +1,6 @@
 //! The journal, and its mirror.
-ghost use Rattle.std.specs.Prelude.{◌≡◌, ℕ, ◌+◌, ◌-◌, ◌%◌, ◌^◌, ◌<◌, ◌≤◌, ◌++◌, ◌⊎◌, [], ◌∷◌, true, false, length, MatchBool};
-ghost use Rattle.turn_lock.specs.Turning.{IsBeginning};
+ghost use Rattle.std.specs.Prelude.{◌≡◌, ℕ, ◌+◌, ◌-◌, ◌%◌, ◌^◌, ◌<◌, ◌≤◌, ◌++◌, ◌⊎◌, [], ◌∷◌, true, false, List, length, drop, MatchBool};
+ghost use Rattle.turn_lock.specs.Turning.{IsBeginning, IsOneTurn};
 
 use std::alloc::Global;
 use turn_lock::{Turns, Twins};
@@ -89,6 +89,15 @@ impl Journal {
         false
     }
 
+    /// Posts a number in one turn, and returns the number that it acknowledges then: 0 if memory ran out.
+    pub fn post_one(&mut self, number: u64) -> u64
+        ensures turn { IsOneTurn (λ n. n) self.old.posts.items self.old.empty self.new.posts.items self.new.empty result }
+        ensures more { (more : List ℕ) × (self.new.posts.items ≡ self.old.posts.items ++ more) }
+        ensures same { (self.new.before ≡ self.old.before) × (self.new.name ≡ self.old.name) × (self.new.told ≡ self.old.told) }
+    {
+        if self.post(number) { number } else { 0 }
+    }
+
     /// Counts a turn that posts nothing.
     pub fn pass(&mut self)
         ensures passed { (self.new.posts ≡ self.old.posts) × (self.new.empty ≡ (self.old.empty + 1) % 2 ^ 64) }
@@ -138,5 +147,24 @@ impl Mirror {
             self.copied = posts;
         }
         true
+    }
+
+    /// Copies what these posts have after its own, and returns how often it failed: 0 where it works, else 1. One that has more than
+    /// these posts fails.
+    pub fn follow(&mut self, posts: &[u64]) -> u64
+        ensures { ((result ≡ 0) × (self.new.failed ≡ false) × (self.old.failed ≡ false) × (self.new.copied.items ≡ self.old.copied.items ++ drop (length self.old.copied.items) posts.now))
+            ⊎ ((result ≡ 1) × (self.new.failed ≡ true) × (self.new.copied.items ≡ self.old.copied.items)) }
+    {
+        let from = self.copied.len();
+        if self.failed || self.calls == 0 || from > posts.len() {
+            self.failed = true;
+            return 1;
+        }
+        self.calls -= 1;
+        if self.copied.extend_from_slice(&posts[from..]).is_ok() {
+            return 0;
+        }
+        self.failed = true;
+        1
     }
 }

@@ -5,4 +5,4 @@ mod ledger;
 mod posting;
 
 pub use ledger::{Journal, Mirror};
-pub use posting::{copy, post};
+pub use posting::{copy, post, post_all, post_through};

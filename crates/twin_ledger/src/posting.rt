@@ -25,22 +25,28 @@ pub fn post<R: Wait>(
 {
     let ticket = lock.queue(pass);
     let mut held = lock.wait(rt, pass, ticket);
-    let posted = held.value.post(number);
-    lock.raise(pass, &held, if posted { number } else { 0 }, 0);
-    lock.put(pass, held);
-    posted
+    if held.value.post(number) {
+        lock.raise(pass, &held, number, 0);
+        lock.put(pass, held);
+        true
+    } else {
+        lock.raise(pass, &held, 0, 0);
+        lock.put(pass, held);
+        false
+    }
 }
 
 /// Copies all posts into the mirror, and tells the journal where it fails. Other threads post while the mirror copies.
 pub fn copy<R: Wait>(
     rt: &R,
+    alloc: Global,
     lock: &TwinLock<Journal>,
     pass: &mut TwinPass<Journal>,
 ) -> Result<(), AllocError>
     requires pass { IsReady lock.now pass.old }
     ensures pass { IsReady lock.now pass.new × (pass_numbers pass.new ≡ pass_numbers pass.old) × (entries_of (mine_of pass.new) ≡ entries_of (mine_of pass.old)) }
 {
-    let (shown, ticket) = show(rt, lock, pass)?;
+    let (shown, ticket) = show(rt, alloc, lock, pass)?;
     if copy_shown(rt, lock, pass, shown, ticket) > 0 {
         tell(rt, lock, pass);
     }
@@ -50,6 +56,7 @@ pub fn copy<R: Wait>(
 // Takes a copy of the posts, and a ticket of the mirror's turn while nobody else can post.
 fn show<R: Wait>(
     rt: &R,
+    alloc: Global,
     lock: &TwinLock<Journal>,
     pass: &mut TwinPass<Journal>,
 ) -> Result<(Vec<u64>, Ticket), AllocError>
@@ -60,10 +67,11 @@ fn show<R: Wait>(
 {
     let ticket = lock.queue(pass);
     let mut held = lock.wait(rt, pass, ticket);
-    let shown = held.value.posts.clone();
+    let mut shown = Vec::new(alloc);
+    let copied = shown.extend_from_slice(held.value.posts.as_slice());
     held.value.pass();
-    match shown {
-        Ok(shown) => {
+    match copied {
+        Ok(()) => {
             let ticket = lock.queue_device(pass);
             lock.raise(pass, &held, 0, 0);
             lock.put(pass, held);
@@ -90,10 +98,13 @@ fn copy_shown<R: Wait>(
     ensures same { (pass_numbers pass.new ≡ pass_numbers pass.old) × (mine_of pass.new ≡ mine_of pass.old) }
 {
     let mut held = lock.wait_device(rt, pass, ticket);
-    let copied = held.device.copy(shown);
-    let owes = if copied { 0 } else { 1 };
-    lock.put_device(pass, held, owes);
-    owes
+    if held.device.copy(shown) {
+        lock.put_device(pass, held, 0);
+        0
+    } else {
+        lock.put_device(pass, held, 1);
+        1
+    }
 }
 
 // Tells the journal that the mirror failed, where nobody has told it.
@@ -106,4 +117,62 @@ fn tell<R: Wait>(rt: &R, lock: &TwinLock<Journal>, pass: &mut TwinPass<Journal>)
     held.value.tell();
     lock.raise(pass, &held, 0, 0);
     lock.put(pass, held);
+}
+
+/// Posts a number in a turn with both, in which the mirror follows, and tells the journal where it fails. Nobody else posts or copies meanwhile.
+pub fn post_through<R: Wait>(
+    rt: &R,
+    lock: &TwinLock<Journal>,
+    pass: &mut TwinPass<Journal>,
+    number: u64,
+)
+    requires pass { IsReady lock.now pass.old }
+    ensures pass { IsReady lock.now pass.new × (pass_numbers pass.new ≡ pass_numbers pass.old) }
+{
+    if post_and_follow(rt, lock, pass, number) > 0 {
+        tell(rt, lock, pass);
+    }
+}
+
+// The turn with both, which returns how many failures the pass has to tell then.
+fn post_and_follow<R: Wait>(
+    rt: &R,
+    lock: &TwinLock<Journal>,
+    pass: &mut TwinPass<Journal>,
+    number: u64,
+) -> u64
+    requires pass { IsReady lock.now pass.old }
+    ensures owing { IsOwing lock.now pass.new result × (result ≤ 1) }
+    ensures same { pass_numbers pass.new ≡ pass_numbers pass.old }
+{
+    let ticket = lock.queue(pass);
+    let mut held = lock.wait(rt, pass, ticket);
+    let place = lock.queue_device(pass);
+    let mut mirror = lock.wait_device(rt, pass, place);
+    let front = held.value.post_one(number);
+    let owes = mirror.device.follow(held.value.posts.as_slice());
+    lock.raise_both(pass, &held, &mirror, front, owes);
+    lock.put_device(pass, mirror, owes);
+    lock.put(pass, held);
+    owes
+}
+
+/// Posts numbers with the journal alone, each of which is then copied, and the last of them once more with both. It stops where memory runs out.
+pub fn post_all<R: Wait>(
+    rt: &R,
+    alloc: Global,
+    lock: &TwinLock<Journal>,
+    mut pass: TwinPass<Journal>,
+    numbers: &[u64],
+) -> TwinPass<Journal>
+    requires pass { IsReady lock.now pass }
+    ensures pass { IsReady lock.now result × (pass_numbers result ≡ pass_numbers pass) }
+{
+    for number in numbers {
+        post(rt, lock, &mut pass, *number);
+        if copy(rt, alloc, lock, &mut pass).is_err() {
+            return pass;
+        }
+    }
+    pass
 }
