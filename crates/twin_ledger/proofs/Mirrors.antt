@@ -1,12 +1,14 @@
 -- What turns with a journal and with its mirror keep.
-use Rattle.std.proofs.Common.{◌≡◌, ℕ, zero, suc, ◌+◌, ◌-◌, ◌≤◌, ◌⊎◌, Bool, true, false, List, [], ◌∷◌, ◌++◌, length, drop, get_or, sym, refl, ap, ◌∙◌, subst, ⊎_elim, arith, append-nil, Option, Some}
-use Rattle.turn_lock.specs.Turning.{IsBeginning}
+use Rattle.std.proofs.Common.{◌≡◌, ℕ, zero, suc, ◌+◌, ◌-◌, ◌≤◌, ◌<◌, ◌⊎◌, Bool, true, false, List, [], ◌∷◌, ◌++◌, length, drop, get_or, sym, refl, ap, ◌∙◌, subst, ⊎_elim, arith, append-nil, Option, Some}
+use Rattle.turn_lock.specs.Turning.{IsBeginning, times}
 use Rattle.turn_lock.specs.Tied.{MayRaise, MayRaiseBoth, MayPut, Covers}
 use Rattle.turn_lock.proofs.TurnLaws.{begins_itself, begins_more}
 use Rattle.turn_lock.proofs.TwinTies.{no_bool}
 use Rattle.twin_ledger.specs.declared.ledger.Journal.{Journal}
 use Rattle.twin_ledger.specs.declared.ledger.Mirror.{Mirror}
 use Rattle.twin_ledger.specs.Mirrored.{Mirrors, IsGrown, flag}
+use Rattle.twin_ledger.specs.Ready.{Lock, Pass, IsReady}
+use Rattle.turn_lock.specs.TwinPasses.{IsNew}
 
 abbrev pub Beside : Journal → Mirror → Type 0
 Beside j m = Mirrors j.posts.items j.told m.copied.items m.failed
@@ -104,3 +106,18 @@ following old new down device more shown owes owes' same posts told does b =
 -- the mirror goes back as it was raised
 pub as_raised : (possible : Journal → Type 0) (m : Mirror) (owes owes' : ℕ) → owes ≡ owes' → MayPut Beside Later Owed possible m owes m owes'
 as_raised possible m owes owes' same v may b = (b, record { more = begins_itself m.copied.items; still = λ e. e }, λ others h. omega (arith, h, same))
+
+pub ready : {lock : Lock} {pass : Pass} {number label : ℕ} {log : List ℕ} → IsNew lock number label log pass → IsReady lock pass
+ready new = record { of_lock = new.of_lock; at_rest = new.at_rest; nothing = new.owes }
+
+pub two_numbers : (n : ℕ) → n < 2 → 0 < times n (0 ∷ 1 ∷ [])
+two_numbers zero h = omega arith
+two_numbers (suc zero) h = omega arith
+two_numbers (suc (suc n)) h = absurd (omega (arith, h))
+
+pub four_numbers : (n : ℕ) → n < 4 → 0 < times n (0 ∷ 1 ∷ 2 ∷ 3 ∷ [])
+four_numbers zero h = omega arith
+four_numbers (suc zero) h = omega arith
+four_numbers (suc (suc zero)) h = omega arith
+four_numbers (suc (suc (suc zero))) h = omega arith
+four_numbers (suc (suc (suc (suc n)))) h = absurd (omega (arith, h))

@@ -3,6 +3,8 @@
 
 mod ledger;
 mod posting;
+mod threads;
 
 pub use ledger::{Journal, Mirror};
 pub use posting::{copy, post, post_all, post_through};
+pub use threads::{both, post_four, post_two};
