@@ -115,9 +115,13 @@ two_numbers zero h = omega arith
 two_numbers (suc zero) h = omega arith
 two_numbers (suc (suc n)) h = absurd (omega (arith, h))
 
-pub four_numbers : (n : ℕ) → n < 4 → 0 < times n (0 ∷ 1 ∷ 2 ∷ 3 ∷ [])
-four_numbers zero h = omega arith
-four_numbers (suc zero) h = omega arith
-four_numbers (suc (suc zero)) h = omega arith
-four_numbers (suc (suc (suc zero))) h = omega arith
-four_numbers (suc (suc (suc (suc n)))) h = absurd (omega (arith, h))
+pub eight_numbers : (n : ℕ) → n < 8 → 0 < times n (0 ∷ 1 ∷ 2 ∷ 3 ∷ 4 ∷ 5 ∷ 6 ∷ 7 ∷ [])
+eight_numbers zero h = omega arith
+eight_numbers (suc zero) h = omega arith
+eight_numbers (suc (suc zero)) h = omega arith
+eight_numbers (suc (suc (suc zero))) h = omega arith
+eight_numbers (suc (suc (suc (suc zero)))) h = omega arith
+eight_numbers (suc (suc (suc (suc (suc zero))))) h = omega arith
+eight_numbers (suc (suc (suc (suc (suc (suc zero)))))) h = omega arith
+eight_numbers (suc (suc (suc (suc (suc (suc (suc zero))))))) h = omega arith
+eight_numbers (suc (suc (suc (suc (suc (suc (suc (suc n)))))))) h = absurd (omega (arith, h))

@@ -7,4 +7,4 @@ mod threads;
 
 pub use ledger::{Journal, Mirror};
 pub use posting::{copy, post, post_all, post_through};
-pub use threads::{both, post_four, post_two};
+pub use threads::{both, post_eight, post_two};
