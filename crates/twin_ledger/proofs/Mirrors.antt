@@ -1,7 +1,7 @@
 -- What turns with a journal and with its mirror keep.
-use Rattle.std.proofs.Common.{◌≡◌, ℕ, zero, suc, ◌+◌, ◌-◌, ◌≤◌, ◌<◌, ◌⊎◌, Bool, true, false, List, [], ◌∷◌, ◌++◌, length, drop, get_or, sym, refl, ap, ◌∙◌, subst, ⊎_elim, arith, append-nil, Option, Some}
+use Rattle.std.proofs.Common.{◌≡◌, ℕ, zero, suc, ◌-◌, ◌≤◌, ◌<◌, ◌⊎◌, Bool, true, false, List, [], ◌∷◌, ◌++◌, length, drop, get_or, sym, refl, ap, ◌∙◌, subst, ⊎_elim, arith, Option, Some}
 use Rattle.turn_lock.specs.Turning.{IsBeginning, times}
-use Rattle.turn_lock.specs.Tied.{MayRaise, MayRaiseBoth, MayPut, Covers}
+use Rattle.turn_lock.specs.Tied.{MayRaise, MayRaiseBoth, MayPut}
 use Rattle.turn_lock.proofs.TurnLaws.{begins_itself, begins_more}
 use Rattle.turn_lock.proofs.TwinTies.{no_bool}
 use Rattle.twin_ledger.specs.declared.ledger.Journal.{Journal}

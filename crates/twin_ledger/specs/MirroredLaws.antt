@@ -1,5 +1,5 @@
 -- Laws of mirrors.
-use Rattle.std.proofs.Common.{◌≡◌, ◌∙◌, ℕ, Bool, List, ◌++◌, [], ap, sym, append_assoc, append-nil}
+use Rattle.std.proofs.Common.{◌∙◌, ℕ, Bool, List, ◌++◌, [], ap, sym, append_assoc, append-nil}
 use Rattle.twin_ledger.specs.Mirrored.{IsGrown}
 
 pub is_grown_itself : (copied : List ℕ) (failed : Bool) → IsGrown copied failed copied failed

@@ -1,5 +1,5 @@
 -- What functions that post ask of a pass.
-use Rattle.std.specs.Prelude.{◌≡◌, ℕ, ◌≤◌, length, true, List, [], Some}
+use Rattle.std.specs.Prelude.{◌≡◌, ℕ, true, List, [], Some}
 use Rattle.twin_ledger.specs.declared.ledger.Journal.{Journal}
 use Rattle.twin_ledger.specs.declared.ledger.Mirror.{Mirror}
 use Rattle.turn_lock.specs.declared.twin_lock.TwinLock.{TwinLock}

@@ -4,9 +4,14 @@ use Rattle.twin_ledger.proofs.Mirrors.{following, as_raised}
 use Rattle.twin_ledger.proofs.posting.post_and_follow.Goals as goal
 
 pub raise_both-requires-clause-beside : goal.raise_both-requires-clause-beside
-raise_both-requires-clause-beside g c = let more = c.post_one-front.ensures.more in let shown : c.as_slice.result.now ≡ c.post_one-front.new.self.posts.items = search rules in
-    (c.wait-held.result.value, c.wait_device-mirror.result.device, search rules, c.wait_device-mirror.ensures.device.0, following c.wait-held.result.value c.post_one-front.new.self c.wait_device-mirror.result.device c.follow-owes.new.self more.0 _ _ _ shown more.1
-    c.post_one-front.ensures.same.2 c.follow-owes.ensures)
+raise_both-requires-clause-beside g c = let more = c.post_one-front.ensures.more in let shown : c.as_slice.result.now ≡ c.post_one-front.new.self.posts.items = search rules in (
+  c.wait-held.result.value,
+  c.wait_device-mirror.result.device,
+  search rules,
+  c.wait_device-mirror.ensures.device.0,
+  following c.wait-held.result.value c.post_one-front.new.self c.wait_device-mirror.result.device c.follow-owes.new.self more.0 _ _ _ shown more.1
+      c.post_one-front.ensures.same.2 c.follow-owes.ensures,
+)
 
 pub put_device-requires-clause-beside : goal.put_device-requires-clause-beside
 put_device-requires-clause-beside g c = let raised = c.raise_both.ensures in (c.follow-owes.new.self, raised.raised.1, as_raised _ c.follow-owes.new.self _ _ raised.owes)

@@ -1,4 +1,4 @@
-use Rattle.std.proofs.Common.{rules, ◌≡◌, Some, refl, ap, ◌∙◌}
+use Rattle.std.proofs.Common.{◌≡◌, refl, ap, ◌∙◌}
 use Rattle.turn_lock.specs.TwinPasses.{saw_of, uncounted}
 use Rattle.twin_ledger.proofs.Mirrors.{telling}
 use Rattle.twin_ledger.proofs.posting.tell.Goals as goal

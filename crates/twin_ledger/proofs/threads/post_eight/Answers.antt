@@ -1,4 +1,4 @@
-use Rattle.std.proofs.Common.{rules, ◌≡◌, ◌<◌, ◌++◌, [], ◌∷◌, ap₂, ◌∙◌, subst, sym, List, ℕ}
+use Rattle.std.proofs.Common.{◌≡◌, ◌<◌, ◌++◌, [], ◌∷◌, ap₂, ◌∙◌, subst, sym, List, ℕ}
 use Rattle.turn_lock.specs.TwinPasses.{pass_numbers}
 use Rattle.turn_lock.specs.Turning.{times}
 use Rattle.twin_ledger.proofs.Mirrors.{ready, eight_numbers}
