@@ -1,14 +1,15 @@
 //! Two threads, of which one posts while the other has the mirror.
-ghost use Rattle.std.specs.Prelude.{◌≡◌, ◌++◌};
-ghost use Rattle.turn_lock.specs.TwinPasses.{pass_numbers};
+ghost use Rattle.std.specs.Prelude.{◌≡◌, ◌++◌, [], ◌∷◌, IfOk};
+ghost use Rattle.turn_lock.specs.TwinPasses.{pass_numbers, passes_of};
 ghost use Rattle.twin_ledger.specs.Ready.{IsReady};
 
 use crossbeam_utils::Backoff;
+use std::alloc::{AllocError, Global};
 use std::sync::Wait;
 use std::sync::atomic::{AtomicU64, Ordering};
 use std::thread::{Threads, join};
 use turn_lock::{TwinLock, TwinPass};
-use twin_ledger::{Journal, post};
+use twin_ledger::{Journal, Mirror, both, post};
 
 // How often a thread looks at most whether the other has come so far.
 const LOOKS: u32 = 1_000_000;
@@ -86,4 +87,33 @@ pub fn posts_meanwhile<R: Threads + Wait + Sync>(
     );
     lock.join(&mut one, two);
     (one, saw && had)
+}
+
+/// A journal and a mirror that fails after so many calls, with two passes.
+pub fn begin(
+    alloc: Global,
+    calls: u64,
+) -> Result<(TwinLock<Journal>, TwinPass<Journal>, TwinPass<Journal>), AllocError>
+    ensures ready { IfOk result (λ r. IsReady r.0 r.1 × IsReady r.0 r.2) }
+    ensures numbers { IfOk result (λ r. (passes_of r.0 ≡ 2) × (pass_numbers r.1 ≡ 0 ∷ []) × (pass_numbers r.2 ≡ 1 ∷ [])) }
+{
+    let begun = TwinLock::new(
+        alloc,
+        Journal::new(alloc, 1),
+        Mirror::new(alloc, calls),
+        &[1, 2],
+    );
+    let Ok((lock, passes)) = begun else {
+        return Err(AllocError);
+    };
+    let (one, two) = both(passes);
+    Ok((lock, one, two))
+}
+
+/// Ends the lock, with the pass that both became.
+pub fn end(lock: TwinLock<Journal>, pass: TwinPass<Journal>) -> (Journal, Mirror)
+    requires ready { IsReady lock pass }
+    requires numbers { (passes_of lock ≡ 2) × (pass_numbers pass ≡ 0 ∷ 1 ∷ []) }
+{
+    lock.close(pass)
 }
