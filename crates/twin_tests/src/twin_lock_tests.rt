@@ -50,11 +50,22 @@ fn two_threads_post_and_copy(rt: HostRuntime) -> Result<(), Fail> {
     let alloc = rt.alloc();
     let posts = numbers(alloc)?;
     for calls in [ENOUGH, 0, 1, 2, 50, 199] {
-        let played = post_two(&rt, alloc, Journal::new(alloc, 1), Mirror::new(alloc, calls), posts.as_slice());
+        let played = post_two(
+            &rt,
+            alloc,
+            Journal::new(alloc, 1),
+            Mirror::new(alloc, calls),
+            posts.as_slice(),
+        );
         let Ok((journal, mirror)) = played else {
             panic!(rt; "memory was refused")
         };
-        assert!(rt; journal.posts.len() == 200 && has_each(&journal.posts, false)? && is_left(&journal, &mirror, calls), "{calls}");
+        assert!(rt;
+            journal.posts.len() == 200
+                && has_each(&journal.posts, false)?
+                && is_left(&journal, &mirror, calls),
+            "{calls}"
+        );
     }
     Ok(())
 }
@@ -64,11 +75,22 @@ fn eight_threads_post_and_copy(rt: HostRuntime) -> Result<(), Fail> {
     let alloc = rt.alloc();
     let posts = numbers(alloc)?;
     for calls in [ENOUGH, 0, 7, 300] {
-        let played = post_eight(&rt, alloc, Journal::new(alloc, 1), Mirror::new(alloc, calls), posts.as_slice());
+        let played = post_eight(
+            &rt,
+            alloc,
+            Journal::new(alloc, 1),
+            Mirror::new(alloc, calls),
+            posts.as_slice(),
+        );
         let Ok((journal, mirror)) = played else {
             panic!(rt; "memory was refused")
         };
-        assert!(rt; journal.posts.len() == 800 && has_each(&journal.posts, true)? && is_left(&journal, &mirror, calls), "{calls}");
+        assert!(rt;
+            journal.posts.len() == 800
+                && has_each(&journal.posts, true)?
+                && is_left(&journal, &mirror, calls),
+            "{calls}"
+        );
     }
     Ok(())
 }
@@ -105,7 +127,10 @@ fn a_failure_is_told_once(rt: HostRuntime) -> Result<(), Fail> {
     ] {
         let (journal, mirror, front) = by_turns(&rt, rt.alloc(), calls)?;
         assert!(rt; journal.posts.as_slice() == [5, 9, 3, 4, 6].as_slice() && front == 9);
-        assert!(rt; mirror.copied.len() == copied && journal.told == told && mirror.failed == (told == 1), "{calls}");
+        assert!(rt;
+            mirror.copied.len() == copied && journal.told == told && mirror.failed == (told == 1),
+            "{calls}"
+        );
     }
     Ok(())
 }
