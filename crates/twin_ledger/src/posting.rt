@@ -157,7 +157,7 @@ fn post_and_follow<R: Wait>(
     owes
 }
 
-/// Posts numbers with the journal alone, each of which is then copied, and the last of them once more with both. It stops where memory runs out.
+/// Posts numbers with the journal alone, and copies all posts after each. It stops where there is no memory for a copy.
 pub fn post_all<R: Wait>(
     rt: &R,
     alloc: Global,
