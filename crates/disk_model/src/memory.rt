@@ -373,6 +373,7 @@ impl Disk for MemoryDisk {
     ghost use Rattle.disk_model.specs.Disk.{overwrite, part, Torn, WidensBy, Narrows, Only, Elapses};
     ghost use Rattle.disk_model.specs.Memory.{MayLeave, MightHaveLeft, changes_of, now_of, left_by, answer, read_fails, write_fails, sync_fails, after_read, after_write, after_sync, after_restart};
     ghost use Rattle.disk_model.specs.MemoryLaws.{counts_now, only_now, reads_an_image};
+    ghost use Rattle.disk_model.specs.declared.memory.Pick.{Pick};
 
     ghost tells = { true };
 
@@ -394,9 +395,10 @@ impl Disk for MemoryDisk {
 
     ghost restarts = { λ disk. disk.restarts };
 
-    ghost Origin = { Unit {0} };
+    // How a restart picks.
+    ghost Origin = { Pick };
 
-    ghost origin = { λ disk. tt };
+    ghost origin = { λ disk. disk.pick };
 
     fn size(&self) -> u64 {
         self.newest.len() as u64
