@@ -190,6 +190,15 @@ impl<D: Disk> Heap<D> {
         self.core.objects(alloc)
     }
 
+    /// Takes the heap apart: its steps can be made on its disk further on.
+    pub fn into_parts(self) -> (HeapCore, D)
+        ensures parts { result ≡ (self.core, self.disk) }
+        ensures inside { LiesWithin result.0.engine (D.extent result.1) }
+    {
+        let Heap { disk, core } = self;
+        (core, disk)
+    }
+
     /// Gives the disk back.
     pub fn close(self) -> D
         ensures { result ≡ heap_disk self }
