@@ -19,13 +19,13 @@ enum {
     HC_ZEROS,    /* a zeros more of it */
     HC_FORMAT,   /* an empty heap in it: pages, log bytes, first transaction number */
     HC_OPEN,
-    HC_TOLD,  /* gives how many changes are told */
+    HC_TOLD,  /* how many changes are told: HC_NUMBER */
     HC_ITEM,  /* what change a is: HC_WRITE with its place and length, or HC_SYNC */
-    HC_BYTES, /* gives eight bytes of what change a writes, from its byte b on */
+    HC_BYTES, /* eight bytes of what change a writes, from its byte b on: HC_NUMBER */
     HC_DONE,  /* all that was told is made */
     HC_FAIL,  /* a call of the host's failed */
-    HC_LAST,  /* gives number a of the last answer */
-    HC_FIGURE,
+    HC_LAST,  /* gives number a of the last answer, in place of a code */
+    HC_FIGURE, /* figure a of the heap: HC_NUMBER */
     HC_CLOSE
 };
 
@@ -46,7 +46,8 @@ enum {
     HC_WRITE,
     HC_SYNC,
     HC_NO_ITEM,
-    HC_UNSYNCED
+    HC_UNSYNCED,
+    HC_NUMBER /* the number that was asked for is the first one of the answer */
 };
 
 #endif

@@ -75,6 +75,11 @@ static uint64_t last(sh_heap *heap, uint64_t number) {
     return call(heap, HC_LAST, number, 0, 0);
 }
 
+/* The number that is asked for, or 0 where there is none. */
+static uint64_t number_of(sh_heap *heap, uint64_t op, uint64_t a, uint64_t b) {
+    return call(heap, op, a, b, 0) == HC_NUMBER ? last(heap, 0) : 0;
+}
+
 /* ---- the file */
 
 static bool write_whole(int file, const unsigned char *bytes, size_t length, off_t at) {
@@ -92,7 +97,7 @@ static bool write_whole(int file, const unsigned char *bytes, size_t length, off
 /* The bytes of a told write from one on, at most a piece of them. */
 static void copy_told(sh_heap *heap, uint64_t item, uint64_t from, unsigned char *piece, size_t length) {
     for (size_t done = 0; done < length; done += 8) {
-        uint64_t word = call(heap, HC_BYTES, item, from + done, 0);
+        uint64_t word = number_of(heap, HC_BYTES, item, from + done);
         for (size_t i = 0; i < 8 && done + i < length; i++) piece[done + i] = (unsigned char)(word >> (8 * i));
     }
 }
@@ -111,13 +116,14 @@ static bool make_write(sh_heap *heap, uint64_t item) {
 
 static bool make_item(sh_heap *heap, uint64_t item) {
     uint64_t kind = call(heap, HC_ITEM, item, 0, 0);
-    return kind == HC_WRITE ? make_write(heap, item) : fdatasync(heap->file) == 0;
+    if (kind == HC_WRITE) return make_write(heap, item);
+    return kind == HC_SYNC && fdatasync(heap->file) == 0;
 }
 
 /* Makes what was told, in its order. After a call that failed none is made any more, and the heap can only be closed. */
 static bool drain(sh_heap *heap) {
-    uint64_t told = call(heap, HC_TOLD, 0, 0, 0);
-    if (told == heap->drained) return true;
+    uint64_t told = number_of(heap, HC_TOLD, 0, 0);
+    if (told <= heap->drained) return true;
     for (; heap->drained < told; heap->drained++) {
         if (!make_item(heap, heap->drained)) {
             call(heap, HC_FAIL, 0, 0, 0);
@@ -314,7 +320,7 @@ static sh_result ask_in(sh_transaction *transaction, sh_reply *reply, uint64_t o
 }
 
 static bool is_idle(sh_heap *heap) {
-    return call(heap, HC_FIGURE, HC_ACTIVE, 0, 0) == 0 && call(heap, HC_FIGURE, HC_PENDING, 0, 0) == 0;
+    return number_of(heap, HC_FIGURE, HC_ACTIVE, 0) == 0 && number_of(heap, HC_FIGURE, HC_PENDING, 0) == 0;
 }
 
 static sh_result open_again(sh_heap *heap) {
@@ -324,7 +330,7 @@ static sh_result open_again(sh_heap *heap) {
 
 /* Opens the heap again where its history has grown long, and nothing of it would be lost. */
 static void shorten_history(sh_heap *heap, uint64_t durable) {
-    if (call(heap, HC_FIGURE, HC_HISTORY, 0, 0) < MOST_EVENTS || !is_idle(heap)) return;
+    if (number_of(heap, HC_FIGURE, HC_HISTORY, 0) < MOST_EVENTS || !is_idle(heap)) return;
     if (open_again(heap) == SH_OK) heap->before += durable;
 }
 
@@ -373,6 +379,18 @@ static sh_heap *new_heap(void) {
     return heap;
 }
 
+/* The exit status with which the heap's process would have ended. */
+static int status_of(sh_result result) {
+    switch (result) {
+        case SH_NO_MEMORY: return 1;
+        case SH_DISK_FAULT: return 6;
+        case SH_NOT_A_HEAP: return 7;
+        case SH_DAMAGED: return 8;
+        case SH_IN_USE: return 10;
+        default: return 2;
+    }
+}
+
 sh_heap *sh_open_here(const char *folder, unsigned pages, unsigned log_bytes, sh_error *error) {
     off_t size = 0;
     sh_heap *heap = new_heap();
@@ -385,6 +403,7 @@ sh_heap *sh_open_here(const char *folder, unsigned pages, unsigned log_bytes, sh
     if (result == SH_OK) result = open_heap(heap);
     if (result == SH_OK) return heap;
     *error = heap->error;
+    error->status = status_of(result);
     free_heap(heap);
     return NULL;
 }
@@ -396,8 +415,11 @@ sh_heap *sh_open(const char *folder, const char *const *command, unsigned pages,
 
 void sh_close(sh_heap *heap) {
     if (getpid() == heap->owner) {
-        for (sh_transaction *t = heap->transactions; t < heap->transactions + SESSIONS; t++) {
-            if (t->active) sh_abort(t);
+        sh_reply reply;
+        /* (a session may have got its transaction by a batch; one that has none is refused, which changes nothing) */
+        for (uint64_t session = 1; session <= SESSIONS; session++) {
+            sh_event event = {SH_EVENT_ABORT, session, 0, 0, 0};
+            locked_event(heap, &event, &reply);
         }
         sh_force(heap, NULL);
     }

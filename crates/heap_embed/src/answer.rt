@@ -1,4 +1,7 @@
 //! What a host is answered, and the numbers that spell it.
+ghost use Rattle.std.specs.Prelude.{◌≡◌};
+ghost use Rattle.heap_embed.specs.Spelling as spelling;
+
 use graph_model::{Refusal, Reply};
 use heap_core::{At, FormatError, OpenError};
 
@@ -45,7 +48,7 @@ pub struct Numbers {
     pub third: u64,
 }
 
-/// The numbers that spell an answer: its code, and those that go with it. The answer to a question for a number is that number, in place of a code.
+/// The numbers that spell an answer: its code, and those that go with it.
 #[derive(Clone, Copy, Debug, PartialEq, Eq)]
 pub struct Spelled {
     pub code: u64,
@@ -60,6 +63,11 @@ pub const NONE: Numbers = Numbers {
 };
 
 impl From<OpenError> for Answer {
+    ghost use Rattle.std.specs.Prelude.{◌≡◌};
+    ghost use Rattle.heap_embed.specs.Told.{open_answer};
+
+    ghost from_gives = { λ e answer. answer ≡ open_answer e };
+
     fn from(e: OpenError) -> Self {
         match e {
             OpenError::NoMemory => Answer::NoMemory,
@@ -80,12 +88,16 @@ impl From<FormatError> for Answer {
 }
 
 /// A code with no number.
-fn bare(code: u64) -> Spelled {
+fn bare(code: u64) -> Spelled
+    ensures { result ≡ spelling.bare code }
+{
     with(code, 0, 0, 0)
 }
 
 /// A code with its numbers.
-fn with(code: u64, first: u64, second: u64, third: u64) -> Spelled {
+fn with(code: u64, first: u64, second: u64, third: u64) -> Spelled
+    ensures { result ≡ spelling.with code first second third }
+{
     let numbers = Numbers {
         first,
         second,
@@ -95,7 +107,9 @@ fn with(code: u64, first: u64, second: u64, third: u64) -> Spelled {
 }
 
 /// The numbers that spell the answer.
-pub fn spell(answer: Answer) -> Spelled {
+pub fn spell(answer: Answer) -> Spelled
+    ensures { result ≡ spelling.spelled answer }
+{
     match answer {
         Answer::Done => bare(0),
         Answer::NoMemory => bare(1),
@@ -110,13 +124,15 @@ pub fn spell(answer: Answer) -> Spelled {
         Answer::Sync => bare(10),
         Answer::NoItem => bare(11),
         Answer::Unsynced => bare(12),
-        Answer::Number { n } => bare(n),
+        Answer::Number { n } => with(13, n, 0, 0),
         Answer::Reply { reply } => spell_reply(reply),
     }
 }
 
 /// A damaged heap: the kind of the place, and its number.
-fn spell_place(at: At) -> Spelled {
+fn spell_place(at: At) -> Spelled
+    ensures { result ≡ spelling.spelled_place at }
+{
     match at {
         At::Batch(offset) => with(3, 0, offset, 0),
         At::Rec(lsn) => with(3, 1, lsn, 0),
@@ -126,7 +142,9 @@ fn spell_place(at: At) -> Spelled {
     }
 }
 
-fn spell_reply(reply: Reply) -> Spelled {
+fn spell_reply(reply: Reply) -> Spelled
+    ensures { result ≡ spelling.spelled_reply reply }
+{
     match reply {
         Reply::Begun { n } => with(32, n, 0, 0),
         Reply::Done => bare(33),
@@ -154,7 +172,9 @@ fn spell_reply(reply: Reply) -> Spelled {
     }
 }
 
-fn spell_refusal(why: Refusal) -> Spelled {
+fn spell_refusal(why: Refusal) -> Spelled
+    ensures { result ≡ spelling.spelled_refusal why }
+{
     match why {
         Refusal::Failed { entry } => with(64, entry, 0, 0),
         Refusal::AlreadyActive => bare(65),

@@ -1,4 +1,7 @@
 //! What a host asks, and the numbers that spell it.
+ghost use Rattle.std.specs.Prelude.{◌≡◌, IfSome, Some};
+ghost use Rattle.heap_embed.specs.Spelling.{IsSpelled, IsEventSpelled};
+
 use graph_model::Event;
 
 /// What a host asks.
@@ -56,7 +59,9 @@ pub enum Ask {
 const FIRST_EVENT: u64 = 32;
 
 /// The request that these numbers spell: what is asked, the session, and the numbers that go with it.
-pub fn read_ask(op: u64, s: u64, a: u64, b: u64, c: u64) -> Option<Ask> {
+pub fn read_ask(op: u64, s: u64, a: u64, b: u64, c: u64) -> Option<Ask>
+    ensures sound { IfSome result (λ ask. IsSpelled ask op s a b c) }
+{
     if op >= FIRST_EVENT {
         let s = u32::try_from(s).ok()?;
         let event = read_event(op, s, a, b, c)?;
@@ -84,7 +89,9 @@ pub fn read_ask(op: u64, s: u64, a: u64, b: u64, c: u64) -> Option<Ask> {
 }
 
 /// The event that these numbers spell.
-fn read_event(op: u64, s: u32, a: u64, b: u64, c: u64) -> Option<Event> {
+fn read_event(op: u64, s: u32, a: u64, b: u64, c: u64) -> Option<Event>
+    ensures sound { IfSome result (λ event. IsEventSpelled event op s a b c) }
+{
     let (h, i, h2) = (a, b, c);
     match op {
         32 => Some(Event::Begin { s }),

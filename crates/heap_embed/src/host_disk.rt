@@ -1,7 +1,7 @@
 //! A disk in memory whose record is what a host is told.
-ghost use Rattle.std.specs.Prelude.{◌≡◌, ◌⊎◌, ℕ, ◌<◌, ◌≤◌, ◌↔◌, [], List, length, IfOk, IsTrue, IsFalse, Ok, Err};
-ghost use Rattle.disk_model.specs.Disk.{Only};
-ghost use Rattle.disk_model.specs.Memory.{Memory, MayLeave, MightHaveLeft, changes_of, now_of, begun_anew};
+ghost use Rattle.std.specs.Prelude.{◌≡◌, ◌⊎◌, ℕ, ◌<◌, ◌≤◌, ◌↔◌, [], List, length, slice_index_or, IfOk, IsTrue, IsFalse};
+ghost use Rattle.disk_model.specs.Memory.{Memory, Sync, MightHaveLeft, changes_of, now_of, begun_anew};
+ghost use Rattle.heap_embed.specs.Told.{change_answer};
 ghost use Rattle.disk_model.specs.declared.memory.Pick.TheVariants.{Newest};
 ghost use Rattle.image_plan.specs.Super.{IsSuper};
 ghost use Rattle.heap_embed.specs.Host.{HostMayLeave, begins_with};
@@ -45,7 +45,11 @@ impl HostDisk {
     }
 
     /// Forgets what was told, where nothing is pending.
-    pub fn forget(&mut self) -> bool {
+    pub fn forget(&mut self) -> bool
+        ensures pending { IsTrue result ↔ ((now_of self.old.disk).pending ≡ []) }
+        ensures anew { IsTrue result → self.new.disk ≡ begun_anew self.old.disk }
+        ensures kept { IsFalse result → self.new ≡ self.old }
+    {
         self.disk.forget()
     }
 }
@@ -57,7 +61,10 @@ pub fn host_lags()
 {}
 
 /// What change `k` is.
-pub fn item(disk: &MemoryDisk, k: u64) -> Answer {
+pub fn item(disk: &MemoryDisk, k: u64) -> Answer
+    ensures told { k < changes_of disk.now → result ≡ change_answer (slice_index_or disk.now.changes k Sync) }
+    ensures none { changes_of disk.now ≤ k → result ≡ Answer.NoItem }
+{
     if k >= disk.told() as u64 {
         return Answer::NoItem;
     }

@@ -6,6 +6,7 @@ mod ask;
 mod embedded;
 mod host_disk;
 mod open_heap;
+mod state;
 
 pub use answer::Answer;
 pub use ask::{Ask, read_ask};
