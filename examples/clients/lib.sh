@@ -42,6 +42,9 @@ for seed in 1 2 3; do
         echo "$(wc -l <here.out) drawn events: the same answers and the same file as through the pipe"
 done
 
+# (a test that kills the heap's process is left out)
+PYTHONDONTWRITEBYTECODE=1 HEAP=here "$here/python_client.py" >log 2>&1 && echo "the tests for Python pass" || cat log
+
 over_library counter "$library/build" counter.c
 cc -shared -fPIC -O1 -o faults.so "$here/faults.c" -ldl || exit
 python3 "$here/library.py" ./counter ./faults.so 200
