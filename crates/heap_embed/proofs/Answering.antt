@@ -1,5 +1,5 @@
 -- What becomes of a heap where the place that it takes is known by its kind.
-use Rattle.std.specs.Prelude.{◌≡◌, ℕ, List, [], Option, Some, None, Result, ⊤, refl}
+use Rattle.std.specs.Prelude.{◌≡◌, [], Option, Some, None, Result, ⊤, refl}
 use Rattle.std.proofs.Common.{sym, ap, subst, ◌∙◌}
 use Rattle.std.specs.declared.alloc.AllocError.{AllocError}
 use Rattle.disk_model.specs.declared.disk.Disk.{Ghosts}

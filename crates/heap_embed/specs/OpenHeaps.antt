@@ -1,5 +1,5 @@
 -- What an open heap does on a disk whose record its host is told.
-use Rattle.std.specs.Prelude.{◌≡◌, ℕ, List, Result, Ok, IfOk, OnErr, true}
+use Rattle.std.specs.Prelude.{◌≡◌, List, Result, Ok, IfOk, OnErr, true}
 use Rattle.std.specs.declared.alloc.AllocError.{AllocError}
 use Rattle.disk_model.specs.Disk.{Only}
 use Rattle.disk_model.specs.Moments.{LeavesOnly}

@@ -11,7 +11,6 @@ use Rattle.heap_recovery.specs.declared.at.At.{At}
 use Rattle.heap_recovery.specs.declared.at.At.TheVariants as place
 use Rattle.heap_embed.specs.declared.answer.Answer.{Answer}
 use Rattle.heap_embed.specs.declared.answer.Answer.TheVariants as answer
-use Rattle.heap_embed.specs.declared.answer.Numbers.{Numbers}
 use Rattle.heap_embed.specs.declared.answer.Spelled.{Spelled}
 use Rattle.heap_embed.specs.declared.ask.Ask.{Ask}
 use Rattle.heap_embed.specs.declared.ask.Ask.TheVariants as ask
