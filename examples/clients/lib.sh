@@ -42,6 +42,12 @@ for seed in 1 2 3; do
         echo "$(wc -l <here.out) drawn events: the same answers and the same file as through the pipe"
 done
 
+if command -v rustc >/dev/null; then
+    mkdir runs
+    rustc -O -L "$library/build" -l static=stable_heap -o count "$library/count.rs" >log 2>&1 && ./count runs >log && ./count runs >log && grep -qx "run 2" log ||
+        cat log
+fi
+
 # (a test that kills the heap's process is left out)
 PYTHONDONTWRITEBYTECODE=1 HEAP=here "$here/python_client.py" >log 2>&1 && echo "the tests for Python pass" || cat log
 

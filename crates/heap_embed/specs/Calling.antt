@@ -7,12 +7,10 @@ use Rattle.heap_embed.specs.declared.answer.Numbers.{Numbers}
 use Rattle.heap_embed.specs.declared.ask.Ask.{Ask}
 use Rattle.heap_embed.specs.declared.state.State.{State}
 use Rattle.heap_embed.specs.Embedding.{Answers}
-use Rattle.heap_embed.specs.Spelling.{IsSpelled, spelled}
+use Rattle.heap_embed.specs.Spelling.{spelled}
 
--- It asks what the numbers spell, and what comes back, with the numbers that are kept, spells the answer.
-pub record CallsAs (g : Ghosts Memory) (old : State) (op s a b c : ℕ) (code : ℕ) (numbers : Numbers) (new : State) : Type 0 where
-  pub ask : Ask
-  pub asked : IsSpelled ask op s a b c
+-- That is asked, and what comes back, with the numbers that are kept, spells the answer.
+pub record CallsAs (g : Ghosts Memory) (ask : Ask) (old : State) (code : ℕ) (numbers : Numbers) (new : State) : Type 0 where
   pub answer : Answer
   pub answers : Answers g old ask answer new
   pub coded : (spelled answer).code ≡ code

@@ -1,12 +1,12 @@
 -- The numbers that spell what is asked, and what is answered.
-use Rattle.std.specs.Prelude.{◌≡◌, ℕ}
+use Rattle.std.specs.Prelude.{ℕ, ◌==◌, nat_lt, Option, Some, None, if◌then◌else◌}
+use Rattle.std.specs.Option.{option_map}
 use Rattle.graph_model.specs.declared.event.Event.{Event}
 use Rattle.graph_model.specs.declared.event.Event.TheVariants as event
 use Rattle.graph_model.specs.declared.reply.Refusal.{Refusal}
 use Rattle.graph_model.specs.declared.reply.Refusal.TheVariants as refusal
 use Rattle.graph_model.specs.declared.reply.Reply.{Reply}
 use Rattle.graph_model.specs.declared.reply.Reply.TheVariants as reply
-use Rattle.graph_model.specs.History.{IsOfSession}
 use Rattle.heap_recovery.specs.declared.at.At.{At}
 use Rattle.heap_recovery.specs.declared.at.At.TheVariants as place
 use Rattle.heap_embed.specs.declared.answer.Answer.{Answer}
@@ -15,40 +15,47 @@ use Rattle.heap_embed.specs.declared.answer.Spelled.{Spelled}
 use Rattle.heap_embed.specs.declared.ask.Ask.{Ask}
 use Rattle.heap_embed.specs.declared.ask.Ask.TheVariants as ask
 
--- the numbers of an event, the session first
-abbrev pub IsEventSpelled : Event → ℕ → ℕ → ℕ → ℕ → ℕ → Type 0
-IsEventSpelled (event.Begin t) op s a b c = (op ≡ 32) × (s ≡ t)
-IsEventSpelled (event.Root t h) op s a b c = (op ≡ 33) × (s ≡ t) × (a ≡ h)
-IsEventSpelled (event.New t h len) op s a b c = (op ≡ 34) × (s ≡ t) × (a ≡ h) × (b ≡ len)
-IsEventSpelled (event.Put t h i v) op s a b c = (op ≡ 35) × (s ≡ t) × (a ≡ h) × (b ≡ i) × (c ≡ v)
-IsEventSpelled (event.Clear t h i) op s a b c = (op ≡ 36) × (s ≡ t) × (a ≡ h) × (b ≡ i)
-IsEventSpelled (event.Link t h i h2) op s a b c = (op ≡ 37) × (s ≡ t) × (a ≡ h) × (b ≡ i) × (c ≡ h2)
-IsEventSpelled (event.Drop t h) op s a b c = (op ≡ 38) × (s ≡ t) × (a ≡ h)
-IsEventSpelled (event.Get t h i h2) op s a b c = (op ≡ 39) × (s ≡ t) × (a ≡ h) × (b ≡ i) × (c ≡ h2)
-IsEventSpelled (event.Same t h h2) op s a b c = (op ≡ 40) × (s ≡ t) × (a ≡ h) × (b ≡ h2)
-IsEventSpelled (event.Len t h) op s a b c = (op ≡ 41) × (s ≡ t) × (a ≡ h)
-IsEventSpelled (event.Seal t) op s a b c = (op ≡ 42) × (s ≡ t)
-IsEventSpelled (event.Abort t) op s a b c = (op ≡ 43) × (s ≡ t)
-IsEventSpelled event.Force op s a b c = op ≡ 44
-IsEventSpelled (event.Flush p) op s a b c = (op ≡ 45) × (a ≡ p)
-IsEventSpelled event.Flip op s a b c = op ≡ 46
-IsEventSpelled event.Scan op s a b c = op ≡ 47
+-- the event that these numbers spell, the session first
+abbrev pub asked_event : ℕ → ℕ → ℕ → ℕ → ℕ → Option Event
+asked_event op s a b c =
+    if op == 32 then Some (event.Begin s) else
+    if op == 33 then Some (event.Root s a) else
+    if op == 34 then Some (event.New s a b) else
+    if op == 35 then Some (event.Put s a b c) else
+    if op == 36 then Some (event.Clear s a b) else
+    if op == 37 then Some (event.Link s a b c) else
+    if op == 38 then Some (event.Drop s a) else
+    if op == 39 then Some (event.Get s a b c) else
+    if op == 40 then Some (event.Same s a b) else
+    if op == 41 then Some (event.Len s a) else
+    if op == 42 then Some (event.Seal s) else
+    if op == 43 then Some (event.Abort s) else
+    if op == 44 then Some event.Force else
+    if op == 45 then Some (event.Flush a) else
+    if op == 46 then Some event.Flip else
+    if op == 47 then Some event.Scan else
+    None
 
--- the numbers of a request: what is asked, the session, and those that go with it
-abbrev pub IsSpelled : Ask → ℕ → ℕ → ℕ → ℕ → ℕ → Type 0
-IsSpelled (ask.More word count) op s a b c = (op ≡ 1) × (a ≡ word) × (b ≡ count)
-IsSpelled (ask.Zeros count) op s a b c = (op ≡ 2) × (a ≡ count)
-IsSpelled (ask.Format pages log_bytes first) op s a b c = (op ≡ 3) × (a ≡ pages) × (b ≡ log_bytes) × (c ≡ first)
-IsSpelled ask.Open op s a b c = op ≡ 4
-IsSpelled ask.Told op s a b c = op ≡ 5
-IsSpelled (ask.Item k) op s a b c = (op ≡ 6) × (a ≡ k)
-IsSpelled (ask.Bytes k from) op s a b c = (op ≡ 7) × (a ≡ k) × (b ≡ from)
-IsSpelled ask.Done op s a b c = op ≡ 8
-IsSpelled ask.Fail op s a b c = op ≡ 9
-IsSpelled (ask.Last i) op s a b c = (op ≡ 10) × (a ≡ i)
-IsSpelled (ask.Figure i) op s a b c = (op ≡ 11) × (a ≡ i)
-IsSpelled ask.Close op s a b c = op ≡ 12
-IsSpelled (ask.Event event) op s a b c = IsOfSession event × IsEventSpelled event op s a b c
+-- what is asked of the heap besides
+abbrev pub asked_else : ℕ → ℕ → ℕ → ℕ → Option Ask
+asked_else op a b c =
+    if op == 1 then Some (ask.More a b) else
+    if op == 2 then Some (ask.Zeros a) else
+    if op == 3 then Some (ask.Format a b c) else
+    if op == 4 then Some ask.Open else
+    if op == 5 then Some ask.Told else
+    if op == 6 then Some (ask.Item a) else
+    if op == 7 then Some (ask.Bytes a b) else
+    if op == 8 then Some ask.Done else
+    if op == 9 then Some ask.Fail else
+    if op == 10 then Some (ask.Last a) else
+    if op == 11 then Some (ask.Figure a) else
+    if op == 12 then Some ask.Close else
+    None
+
+-- what these numbers ask: a number, a session, and those that go with it
+abbrev pub asked : ℕ → ℕ → ℕ → ℕ → ℕ → Option Ask
+asked op s a b c = if nat_lt op 32 then asked_else op a b c else (if nat_lt s 4294967296 then option_map ask.Event (asked_event op s a b c) else None)
 
 -- a code with its numbers
 abbrev pub with : ℕ → ℕ → ℕ → ℕ → Spelled

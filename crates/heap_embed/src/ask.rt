@@ -1,6 +1,6 @@
 //! What a host asks, and the numbers that spell it.
-ghost use Rattle.std.specs.Prelude.{◌≡◌, IfSome, Some};
-ghost use Rattle.heap_embed.specs.Spelling.{IsSpelled, IsEventSpelled};
+ghost use Rattle.std.specs.Prelude.{◌≡◌};
+ghost use Rattle.heap_embed.specs.Spelling.{asked, asked_else, asked_event};
 
 use graph_model::Event;
 
@@ -60,13 +60,24 @@ const FIRST_EVENT: u64 = 32;
 
 /// The request that these numbers spell: what is asked, the session, and the numbers that go with it.
 pub fn read_ask(op: u64, s: u64, a: u64, b: u64, c: u64) -> Option<Ask>
-    ensures sound { IfSome result (λ ask. IsSpelled ask op s a b c) }
+    ensures { result ≡ asked op s a b c }
 {
-    if op >= FIRST_EVENT {
-        let s = u32::try_from(s).ok()?;
-        let event = read_event(op, s, a, b, c)?;
-        return event.is_of_session().then_some(Ask::Event { event });
+    if op < FIRST_EVENT {
+        return read_else(op, a, b, c);
     }
+    let Ok(s) = u32::try_from(s) else {
+        return None;
+    };
+    match read_event(op, s, a, b, c) {
+        Some(event) => Some(Ask::Event { event }),
+        None => None,
+    }
+}
+
+/// What they ask besides events.
+fn read_else(op: u64, a: u64, b: u64, c: u64) -> Option<Ask>
+    ensures { result ≡ asked_else op a b c }
+{
     match op {
         1 => Some(Ask::More { word: a, count: b }),
         2 => Some(Ask::Zeros { count: a }),
@@ -90,7 +101,7 @@ pub fn read_ask(op: u64, s: u64, a: u64, b: u64, c: u64) -> Option<Ask>
 
 /// The event that these numbers spell.
 fn read_event(op: u64, s: u32, a: u64, b: u64, c: u64) -> Option<Event>
-    ensures sound { IfSome result (λ event. IsEventSpelled event op s a b c) }
+    ensures { result ≡ asked_event op s a b c }
 {
     let (h, i, h2) = (a, b, c);
     match op {

@@ -1,5 +1,6 @@
 //! A heap that is asked by numbers.
-ghost use Rattle.std.specs.Prelude.{◌≡◌, ◌⊎◌, IsTrue, IsFalse};
+ghost use Rattle.std.specs.Prelude.{◌≡◌, ◌⊎◌, ℕ, Some, None, IsTrue, IsFalse};
+ghost use Rattle.heap_embed.specs.Spelling.{asked};
 
 use crate::answer::{Answer, NONE, Numbers, spell};
 use crate::ask::{Ask, read_ask};
@@ -22,6 +23,7 @@ impl Embedded {
     ghost use Rattle.graph_model.specs.declared.event.Event.{Event};
     ghost use Rattle.heap_embed.specs.Embedding.{Answers};
     ghost use Rattle.heap_embed.specs.Calling.{CallsAs};
+    ghost use Rattle.heap_embed.specs.declared.ask.Ask.{Ask};
 
     /// One to which nothing was handed in yet.
     pub fn new(alloc: Global) -> Embedded {
@@ -36,7 +38,8 @@ impl Embedded {
     /// Answers what these numbers ask, by numbers: `Last` asks for those that go with the one that is returned.
     pub fn call(&mut self, op: u64, s: u64, a: u64, b: u64, c: u64) -> u64
         ensures broken { IsTrue self.old.broken → (self.new.state ≡ self.old.state) × IsTrue self.new.broken }
-        ensures asked { IsFalse self.old.broken → (self.new.state ≡ self.old.state) ⊎ CallsAs ⟦<MemoryDisk as Disk>⟧ self.old.state op s a b c result self.new.last self.new.state }
+        ensures asked { IsFalse self.old.broken → (ask : Ask) → asked op s a b c ≡ Some ask → ((i : ℕ) × (ask ≡ Ask.Last i)) ⊎ CallsAs ⟦<MemoryDisk as Disk>⟧ ask self.old.state result self.new.last self.new.state }
+        ensures unasked { asked op s a b c ≡ None → (result ≡ 5) × (self.new.state ≡ self.old.state) × (self.new.broken ≡ self.old.broken) }
     {
         let answer = match read_ask(op, s, a, b, c) {
             Some(Ask::Last { i }) => return self.number(i),
