@@ -1,8 +1,8 @@
 -- What a host is answered, and what becomes of the heap inside.
-use Rattle.std.specs.Prelude.{◌≡◌, ◌≢◌, ◌<◌, ◌≤◌, [], slice_index_or, Option, Some, None, Result, Ok, Err, ⊤}
+use Rattle.std.specs.Prelude.{◌≡◌, ◌≢◌, ℕ, List, ◌<◌, ◌≤◌, [], length, slice_index_or, Option, Some, None, Result, Ok, Err, ⊤}
 use Rattle.std.specs.declared.alloc.AllocError.{AllocError}
 use Rattle.disk_model.specs.declared.disk.Disk.{Ghosts}
-use Rattle.disk_model.specs.Memory.{Memory, Sync, changes_of, now_of, begun_anew}
+use Rattle.disk_model.specs.Memory.{Memory, Write, Sync, changes_of, now_of, begun_anew}
 use Rattle.graph_model.specs.declared.event.Event.{Event}
 use Rattle.graph_model.specs.declared.reply.Reply.{Reply}
 use Rattle.graph_model.specs.History.{IsOfSession}
@@ -15,7 +15,7 @@ use Rattle.heap_embed.specs.declared.state.State.{State}
 use Rattle.heap_embed.specs.declared.state.State.TheVariants.{Image, Closed, Open}
 use Rattle.heap_embed.specs.Host.{begins_with}
 use Rattle.heap_embed.specs.OpenHeaps.{MakesStep, StaysHeap, WasOpened}
-use Rattle.heap_embed.specs.Told.{change_answer}
+use Rattle.heap_embed.specs.Told.{change_answer, word_of}
 
 -- the disk that tells, if there is one
 abbrev pub disk_of : State → Option Memory
@@ -68,7 +68,7 @@ module _ (g : Ghosts Memory) where
   Answers old (ask.More word count) answered new = ⊤
   Answers old (ask.Zeros count) answered new = ⊤
   Answers old (ask.Format pages log_bytes first) answered new = ⊤
-  Answers old (ask.Bytes k from) answered new = new ≡ old
+  Answers old (ask.Bytes k from) answered new = (new ≡ old) × ((disk : Memory) (at : ℕ) (bytes : List ℕ) → disk_of old ≡ Some disk → k < changes_of disk → slice_index_or disk.changes k Sync ≡ Write at bytes → from < length bytes → answered ≡ answer.Number (word_of bytes from))
   Answers old (ask.Figure i) answered new = new ≡ old
   Answers old (ask.Last i) answered new = new ≡ old
   Answers old ask.Fail answered new = new ≡ old

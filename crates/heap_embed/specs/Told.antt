@@ -1,5 +1,6 @@
 -- What a host is told of a change of the disk, and of an opening that failed.
-use Rattle.std.specs.Prelude.{length}
+use Rattle.std.specs.Prelude.{ℕ, ◌+◌, List, [], ◌∷◌, length, slice_index}
+use Rattle.std.specs.Int.{w64, from_le_bytes}
 use Rattle.disk_model.specs.Memory.{Change, Write, Sync, Restart}
 use Rattle.heap_core.specs.declared.errors.OpenError.{OpenError}
 use Rattle.heap_core.specs.declared.errors.OpenError.TheVariants as opening
@@ -19,3 +20,9 @@ open_answer opening.NotHeap = answer.NotHeap
 open_answer (opening.Damaged at) = answer.Damaged at
 open_answer opening.DiskFault = answer.Failed
 open_answer opening.Stopped = answer.Failed
+
+-- eight bytes from a place on, the lowest first, with zeros past the end
+abbrev pub word_of : List ℕ → ℕ → ℕ
+word_of bytes from =
+    from_le_bytes w64
+    (slice_index bytes from ∷ slice_index bytes (from + 1) ∷ slice_index bytes (from + 2) ∷ slice_index bytes (from + 3) ∷ slice_index bytes (from + 4) ∷ slice_index bytes (from + 5) ∷ slice_index bytes (from + 6) ∷ slice_index bytes (from + 7) ∷ [])

@@ -1,13 +1,12 @@
 //! A disk in memory whose record is what a host is told.
-ghost use Rattle.std.specs.Prelude.{◌≡◌, ◌⊎◌, ℕ, ◌<◌, ◌≤◌, ◌↔◌, [], List, length, slice_index_or, IfOk, IsTrue, IsFalse};
-ghost use Rattle.disk_model.specs.Memory.{Memory, Sync, MightHaveLeft, changes_of, now_of, begun_anew};
-ghost use Rattle.heap_embed.specs.Told.{change_answer};
+ghost use Rattle.std.specs.Prelude.{◌≡◌, ◌⊎◌, ℕ, ◌<◌, ◌≤◌, ◌↔◌, [], List, length, slice_index_or, slice_index, IfOk, IsTrue, IsFalse};
+ghost use Rattle.disk_model.specs.Memory.{Memory, Write, Sync, MightHaveLeft, changes_of, now_of, begun_anew};
+ghost use Rattle.heap_embed.specs.Told.{change_answer, word_of};
 ghost use Rattle.disk_model.specs.declared.memory.Pick.TheVariants.{Newest};
 ghost use Rattle.image_plan.specs.Super.{IsSuper};
 ghost use Rattle.heap_embed.specs.Host.{HostMayLeave, begins_with};
 
 use crate::answer::Answer;
-use byteorder::{ByteOrder, LittleEndian};
 use disk_model::{MemoryDisk, Pick};
 use heap_core::Heap;
 use image_plan::Super;
@@ -78,24 +77,40 @@ pub fn item(disk: &MemoryDisk, k: u64) -> Answer
 }
 
 /// Eight bytes of what change `k` writes, from its byte `from` on, the lowest first. Past its end they are zeros.
-pub fn word(disk: &MemoryDisk, k: u64, from: u64) -> u64 {
+pub fn word(disk: &MemoryDisk, k: u64, from: u64) -> u64
+    ensures { k < changes_of disk.now → (at : ℕ) (bytes : List ℕ) → slice_index_or disk.now.changes k Sync ≡ Write at bytes → from < length bytes → result ≡ word_of bytes from }
+{
     if k >= disk.told() as u64 {
         return 0;
     }
     match disk.told_write(k as usize) {
-        Some((_, bytes)) => word_at(bytes, from),
-        None => 0,
+        Some((_, bytes)) if from < bytes.len() as u64 => word_at(bytes, from as usize),
+        _ => 0,
     }
 }
 
 /// Eight bytes from a place on. Past the end they are zeros.
-fn word_at(bytes: &[u8], from: u64) -> u64 {
-    if from >= bytes.len() as u64 {
-        return 0;
+fn word_at(bytes: &[u8], from: usize) -> u64
+    requires { from < length bytes.now }
+    ensures { result ≡ word_of bytes.now from }
+{
+    u64::from_le_bytes([
+        byte_at(bytes, from),
+        byte_at(bytes, from + 1),
+        byte_at(bytes, from + 2),
+        byte_at(bytes, from + 3),
+        byte_at(bytes, from + 4),
+        byte_at(bytes, from + 5),
+        byte_at(bytes, from + 6),
+        byte_at(bytes, from + 7),
+    ])
+}
+
+fn byte_at(bytes: &[u8], i: usize) -> u8
+    ensures { result ≡ slice_index bytes.now i }
+{
+    match bytes.get(i) {
+        Some(byte) => *byte,
+        None => 0,
     }
-    let rest = &bytes[from as usize..];
-    let count = rest.len().min(8);
-    let mut word = [0u8; 8];
-    word[..count].copy_from_slice(&rest[..count]);
-    LittleEndian::read_u64(&word)
 }

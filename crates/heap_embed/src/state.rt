@@ -1,8 +1,8 @@
 //! What there is of the heap.
-ghost use Rattle.std.specs.Prelude.{◌≡◌, ◌≢◌, ◌<◌, ◌≤◌, Some, IfSome, IsSome, IfOk, IfErr, slice_index_or};
-ghost use Rattle.disk_model.specs.Memory.{Sync, changes_of};
+ghost use Rattle.std.specs.Prelude.{◌≡◌, ◌≢◌, ◌<◌, ◌≤◌, Some, IfSome, IsSome, IfOk, IfErr, slice_index_or, ℕ, List, length};
+ghost use Rattle.disk_model.specs.Memory.{Write, Sync, changes_of};
 ghost use Rattle.graph_model.specs.History.{IsOfSession};
-ghost use Rattle.heap_embed.specs.Told.{change_answer};
+ghost use Rattle.heap_embed.specs.Told.{change_answer, word_of};
 ghost use Rattle.image_plan.specs.Super.{IsSuper};
 
 use crate::answer::Answer;
@@ -206,7 +206,9 @@ impl State {
         }
     }
 
-    fn word(&self, k: u64, from: u64) -> u64 {
+    fn word(&self, k: u64, from: u64) -> u64
+        ensures { (disk : _) (at : ℕ) (bytes : List ℕ) → disk_of self.now ≡ Some disk → k < changes_of disk → slice_index_or disk.changes k Sync ≡ Write at bytes → from < length bytes → result ≡ word_of bytes from }
+    {
         match self.disk() {
             Some(disk) => word(disk, k, from),
             None => 0,
