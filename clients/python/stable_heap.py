@@ -418,8 +418,12 @@ class ErrorNumbers(ctypes.Structure):
 
 # the events from number 32 on, the replies from code 32 and the refusals from code 64, each with how many numbers it says
 EVENTS = "begin root new put clear link drop get same len seal abort force flush flip scan".split()
-REPLIES = "begun1 done0 null0 int1 ref0 yes0 no0 len1 sealed1 aborted0 durable1 flipped2 collecting0 scanned3 collected1 idle0 flushed1 clean1".split()
-REFUSED = "failed1 alreadyactive0 notactive0 numbersspent0 badhandle0 range0 badfield0 nosuchpage0 busy1 volatilefull1 exhausted3 logfull3 diskfault0 stopped0".split()
+REPLIES = (
+    "begun1 done0 null0 int1 ref0 yes0 no0 len1 sealed1 aborted0 durable1 flipped2 collecting0 scanned3 collected1 idle0 flushed1 clean1"
+).split()
+REFUSED = (
+    "failed1 alreadyactive0 notactive0 numbersspent0 badhandle0 range0 badfield0 nosuchpage0 busy1 volatilefull1 exhausted3 logfull3 diskfault0 stopped0"
+).split()
 EVENT_NUMBERS = {word: 32 + place for place, word in enumerate(EVENTS)}
 REPLY_WORDS = {first + place: (it[:-1], int(it[-1])) for first, words in ((32, REPLIES), (64, REFUSED)) for place, it in enumerate(words)}
 SH_UNFINISHED = 10

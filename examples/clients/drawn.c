@@ -53,7 +53,8 @@ int main(int count, char **words) {
         for (size_t i = 0; i < some; i++) {
             const sh_event *e = &events[i];
             const sh_reply *r = &replies[i];
-            printf("%" PRIu64 " %" PRIu64 " %" PRIu64 " %" PRIu64 " %" PRIu64 " -> %" PRIu64 " %" PRIu64 " %" PRIu64 " %" PRIu64 "\n", e->op, e->s, e->a, e->b, e->c, r->code, r->numbers[0], r->numbers[1], r->numbers[2]);
+            printf("%" PRIu64 " %" PRIu64 " %" PRIu64 " %" PRIu64 " %" PRIu64, e->op, e->s, e->a, e->b, e->c);
+            printf(" -> %" PRIu64 " %" PRIu64 " %" PRIu64 " %" PRIu64 "\n", r->code, r->numbers[0], r->numbers[1], r->numbers[2]);
         }
     }
     sh_close(heap);
