@@ -496,11 +496,31 @@ sh_result sh_begin(sh_heap *heap, sh_transaction **transaction) {
     return result;
 }
 
-/* (the transaction's place is free for another one as soon as it is not active) */
+/* The transaction has ended: its place is free for another one. */
+static void leave(sh_transaction *transaction) {
+    sh_heap *heap = transaction->heap;
+    pthread_mutex_lock(&heap->lock);
+    transaction->active = false;
+    pthread_mutex_unlock(&heap->lock);
+}
+
+static sh_error error_of(sh_heap *heap) {
+    pthread_mutex_lock(&heap->lock);
+    sh_error error = heap->error;
+    pthread_mutex_unlock(&heap->lock);
+    return error;
+}
+
+static void set_error(sh_heap *heap, const sh_error *error) {
+    pthread_mutex_lock(&heap->lock);
+    heap->error = *error;
+    pthread_mutex_unlock(&heap->lock);
+}
+
 sh_result sh_abort(sh_transaction *transaction) {
     sh_reply reply;
     sh_result result = ask_in(transaction, &reply, SH_EVENT_ABORT, 0, 0, 0);
-    transaction->active = false;
+    leave(transaction);
     return result;
 }
 
@@ -509,12 +529,12 @@ sh_result sh_commit(sh_transaction *transaction, bool durable) {
     sh_reply reply;
     if (transaction->refusal.result == SH_OK) ask_in(transaction, &reply, SH_EVENT_SEAL, 0, 0, 0);
     if (transaction->refusal.result == SH_OK) {
-        transaction->active = false;
+        leave(transaction);
         return durable ? sh_force(heap, NULL) : SH_OK;
     }
     sh_error refusal = transaction->refusal;
     sh_abort(transaction);
-    heap->error = refusal;
+    set_error(heap, &refusal);
     return refusal.result;
 }
 
@@ -534,8 +554,10 @@ static sh_result take_handle(sh_transaction *transaction, sh_object *object) {
     }
     /* (the heap refuses each call that names this one) */
     object->handle = HANDLES;
-    fail(&transaction->heap->error, SH_OUT_OF_HANDLES, "the transaction holds 64 objects");
-    if (transaction->refusal.result == SH_OK) transaction->refusal = transaction->heap->error;
+    sh_error error;
+    fail(&error, SH_OUT_OF_HANDLES, "the transaction holds 64 objects");
+    set_error(transaction->heap, &error);
+    if (transaction->refusal.result == SH_OK) transaction->refusal = error;
     return SH_OUT_OF_HANDLES;
 }
 
@@ -623,9 +645,9 @@ static sh_result run_once(sh_heap *heap, sh_work work, void *context, bool durab
     if (result != SH_OK) return result;
     result = work(transaction, context);
     if (result == SH_OK) return sh_commit(transaction, durable);
-    sh_error error = heap->error;
+    sh_error error = error_of(heap);
     sh_abort(transaction);
-    heap->error = error;
+    set_error(heap, &error);
     return result;
 }
 

@@ -42,6 +42,11 @@ for seed in 1 2 3; do
         echo "$(wc -l <here.out) drawn events: the same answers and the same file as through the pipe"
 done
 
+make -s -C "$library" BUILD="$room/raced" CFLAGS="-O1 -g -fsanitize=thread" || exit
+over_library threads raced threads.c -fsanitize=thread
+mkdir counted_by_four
+./threads counted_by_four 2>log || cat log
+
 if command -v rustc >/dev/null; then
     mkdir runs
     rustc -O -L "$library/build" -l static=stable_heap -o count "$library/count.rs" >log 2>&1 && ./count runs >log && ./count runs >log
