@@ -26,6 +26,11 @@ pub on_ok : {A E P Q : Type 0} (r : Result A E) → (P → Q) → OnOk r P → O
 on_ok (Ok a) f p = f p
 on_ok (Err e) f p = tt
 
+-- and from two things that hold there
+pub on_both : {A E P Q R : Type 0} (r : Result A E) → (P → Q → R) → OnOk r P → OnOk r Q → OnOk r R
+on_both (Ok a) f p q = f p q
+on_both (Err e) f p q = tt
+
 -- what holds of one that succeeds
 pub ok_gives : {A E P : Type 0} (r : Result A E) → IsOk r → OnOk r P → P
 ok_gives (Ok a) ok p = p

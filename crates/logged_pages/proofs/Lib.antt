@@ -1,2 +1,4 @@
 pub mod ByPage
 pub mod CarriedLaws
+pub mod DiskLaws
+pub mod Spare

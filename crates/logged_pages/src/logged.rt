@@ -1,13 +1,18 @@
 //! A log and its pages in memory.
-ghost use Rattle.std.specs.Prelude.{◌≡◌, ℕ, ◌+◌, ◌*◌, ◌<◌, ◌≤◌, ◌^◌, ◌++◌, List, None, false, is_err, IsOk, IsFalse, OnOk, length, slice_index};
+ghost use Rattle.std.specs.Prelude.{◌≡◌, ℕ, ◌+◌, ◌*◌, ◌<◌, ◌≤◌, ◌^◌, ◌++◌, List, [], false, Ok, is_err, IsOk, IsFalse, IsTrue, OnErr, OnOk, length};
+ghost use Rattle.disk_model.specs.Disk.{Only, SameOutside};
 ghost use Rattle.disk_model.specs.Keeps.{KeepsDisk};
-ghost use Rattle.gated_log.specs.LogState.{log_count, log_room, log_used, log_used_with, is_waiting, HasSpare, IsSameLog, KeepsMemory};
+ghost use Rattle.disk_model.specs.Moments.{LeavesOnly};
+ghost use Rattle.gate_slot.specs.Passing.{Passes};
+ghost use Rattle.gated_log.specs.Log.{with_batch};
+ghost use Rattle.gated_log.specs.LogState.{log_count, log_forced, log_place, log_room, log_used, log_used_with, is_waiting, HasSpare, IsBufferEmpty, Keeps};
+ghost use Rattle.image_plan.specs.Plan.{log_offset};
 ghost use Rattle.log_machine.specs.Effect.{EachWritesBelow, WritesBelow};
 ghost use Rattle.log_machine.specs.Origin.{Origin};
 ghost use Rattle.log_records.specs.declared.Record.{Record};
 ghost use Rattle.log_records.specs.Record.{spellings};
 ghost use Rattle.page_cache.specs.ByPage.{put_page};
-ghost use Rattle.page_cache.specs.CacheState.{cached, cache_failed, cache_pages};
+ghost use Rattle.page_cache.specs.CacheState.{cached, cache_failed, cache_log, cache_pages};
 ghost use Rattle.page_redo.specs.Pages.{lsn_of};
 ghost use Rattle.page_redo.specs.Prefix.{HasAllWords};
 ghost use Rattle.page_redo.specs.Redo.{EachLacks, redo_record};
@@ -29,10 +34,14 @@ pub struct LoggedPages {
     ghost works: { failed ≡ false → cache_failed cache ≡ false },
     ghost sized: { length (cached cache).words ≡ 64 * cache_pages cache },
     ghost few: { cache_pages cache ≤ 32768 },
+    // The log lies in front of the pages' frames.
+    ghost place: { log_place log ≡ log_offset },
+    ghost behind: { log_room log ≡ cache_log cache },
 }
 
 impl LoggedPages {
-    ghost use Rattle.logged_pages.specs.State.{log_of, cache_of, pages_in_memory, store_of, has_failed, next_lsn_in, LiesWithin, IsUpToDate};
+    ghost use Rattle.logged_pages.specs.State.{log_of, cache_of, pages_in_memory, store_of, has_failed, next_lsn_in, LiesWithin, IsBehind, IsUpToDate};
+    ghost use Rattle.logged_pages.specs.OnDisk.{force_calls, IsLeft, IsOnDisk};
     ghost use Rattle.logged_pages.specs.Carried.{Carries, HasPut};
 
     /// A log and its pages, none of which has a record that the log lacks. No store has failed.
@@ -41,6 +50,8 @@ impl LoggedPages {
         requires works { IsFalse (cache_failed cache) }
         requires sized { length (cached cache).words ≡ 64 * cache_pages cache }
         requires few { cache_pages cache ≤ 32768 }
+        requires place { log_place log ≡ log_offset }
+        requires behind { log_room log ≡ cache_log cache }
         ensures log { log_of result ≡ log }
         ensures cache { cache_of result ≡ cache }
         ensures works { has_failed result ≡ false }
@@ -122,5 +133,37 @@ impl LoggedPages {
     {
         self.cache.write(lsn, p, effect);
         Ok(())
+    }
+
+    /// Forces what is pending, without allocating. After an error it isn't known whether it is on the disk, and nothing else may follow.
+    pub fn force<D: Disk>(&mut self, disk: &mut D) -> Result<(), DiskError>
+        requires works { has_failed self.old ≡ false }
+        requires within { LiesWithin self.old (D.extent disk.old) }
+        ensures disk { KeepsDisk D.Disk disk.old disk.new result }
+        ensures failed { has_failed self.new ≡ is_err result }
+
+        // In memory.
+        ensures cache { cache_of self.new ≡ cache_of self.old }
+        ensures idle { IsBufferEmpty (log_of self.old) → (result ≡ Ok tt) × (disk.new ≡ disk.old) × (log_of self.new ≡ log_of self.old) }
+        ensures kept { (batches : List (List Record)) (pending : List Record) → Keeps (log_of self.old) batches pending → OnOk result (Keeps (log_of self.new) (with_batch batches pending) []) }
+        ensures waits { (batches : List (List Record)) (pending : List Record) → Keeps (log_of self.old) batches pending → OnErr result (Keeps (log_of self.new) batches pending) }
+        ensures behind { (o : Origin) (batches : List (List Record)) (pending : List Record) → IsBehind o batches pending self.old → OnOk result (IsBehind o (with_batch batches pending) [] self.new) }
+        ensures count { log_count (log_of self.new) ≡ log_count (log_of self.old) }
+        ensures forced { OnOk result (log_forced (log_of self.new) ≡ log_count (log_of self.old)) }
+        ensures used { log_used (log_of self.new) ≤ log_used (log_of self.old) }
+        ensures spare { (more : ℕ) → HasSpare (log_of self.old) more → HasSpare (log_of self.new) more }
+        ensures room { log_room (log_of self.new) ≡ log_room (log_of self.old) }
+
+        // On the disk.
+        ensures on_disk { IsTrue D.tells → (o : Origin) (batches : List (List Record)) (pending : List Record) → IsBehind o batches pending self.old → IsOnDisk o batches self.old (D.bytes disk.old) → OnOk result (IsOnDisk o (with_batch batches pending) self.new (D.bytes disk.new)) }
+        ensures outside { IsTrue D.tells → OnOk result (SameOutside (log_place (log_of self.old)) (log_place (log_of self.old) + log_room (log_of self.old)) (D.bytes disk.old) (D.bytes disk.new)) }
+        ensures durable { IsTrue D.tells → Only (D.bytes disk.old) (D.may_leave disk.old) → OnOk result (Only (D.bytes disk.new) (D.may_leave disk.new)) }
+        ensures moments { IsTrue D.tells → Only (D.bytes disk.old) (D.may_leave disk.old) → (o : Origin) (batches : List (List Record)) (pending : List Record) → IsBehind o batches pending self.old → IsOnDisk o batches self.old (D.bytes disk.old)
+            → LeavesOnly D.moment D.left_since disk.old disk.new (IsLeft o batches pending self.old (D.bytes disk.old)) }
+        ensures passes { IsTrue D.tells → Passes (force_calls (is_waiting (log_of self.old))) (D.passed disk.old) (D.passed disk.new) result }
+    {
+        let forced = self.log.force(disk);
+        self.failed = forced.is_err();
+        forced
     }
 }

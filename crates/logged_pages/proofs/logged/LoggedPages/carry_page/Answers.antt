@@ -2,7 +2,7 @@ use Rattle.std.proofs.Common.{◌≡◌, ◌<◌, length, sym, ap, subst, ◌∙
 use Rattle.page_cache.specs.CacheState.{cached, cache_pages}
 use Rattle.page_redo.specs.Pages.{Pages}
 use Rattle.page_redo.specs.Redo.{EachLacks}
-use Rattle.page_store.specs.StoreState.{has_failed as store_failed, store_pages}
+use Rattle.page_store.specs.StoreState.{has_failed as store_failed, store_log, store_pages}
 use Rattle.logged_pages.specs.State.{cache_of, log_of, next_lsn_in, pages_in_memory}
 use Rattle.logged_pages.proofs.ByPage.{length-put_page, put_lacks}
 use Rattle.logged_pages.proofs.logged.LoggedPages.carry_page.Goals as goal
@@ -20,4 +20,6 @@ invariant_of-self g c =
       works = λ is. ap store_failed c.write.ensures.store ∙ old.works is;
       sized = omega (arith, size, old.sized, pages);
       few = omega (arith, old.few, pages);
+      place = old.place;
+      behind = old.behind ∙ sym (ap store_log c.write.ensures.store);
     }
