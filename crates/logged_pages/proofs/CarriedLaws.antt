@@ -31,6 +31,14 @@ pub on_both : {A E P Q R : Type 0} (r : Result A E) → (P → Q → R) → OnOk
 on_both (Ok a) f p q = f p q
 on_both (Err e) f p q = tt
 
+-- and what holds there
+pub when_ok : {A E P : Type 0} (r : Result A E) → ((a : A) → r ≡ Ok a → P) → OnOk r P
+when_ok (Ok a) holds = holds a refl
+when_ok (Err e) holds = tt
+
+pub its : {A E P : Type 0} (r : Result A E) (a : A) → r ≡ Ok a → OnOk r P → P
+its {P = P} r a is holds = let Q : Result _ _ → Type 0 = λ r. OnOk r P in subst Q is holds
+
 -- what holds of one that succeeds
 pub ok_gives : {A E P : Type 0} (r : Result A E) → IsOk r → OnOk r P → P
 ok_gives (Ok a) ok p = p

@@ -1,5 +1,5 @@
 //! A log and its pages in memory.
-ghost use Rattle.std.specs.Prelude.{◌≡◌, ℕ, ◌+◌, ◌*◌, ◌<◌, ◌≤◌, ◌^◌, ◌++◌, List, [], false, Ok, is_err, IsOk, IsFalse, IsTrue, OnErr, OnOk, length};
+ghost use Rattle.std.specs.Prelude.{◌≡◌, ℕ, ◌+◌, ◌*◌, ◌<◌, ◌≤◌, ◌^◌, ◌++◌, List, [], false, Ok, is_err, IsOk, IsFalse, IsTrue, OnErr, OnOk, length, nat_lt, ◌≢◌, if◌then◌else◌};
 ghost use Rattle.disk_model.specs.Disk.{Only, SameOutside};
 ghost use Rattle.disk_model.specs.Keeps.{KeepsDisk};
 ghost use Rattle.disk_model.specs.Moments.{LeavesOnly};
@@ -12,10 +12,11 @@ ghost use Rattle.log_machine.specs.Origin.{Origin};
 ghost use Rattle.log_records.specs.declared.Record.{Record};
 ghost use Rattle.log_records.specs.Record.{spellings};
 ghost use Rattle.page_cache.specs.ByPage.{put_page};
-ghost use Rattle.page_cache.specs.CacheState.{cached, cache_failed, cache_log, cache_pages};
+ghost use Rattle.page_cache.specs.CacheState.{cached, cached_lsn, cache_failed, cache_log, cache_pages, flushed_lsn, is_dirty};
 ghost use Rattle.page_redo.specs.Pages.{lsn_of};
 ghost use Rattle.page_redo.specs.Prefix.{HasAllWords};
 ghost use Rattle.page_redo.specs.Redo.{EachLacks, redo_record};
+ghost use Rattle.page_store.specs.StoreState.{store_plan, stored_entry, Knows};
 
 use crate::records::Records;
 use disk_model::{Disk, DiskError};
@@ -41,7 +42,7 @@ pub struct LoggedPages {
 
 impl LoggedPages {
     ghost use Rattle.logged_pages.specs.State.{log_of, cache_of, pages_in_memory, store_of, has_failed, next_lsn_in, LiesWithin, IsBehind, IsUpToDate};
-    ghost use Rattle.logged_pages.specs.OnDisk.{force_calls, IsLeft, IsOnDisk};
+    ghost use Rattle.logged_pages.specs.OnDisk.{batches_if, pending_if, force_calls, is_ahead, store_calls, HasStored, IsLeft, IsOnDisk};
     ghost use Rattle.logged_pages.specs.Carried.{Carries, HasPut};
 
     /// A log and its pages, none of which has a record that the log lacks. No store has failed.
@@ -165,5 +166,78 @@ impl LoggedPages {
         let forced = self.log.force(disk);
         self.failed = forced.is_err();
         forced
+    }
+
+    /// Stores page `p`, which is dirty, as it is now, after a force of what is pending if the page has a record that is not on the disk. Does not
+    /// allocate. After an error nothing else may follow.
+    pub fn store<D: Disk>(&mut self, disk: &mut D, p: u32) -> Result<(), DiskError>
+        requires works { has_failed self.old ≡ false }
+        requires page { p < cache_pages (cache_of self.old) }
+        requires dirty { IsTrue (is_dirty (cache_of self.old) p) }
+        requires within { LiesWithin self.old (D.extent disk.old) }
+        ensures disk { KeepsDisk D.Disk disk.old disk.new result }
+        ensures failed { has_failed self.new ≡ is_err result }
+
+        // In memory.
+        ensures pages { pages_in_memory self.new ≡ pages_in_memory self.old }
+        ensures plan { store_plan (store_of self.new) ≡ store_plan (store_of self.old) }
+        ensures clean { OnOk result (flushed_lsn (cache_of self.new) p ≡ cached_lsn (cache_of self.old) p) }
+        ensures other_pages { (q : ℕ) → q ≢ p → stored_entry (store_of self.new) q ≡ stored_entry (store_of self.old) q }
+        ensures kept { (batches : List (List Record)) (pending : List Record) → Keeps (log_of self.old) batches pending
+            → OnOk result (Keeps (log_of self.new) (batches_if (is_ahead self.old p) batches pending) (pending_if (is_ahead self.old p) pending)) }
+        ensures behind { (o : Origin) (batches : List (List Record)) (pending : List Record) → IsBehind o batches pending self.old
+            → OnOk result (IsBehind o (batches_if (is_ahead self.old p) batches pending) (pending_if (is_ahead self.old p) pending) self.new) }
+        ensures count { log_count (log_of self.new) ≡ log_count (log_of self.old) }
+        ensures used { log_used (log_of self.new) ≤ log_used (log_of self.old) }
+        ensures spare { (more : ℕ) → HasSpare (log_of self.old) more → HasSpare (log_of self.new) more }
+        ensures room { log_room (log_of self.new) ≡ log_room (log_of self.old) }
+
+        // On the disk.
+        ensures on_disk { IsTrue D.tells → (o : Origin) (batches : List (List Record)) (pending : List Record) → IsBehind o batches pending self.old → IsOnDisk o batches self.old (D.bytes disk.old)
+            → OnOk result (IsOnDisk o (batches_if (is_ahead self.old p) batches pending) self.new (D.bytes disk.new)) }
+        ensures stored { IsTrue D.tells → Knows (store_of self.old) (D.bytes disk.old) → OnOk result (HasStored self.old p (D.bytes disk.old) (D.bytes disk.new)) }
+        ensures durable { IsTrue D.tells → OnOk result (Only (D.bytes disk.new) (D.may_leave disk.new)) }
+        ensures moments { IsTrue D.tells → Only (D.bytes disk.old) (D.may_leave disk.old) → (o : Origin) (batches : List (List Record)) (pending : List Record) → IsBehind o batches pending self.old → IsOnDisk o batches self.old (D.bytes disk.old)
+            → LeavesOnly D.moment D.left_since disk.old disk.new (IsLeft o batches pending self.old (D.bytes disk.old)) }
+        ensures passes { IsTrue D.tells → Knows (store_of self.old) (D.bytes disk.old)
+            → Passes ((if is_ahead self.old p then force_calls (is_waiting (log_of self.old)) else 0) + store_calls self.old p (D.bytes disk.old)) (D.passed disk.old) (D.passed disk.new) result }
+    {
+        let lsn = self.cache.lsn(p);
+        self.force_up_to(disk, lsn)?;
+        let forced = self.log.forced();
+        let stored = self.cache.flush(disk, p, forced);
+        self.failed = stored.is_err();
+        stored
+    }
+
+    /// Forces what is pending if the record of that LSN is not on the disk.
+    fn force_up_to<D: Disk>(&mut self, disk: &mut D, lsn: u64) -> Result<(), DiskError>
+        requires works { has_failed self.old ≡ false }
+        requires known { lsn ≤ log_count (log_of self.old) }
+        requires within { LiesWithin self.old (D.extent disk.old) }
+        ensures disk { KeepsDisk D.Disk disk.old disk.new result }
+        ensures failed { has_failed self.new ≡ is_err result }
+        ensures cache { cache_of self.new ≡ cache_of self.old }
+        ensures reached { OnOk result (lsn ≤ log_forced (log_of self.new)) }
+        ensures kept { (batches : List (List Record)) (pending : List Record) → Keeps (log_of self.old) batches pending
+            → OnOk result (Keeps (log_of self.new) (batches_if (nat_lt (log_forced (log_of self.old)) lsn) batches pending) (pending_if (nat_lt (log_forced (log_of self.old)) lsn) pending)) }
+        ensures behind { (o : Origin) (batches : List (List Record)) (pending : List Record) → IsBehind o batches pending self.old
+            → OnOk result (IsBehind o (batches_if (nat_lt (log_forced (log_of self.old)) lsn) batches pending) (pending_if (nat_lt (log_forced (log_of self.old)) lsn) pending) self.new) }
+        ensures count { log_count (log_of self.new) ≡ log_count (log_of self.old) }
+        ensures used { log_used (log_of self.new) ≤ log_used (log_of self.old) }
+        ensures spare { (more : ℕ) → HasSpare (log_of self.old) more → HasSpare (log_of self.new) more }
+        ensures room { log_room (log_of self.new) ≡ log_room (log_of self.old) }
+        ensures on_disk { IsTrue D.tells → (o : Origin) (batches : List (List Record)) (pending : List Record) → IsBehind o batches pending self.old → IsOnDisk o batches self.old (D.bytes disk.old)
+            → OnOk result (IsOnDisk o (batches_if (nat_lt (log_forced (log_of self.old)) lsn) batches pending) self.new (D.bytes disk.new)) }
+        ensures outside { IsTrue D.tells → OnOk result (SameOutside (log_place (log_of self.old)) (log_place (log_of self.old) + log_room (log_of self.old)) (D.bytes disk.old) (D.bytes disk.new)) }
+        ensures durable { IsTrue D.tells → Only (D.bytes disk.old) (D.may_leave disk.old) → OnOk result (Only (D.bytes disk.new) (D.may_leave disk.new)) }
+        ensures moments { IsTrue D.tells → Only (D.bytes disk.old) (D.may_leave disk.old) → (o : Origin) (batches : List (List Record)) (pending : List Record) → IsBehind o batches pending self.old → IsOnDisk o batches self.old (D.bytes disk.old)
+            → LeavesOnly D.moment D.left_since disk.old disk.new (IsLeft o batches pending self.old (D.bytes disk.old)) }
+        ensures passes { IsTrue D.tells → Passes (if nat_lt (log_forced (log_of self.old)) lsn then force_calls (is_waiting (log_of self.old)) else 0) (D.passed disk.old) (D.passed disk.new) result }
+    {
+        if self.log.forced() < lsn {
+            return self.force(disk);
+        }
+        Ok(())
     }
 }
