@@ -1,11 +1,11 @@
 //! A log and its pages in memory.
-ghost use Rattle.std.specs.Prelude.{◌≡◌, ℕ, ◌+◌, ◌*◌, ◌<◌, ◌≤◌, ◌^◌, ◌++◌, List, [], false, Ok, is_err, IsOk, IsFalse, IsTrue, OnErr, OnOk, length, nat_lt, ◌≢◌, if◌then◌else◌};
+ghost use Rattle.std.specs.Prelude.{◌≡◌, ℕ, ◌+◌, ◌*◌, ◌<◌, ◌≤◌, ◌^◌, ◌++◌, List, [], false, Ok, is_err, IsOk, IsFalse, IsTrue, OnErr, OnOk, None, length, nat_lt, slice_index, ◌≢◌, if◌then◌else◌};
 ghost use Rattle.disk_model.specs.Disk.{Only, SameOutside};
 ghost use Rattle.disk_model.specs.Keeps.{KeepsDisk};
 ghost use Rattle.disk_model.specs.Moments.{LeavesOnly};
 ghost use Rattle.gate_slot.specs.Passing.{Passes};
 ghost use Rattle.gated_log.specs.Log.{with_batch};
-ghost use Rattle.gated_log.specs.LogState.{log_count, log_forced, log_place, log_room, log_used, log_used_with, is_waiting, HasSpare, IsBufferEmpty, Keeps};
+ghost use Rattle.gated_log.specs.LogState.{log_count, log_forced, log_place, log_room, log_used, log_used_with, is_waiting, HasSpare, IsBufferEmpty, IsSameLog, Keeps, KeepsMemory};
 ghost use Rattle.image_plan.specs.Plan.{log_offset};
 ghost use Rattle.log_machine.specs.Effect.{EachWritesBelow, WritesBelow};
 ghost use Rattle.log_machine.specs.Origin.{Origin};
@@ -21,7 +21,9 @@ ghost use Rattle.page_store.specs.StoreState.{store_plan, stored_entry, Knows};
 use crate::records::Records;
 use disk_model::{Disk, DiskError};
 use gated_log::Log;
+use log_records::BATCH_BYTES;
 use page_cache::{Effect, PageCache};
+use std::alloc::AllocError;
 
 /// The log of a heap and its pages in memory: no page has a record that the log lacks.
 #[derive(Debug, Drop)]
@@ -62,6 +64,99 @@ impl LoggedPages {
             cache,
             failed: false,
         }
+    }
+
+    /// How many pages there are, those of both spaces.
+    pub fn pages(&self) -> u32
+        ensures { result ≡ cache_pages (cache_of self.now) }
+    {
+        self.cache.pages()
+    }
+
+    /// The words of all pages, by address.
+    pub fn as_slice(&self) -> &[u64]
+        ensures words { result.now ≡ (pages_in_memory self.now).words }
+        ensures fit { (at : ℕ) → slice_index result.now at < 2 ^ 64 }
+    {
+        self.cache.as_slice()
+    }
+
+    /// The word at an address.
+    pub fn word(&self, at: u32) -> u64
+        requires { at < length (pages_in_memory self.now).words }
+        ensures { result ≡ slice_index (pages_in_memory self.now).words at }
+    {
+        self.cache.word(at)
+    }
+
+    /// The LSN of page `p`: of the last record that it has.
+    pub fn lsn(&self, p: u32) -> u64
+        requires { p < cache_pages (cache_of self.now) }
+        ensures { result ≡ lsn_of (pages_in_memory self.now) p }
+    {
+        self.cache.lsn(p)
+    }
+
+    /// Whether page `p` has changed since it was stored.
+    pub fn dirty(&self, p: u32) -> bool
+        requires { p < cache_pages (cache_of self.now) }
+        ensures { result ≡ is_dirty (cache_of self.now) p }
+    {
+        self.cache.dirty(p)
+    }
+
+    /// Whether a force or a store has failed. Then nothing else may follow.
+    pub fn failed(&self) -> bool
+        ensures { result ≡ has_failed self.now }
+    {
+        self.failed
+    }
+
+    /// Whether records are pending.
+    pub fn pending(&self) -> bool
+        ensures { result ≡ is_waiting (log_of self.now) }
+    {
+        self.log.pending()
+    }
+
+    /// The bytes of the log.
+    pub fn room(&self) -> u64
+        ensures { result ≡ log_room (log_of self.now) }
+    {
+        self.log.room()
+    }
+
+    /// The bytes of it that are used: the forced batches, a gate, and a batch of the pending records.
+    pub fn used(&self) -> u64
+        ensures value { result ≡ log_used (log_of self.now) }
+        ensures fits { result ≤ log_room (log_of self.now) }
+    {
+        self.log.used()
+    }
+
+    /// The bytes that are used if that many more are pending.
+    pub fn used_with(&self, more: u64) -> u64
+        requires { more < 2 ^ 33 }
+        ensures { result ≡ log_used_with (log_of self.now) more }
+    {
+        if more == 0 || self.pending() {
+            self.used() + more
+        } else {
+            self.used() + BATCH_BYTES as u64 + more
+        }
+    }
+
+    /// Allocates memory for that many more bytes of records.
+    pub fn reserve(&mut self, bytes: usize) -> Result<(), AllocError>
+        requires { bytes < 2 ^ 32 }
+        ensures spare { OnOk result (HasSpare (log_of self.new) bytes) }
+        ensures in_room { HasSpare (log_of self.old) bytes → IsOk result }
+        ensures same { IsSameLog (log_of self.old) (log_of self.new) }
+        ensures memory { KeepsMemory (log_of self.old) (log_of self.new) }
+        ensures cache { cache_of self.new ≡ cache_of self.old }
+        ensures failed { has_failed self.new ≡ has_failed self.old }
+    {
+        self.log.reserve(bytes)
     }
 
     /// Makes the change that these records say: all of them are appended to the log, and then each is put on its pages with its LSN. There is
@@ -132,8 +227,31 @@ impl LoggedPages {
         ensures put { OnOk result (HasPut self.old self.new (put_page lsn p (pages_in_memory self.old) (E.rec effect.now))) }
         ensures still { (disk.new ≡ disk.old) × IsOk result }
     {
+        self.make_way(disk, p)?;
         self.cache.write(lsn, p, effect);
         Ok(())
+    }
+
+    /// Stores the page, if there is one, that is to be stored before page `p` gets dirty.
+    fn make_way<D: Disk>(&mut self, disk: &mut D, p: u32) -> Result<(), DiskError>
+        requires works { has_failed self.old ≡ false }
+        requires within { LiesWithin self.old (D.extent disk.old) }
+        ensures disk { KeepsDisk D.Disk disk.old disk.new result }
+        ensures failed { has_failed self.new ≡ is_err result }
+        ensures put { OnOk result (HasPut self.old self.new (pages_in_memory self.old)) }
+        ensures still { (disk.new ≡ disk.old) × IsOk result }
+    {
+        match self.victim(p) {
+            Some(victim) => self.store(disk, victim),
+            None => Ok(()),
+        }
+    }
+
+    /// The page that is to be stored before page `p` gets dirty: none, as long as each page may be dirty.
+    fn victim(&self, _p: u32) -> Option<u32>
+        ensures { result ≡ None }
+    {
+        None
     }
 
     /// Forces what is pending, without allocating. After an error it isn't known whether it is on the disk, and nothing else may follow.
