@@ -4,7 +4,7 @@ use Rattle.std.specs.Prelude.{is_err, fold, IsOk, OnOk}
 use Rattle.gated_log.specs.declared.log.Log.{Log}
 use Rattle.gated_log.specs.Log.{records_of}
 use Rattle.gated_log.specs.LogRoom.{used_bytes}
-use Rattle.gated_log.specs.LogState.{log_place, log_room, log_used, log_used_with, HasSpare, Keeps}
+use Rattle.gated_log.specs.LogState.{log_used, log_used_with, HasSpare, Keeps}
 use Rattle.log_machine.proofs.WordsLaws.{length-put_records}
 use Rattle.log_machine.specs.Machine.{put_record}
 use Rattle.log_machine.specs.Origin.{Origin, next_lsn}
@@ -95,11 +95,8 @@ module _ (old new : LoggedPages) (log : Log) (first : ℕ) (records : List Recor
 -- Records that are put one after another.
 
 -- what lies within a disk does so while no page is stored
-pub within_still : (old new : LoggedPages) (extent now : ℕ) → log_of new ≡ log_of old → store_of new ≡ store_of old → now ≡ extent → LiesWithin old extent → LiesWithin new now
-within_still old new extent now log store disk is = record {
-  log = omega (arith, ap log_place log, ap log_room log, disk, is.log);
-  pages = omega (arith, ap store_size store, disk, is.pages);
-}
+pub within_still : (old new : LoggedPages) (extent now : ℕ) → store_of new ≡ store_of old → now ≡ extent → LiesWithin old extent → LiesWithin new now
+within_still old new extent now store disk is = omega (arith, ap store_size store, disk, is)
 
 -- one more record
 pub put_more : (old mid new : LoggedPages) (first i : ℕ) (records : List Record) (rec : Record) → i < length records → rec ≡ get_or records i rec

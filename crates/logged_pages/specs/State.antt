@@ -2,7 +2,7 @@
 use Rattle.std.specs.Prelude.{◌≡◌, ℕ, ◌+◌, ◌≤◌, Bool, List, ◌++◌}
 use Rattle.gated_log.specs.declared.log.Log.{Log}
 use Rattle.gated_log.specs.Log.{records_of}
-use Rattle.gated_log.specs.LogState.{Keeps, log_count, log_place, log_room}
+use Rattle.gated_log.specs.LogState.{Keeps, log_count}
 use Rattle.log_machine.specs.Origin.{Origin, first_lsn}
 use Rattle.log_records.specs.declared.Record.{Record}
 use Rattle.page_cache.specs.CacheState.{cached, cache_size, cache_store}
@@ -36,10 +36,9 @@ has_failed pages = pages.failed
 abbrev pub next_lsn_in : Log → ℕ
 next_lsn_in log = log_count log + first_lsn
 
--- The log and the pages lie within a disk of that size.
-pub record LiesWithin (of : LoggedPages) (extent : ℕ) : Type 0 where
-  pub log : log_place of.log + log_room of.log ≤ extent
-  pub pages : cache_size of.cache ≤ extent
+-- the log and the pages behind it lie within a disk of that size
+abbrev pub LiesWithin : LoggedPages → ℕ → Type 0
+LiesWithin pages extent = cache_size pages.cache ≤ extent
 
 -- The log has these batches and these pending records, and each page the effects of its records up to the page's LSN. So it is also in the middle of
 -- a record, when some of its pages have it and others do not.

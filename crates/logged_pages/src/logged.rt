@@ -21,6 +21,7 @@ ghost use Rattle.page_store.specs.StoreState.{store_plan, stored_entry, Knows};
 use crate::records::Records;
 use disk_model::{Disk, DiskError};
 use gated_log::Log;
+use image_plan::Plan;
 use log_records::BATCH_BYTES;
 use page_cache::{Effect, PageCache};
 use std::alloc::AllocError;
@@ -64,6 +65,13 @@ impl LoggedPages {
             cache,
             failed: false,
         }
+    }
+
+    /// Where the log and the pages lie in the image.
+    pub fn plan(&self) -> Plan
+        ensures { result ≡ store_plan (store_of self.now) }
+    {
+        self.cache.plan()
     }
 
     /// How many pages there are, those of both spaces.

@@ -24,7 +24,7 @@ carry_record-requires-clause-inside g c =
 pub carry_record-requires-clause-within : goal.carry_record-requires-clause-within
 carry_record-requires-clause-within g c =
     let l = c.loop-i in
-    within_still c.args.pages.now l.pages (g.D.Disk.extent c.args.disk.now) (g.D.Disk.extent l.disk) l.invariant.put.log l.invariant.put.store (ap g.D.Disk.extent l.invariant.still) c.requires.within
+    within_still c.args.pages.now l.pages (g.D.Disk.extent c.args.disk.now) (g.D.Disk.extent l.disk) l.invariant.put.store (ap g.D.Disk.extent l.invariant.still) c.requires.within
 
 pub loop-i-preserved : goal.loop-i-preserved
 loop-i-preserved g c =
