@@ -120,6 +120,20 @@ impl LoggedPages {
         self.failed
     }
 
+    /// How many records the log has, forced or pending: the LSN of the last one.
+    pub fn records(&self) -> u64
+        ensures { result ≡ log_count (log_of self.now) }
+    {
+        self.log.records()
+    }
+
+    /// How many of them were forced: the last LSN that is on the disk.
+    pub fn forced(&self) -> u64
+        ensures { result ≡ log_forced (log_of self.now) }
+    {
+        self.log.forced()
+    }
+
     /// Whether records are pending.
     pub fn pending(&self) -> bool
         ensures { result ≡ is_waiting (log_of self.now) }

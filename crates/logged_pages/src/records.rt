@@ -44,6 +44,7 @@ pub trait Records {
 }
 
 /// Records in a list.
+#[derive(Debug, Drop)]
 pub struct Listed<'a> {
     /// The records.
     pub records: &'a [Record],
