@@ -3,6 +3,8 @@
 
 mod logged;
 mod records;
+mod taken_back;
 
 pub use logged::LoggedPages;
 pub use records::{Listed, Records};
+pub use taken_back::TakenBack;
