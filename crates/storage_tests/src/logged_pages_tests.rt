@@ -21,9 +21,6 @@ const PLAN: Plan = Plan {
     log_bytes: 16_384,
 };
 
-/// An update of a field at the end of page 0, of one on page 1, and of the last word of all.
-const UPDATES: [(u32, u16); 3] = [(40, 21), (60, 2), (500, 9)];
-
 /// Writes on pages 2, 1 and 7, in no order, and twice at one address.
 const WRITES: [(u32, u64); 5] = [(140, 5), (64, 9), (511, 13), (127, 17), (140, 21)];
 
@@ -50,7 +47,9 @@ fn base(alloc: Global) -> Result<Record, AllocError>
 }
 
 /// A copy of an object of so many words from one address to another.
-fn copied(alloc: Global, from: u32, to: u32, fields: u8) -> Result<ObjectCopy, AllocError> {
+fn copied(alloc: Global, from: u32, to: u32, fields: u8) -> Result<ObjectCopy, AllocError>
+    ensures { IfOk result (λ copy. (copy.from ≡ from) × (copy.to ≡ to) × (length copy.words ≡ fields + 2)) }
+{
     let words = ObjectWords::new(object(alloc, fields, 33)?);
     Ok(ObjectCopy { from, to, words })
 }
@@ -78,33 +77,42 @@ fn flip(alloc: Global) -> Result<Record, AllocError>
     })
 }
 
-fn update(place: (u32, u16)) -> Record {
+fn update(object: u32, field: u16) -> Record
+    requires { object + 2 + field < 512 }
+    ensures { WritesBelow 512 result }
+{
     Record::Update {
         t: 1,
-        object: place.0,
-        field: place.1,
+        object,
+        field,
         was: 0,
         word: 41,
     }
 }
 
-/// Records of all kinds.
+fn scan(alloc: Global) -> Result<Record, AllocError>
+    ensures { IfOk result (λ rec. WritesBelow 512 rec) }
+{
+    Ok(Record::Scan {
+        page: 1,
+        writes: Writes::new(WRITES.to_vec(alloc)?),
+    })
+}
+
+/// Records of all kinds. The updates are of a field at the end of page 0, of one on page 1, and of the last word of all.
 fn records(alloc: Global) -> Result<Vec<Record>, AllocError>
     ensures { IfOk result (λ found. EachWritesBelow 512 found.items) }
 {
     let mut records = Vec::new(alloc);
-    records.push(update(UPDATES[0]))?;
+    records.push(update(40, 21))?;
     records.push(base(alloc)?)?;
-    records.push(update(UPDATES[1]))?;
+    records.push(update(60, 2))?;
     records.push(Record::Commit { t: 1 })?;
     records.push(copy(alloc)?)?;
-    records.push(Record::Scan {
-        page: 1,
-        writes: Writes::new(WRITES.to_vec(alloc)?),
-    })?;
+    records.push(scan(alloc)?)?;
     records.push(flip(alloc)?)?;
     records.push(Record::Collected)?;
-    records.push(update(UPDATES[2]))?;
+    records.push(update(500, 9))?;
     Ok(records)
 }
 
@@ -199,11 +207,7 @@ fn new_disk(alloc: Global) -> Result<MemoryDisk, AllocError> {
 
 // What follows wraps calls with long contracts, since each of their callers would otherwise prove them anew.
 
-fn open_cache(
-    rt: &impl Abort,
-    alloc: Global,
-    disk: &mut MemoryDisk,
-) -> Result<PageCache, Fail> {
+fn open_cache(rt: &impl Abort, alloc: Global, disk: &mut MemoryDisk) -> Result<PageCache, Fail> {
     assert!(rt; disk.size() >= PLAN.size());
     Ok(PageCache::open(alloc, disk, PLAN)?)
 }
@@ -252,7 +256,11 @@ fn carry(
 fn force(rt: &impl Abort, pages: &mut LoggedPages, disk: &mut MemoryDisk) -> Result<(), Fail> {
     assert!(rt; !pages.failed() && disk.size() >= pages.plan().size());
     pages.force(disk)?;
-    same(rt, (pages.pending(), pages.forced()), (false, pages.records()));
+    same(
+        rt,
+        (pages.pending(), pages.forced()),
+        (false, pages.records()),
+    );
     Ok(())
 }
 
