@@ -70,6 +70,11 @@ quotes() {
     report "$page quotes $file" $? 0 0
 }
 
+# tried NAME: what the crash lab prints of that script.
+tried() {
+    made "lab/$1.out" heap lab --pages 2 --log 8192 <"$examples/lab/$1.script"
+}
+
 # inspects: the inspector and the program agree on drawn images.
 inspects() {
     "$examples/tools/inspected.py" $quick 60 >"$out"
@@ -131,6 +136,9 @@ printed basics/in_use
 printed basics/full_heap
 printed damage/spoiled
 printed crashes/every_stop
+tried late
+tried queue
+tried bank
 printed sessions/threads
 printed collections/beside
 printed collections/cut_off
