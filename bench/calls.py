@@ -1,5 +1,6 @@
 #!/usr/bin/env python3
-"""Compares what a call of the Python client costs, through the pipe of a session, with calls of SQLite's and LMDB's bindings in one run.
+"""Compares what a call of the Python client costs, through the pipe of a session, with calls of the library in Python's own process, and of SQLite's and
+LMDB's bindings, in one run.
 
     bench/calls.py [--quick] [N [ROUNDS]]
 
@@ -8,7 +9,8 @@ is one transaction that writes one number and is on the disk when the call retur
 with its rollback journal as by default and with a write-ahead log and `synchronous=FULL`, an update by key; of LMDB a put. A read is one
 of such a number in a transaction that is open: one line through the pipe. All files lie in one temporary folder (TMPDIR). In each round all
 take their turn, so that other work on the machine strikes them alike; printed are the ratios of a round, their median, least and
-greatest. A binding that Python does not find is left out: LMDB's is Debian's package python3-lmdb. With --quick the program is that which is
+greatest. A binding that Python does not find is left out, and so is the library where `make -C clients/lib` has not made it: LMDB's is
+Debian's package python3-lmdb. With --quick the program is that which is
 compiled with nothing proved; it has checks at each step, so its ratios say little. It judges nothing.
 
 Each store syncs by its own rules, so the first ratio is of whole commits, and on a slow disk it is the ratio of their syncs. The others read in the caller's
@@ -28,7 +30,7 @@ TOP = pathlib.Path(__file__).resolve().parents[1]
 sys.dont_write_bytecode = True
 sys.path.insert(0, str(TOP / "clients/python"))
 
-from stable_heap import Heap  # noqa: E402
+from stable_heap import LIBRARIES, Heap  # noqa: E402
 
 READS = 10  # for each commit
 
@@ -65,6 +67,13 @@ class OfHeap:
 
     def close(self):
         self.heap.close()
+
+
+class OfLibrary(OfHeap):
+    name = "the heap in this process"
+
+    def __init__(self, folder, commits):
+        self.heap = Heap.open(folder, pages=1, log_bytes=65_536 + 40 * commits, here=True)
 
 
 class OfSqlite:
@@ -122,6 +131,10 @@ class OfLmdb:
 def opened(room, commits, quick):
     """The heap, and those to compare it with that this Python has."""
     yield OfHeap(room / "heap", commits, quick)
+    if any(path and os.path.exists(path) for path in LIBRARIES):
+        yield OfLibrary(room / "library", commits)
+    else:
+        print("without the library: make -C clients/lib has not made it")
     sqlite3, lmdb = binding("sqlite3"), binding("lmdb")
     if sqlite3:
         yield OfSqlite(sqlite3, str(room / "journal.db"), "delete")

@@ -83,7 +83,7 @@ def contracts(crate, function):
     found = []
     for path in code(crate):
         module, text = os.path.basename(path)[: -len(".rt")], text_of(path)
-        for it in re.finditer(rf"^[ ]*(?:pub(?:\([a-z]+\))? )?(?:const )?fn {re.escape(name)}\b", text, re.M):
+        for it in re.finditer(rf'^[ ]*(?:pub(?:\([a-z]+\))? )?(?:const )?(?:unsafe )?(?:extern "C" )?fn {re.escape(name)}\b', text, re.M):
             if is_of(place, module, head_of(text, it.start())):
                 # a contract ends where the body begins, at the item's own indentation, or at a semicolon
                 end = re.compile(r"^ *\{|\{$|;$", re.M).search(text, it.end())
@@ -93,7 +93,7 @@ def contracts(crate, function):
 
 def clauses_of(contract):
     """What a contract promises, by the names of its clauses, 'result' for one that has none."""
-    parts = re.split(r"\b(ensures|requires)(?: (\w+))? \{", contract)
+    parts = re.split(r"\b(ensures|requires)\*?(?: (\w+))? \{", contract)
     return {name or "result": text for kind, name, text in zip(parts[1::3], parts[2::3], parts[3::3]) if kind == "ensures"}
 
 

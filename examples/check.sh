@@ -70,6 +70,11 @@ quotes() {
     report "$page quotes $file" $? 0 0
 }
 
+# tried NAME: what the crash lab prints of that script.
+tried() {
+    made "lab/$1.out" heap lab --pages 2 --log 8192 <"$examples/lab/$1.script"
+}
+
 # inspects: the inspector and the program agree on drawn images.
 inspects() {
     "$examples/tools/inspected.py" $quick 60 >"$out"
@@ -131,6 +136,9 @@ printed basics/in_use
 printed basics/full_heap
 printed damage/spoiled
 printed crashes/every_stop
+tried late
+tried queue
+tried bank
 printed sessions/threads
 printed collections/beside
 printed collections/cut_off
@@ -163,6 +171,7 @@ ends_without_memory
 printed tools/remade
 printed clients/python
 if command -v cc >/dev/null; then printed clients/c; fi
+if [ -f "$top/clients/lib/build/libstable_heap.a" ]; then printed clients/lib; fi
 printed library/page
 
 made basics/list.dot "$top/tools/graph_to_dot" <"$examples/basics/list.out"

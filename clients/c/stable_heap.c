@@ -296,6 +296,111 @@ sh_result sh_reopen(sh_heap *heap) {
     return sh_force(heap, NULL);
 }
 
+/* ---- many events at once */
+
+/* So many lines are sent before their answers are read: few enough for both to lie in the socket. */
+enum { AT_ONCE = 128 };
+
+static const struct {
+    const char *word;
+    int numbers;
+} event_lines[] = {
+    {"begin", 0}, {"root", 1}, {"new", 2}, {"put", 3},  {"clear", 2}, {"link", 3},  {"drop", 1}, {"get", 3},
+    {"same", 2},  {"len", 1},  {"seal", 0}, {"abort", 0}, {"force", 0}, {"flush", 1}, {"flip", 0}, {"scan", 0},
+};
+
+static const char *const reply_words[] = {
+    "begun",   "done",   "null",    "int",        "ref",     "yes",       "no",   "len",     "sealed",
+    "aborted", "durable", "flipped", "collecting", "scanned", "collected", "idle", "flushed", "clean",
+};
+
+static const char *const refusal_words[] = {
+    "failed",     "alreadyactive", "notactive", "numbersspent", "badhandle", "range",   "badfield",
+    "nosuchpage", "busy",          "volatilefull", "exhausted", "logfull",   "diskfault", "stopped",
+};
+
+static bool is_event(const sh_event *event) {
+    bool of_session = event->s >= 1 && event->s <= SESSIONS;
+    return event->op >= SH_EVENT_BEGIN && event->op < SH_EVENTS_END && (event->op >= SH_EVENT_FORCE || of_session);
+}
+
+/* The event's line, without its newline. */
+static void spell(const sh_event *event, char *line) {
+    size_t which = (size_t)(event->op - SH_EVENT_BEGIN);
+    const uint64_t numbers[] = {event->a, event->b, event->c};
+    int length = 0;
+    if (event->op < SH_EVENT_FORCE) length = snprintf(line, LINE, "%" PRIu64 " ", event->s);
+    length += snprintf(line + length, (size_t)(LINE - length), "%s", event_lines[which].word);
+    for (int i = 0; i < event_lines[which].numbers; i++) length += snprintf(line + length, (size_t)(LINE - length), " %" PRIu64, numbers[i]);
+}
+
+static uint64_t code_of(const char *word, const char *const *words, size_t count, uint64_t first) {
+    for (size_t i = 0; i < count; i++) {
+        if (strcmp(word, words[i]) == 0) return first + i;
+    }
+    return 0;
+}
+
+static void read_reply(const char *text, sh_reply *reply) {
+    char word[LINE] = "";
+    uint64_t *numbers = reply->numbers;
+    memset(reply, 0, sizeof *reply);
+    sscanf(text, "%127s %" SCNu64 " %" SCNu64 " %" SCNu64, word, numbers, numbers + 1, numbers + 2);
+    reply->code = code_of(word, reply_words, sizeof reply_words / sizeof *reply_words, SH_REPLY_BEGUN);
+    if (reply->code == 0) reply->code = code_of(word, refusal_words, sizeof refusal_words / sizeof *refusal_words, SH_REPLY_FAILED);
+}
+
+/* Reads the answer to an event that was sent. */
+static sh_result take_answer(sh_heap *heap, const sh_event *event, sh_reply *reply) {
+    char line[LINE], answer[2 * LINE];
+    spell(event, line);
+    size_t length = strlen(line);
+    if (!read_line(heap, answer, sizeof answer)) return ended(heap);
+    if (strncmp(answer, line, length) != 0 || strncmp(answer + length, " -> ", 4) != 0) return fail(&heap->error, SH_PROTOCOL, answer);
+    read_reply(answer + length + 4, reply);
+    return judge(heap, answer, answer + length + 4);
+}
+
+static bool send_events(sh_heap *heap, const sh_event *events, size_t count) {
+    char line[LINE + 1];
+    for (size_t i = 0; i < count; i++) {
+        spell(&events[i], line);
+        strcat(line, "\n");
+        if (heap->child <= 0 || !send_line(heap, line)) return false;
+    }
+    return true;
+}
+
+/* Sends the next lines: where what stands behind a refusal is not to be made, no more than one. How many there are, or 0. */
+static size_t send_some(sh_heap *heap, const sh_event *events, size_t count, bool go_on) {
+    size_t some = 0, most = go_on ? AT_ONCE : 1;
+    while (some < count && some < most && is_event(&events[some])) some++;
+    if (some == 0) fail(&heap->error, SH_PROTOCOL, "no event of a session");
+    else if (!send_events(heap, events, some)) ended(heap);
+    else return some;
+    return 0;
+}
+
+sh_result sh_batch(sh_heap *heap, const sh_event *events, size_t count, bool go_on, sh_reply *replies, size_t *made) {
+    sh_error first = {0};
+    size_t done = 0, sent = 0;
+    while (done < count && (first.result == SH_OK || go_on)) {
+        if (done == sent) sent += send_some(heap, events + done, count - done, go_on);
+        bool lost = done == sent;
+        if (!lost) {
+            replies[done].code = 0;
+            if (take_answer(heap, &events[done], &replies[done]) == SH_OK) heap->error.result = SH_OK;
+            lost = replies[done].code == 0;
+        }
+        if (heap->error.result != SH_OK && (first.result == SH_OK || lost)) first = heap->error;
+        if (lost) break;
+        done++;
+    }
+    if (first.result != SH_OK) heap->error = first;
+    if (made) *made = done;
+    return first.result;
+}
+
 /* ---- transactions */
 
 sh_result sh_begin(sh_heap *heap, sh_transaction **transaction) {

@@ -11,7 +11,10 @@
 #ifndef STABLE_HEAP_H
 #define STABLE_HEAP_H
 
+#include "heap_numbers.h"
+
 #include <stdbool.h>
+#include <stddef.h>
 #include <stdint.h>
 
 typedef enum {
@@ -35,8 +38,9 @@ typedef enum {
     SH_IN_USE,     /* another program has the heap open */
     SH_NOT_A_HEAP,
     SH_DAMAGED,
-    SH_ENDED,   /* for another reason: `status` is its exit status */
-    SH_PROTOCOL /* it answered what it should not */
+    SH_ENDED,    /* for another reason: `status` is its exit status */
+    SH_PROTOCOL, /* it answered what it should not, or a forked child called */
+    SH_NO_MEMORY /* memory was refused; in the program's own process a call of which that is said did nothing */
 } sh_result;
 
 /* Leaves a function that gives a result with what a call gave, where it was not done. */
@@ -78,6 +82,10 @@ sh_heap *sh_open(const char *folder, const char *const *command, unsigned pages,
 /* Ends the heap's process and frees the heap with its transactions: those that are active are aborted, and what was sealed is forced. */
 void sh_close(sh_heap *heap);
 
+/* With the library of clients/lib the heap is in the program's own process: sh_open takes no launcher then, so `command` may be NULL, and this call is the
+ * same without it. The client of clients/c has none of that name. */
+sh_heap *sh_open_here(const char *folder, unsigned pages, unsigned log_bytes, sh_error *error);
+
 /* The last call that was not done. */
 const sh_error *sh_last_error(const sh_heap *heap);
 
@@ -95,6 +103,19 @@ sh_result sh_scan(sh_heap *heap, bool *more);
 /* Closes the heap and opens it again, in the same process: the memory is free then that each call has taken for the heap's history, and the
  * commits that sh_force tells are counted anew. It is refused while a transaction is active. */
 sh_result sh_reopen(sh_heap *heap);
+
+/* Many events at once, by their numbers (heap_numbers.h): a session from 1 to 32 and three numbers behind each. It stops behind the first one that
+ * is refused, unless it is to go on, and gives the result of that, or of the first. `made` is how many were answered, in `replies`. A session is
+ * asked either by batches or as a transaction of sh_begin, which takes the least one that it knows to be free. */
+typedef struct {
+    uint64_t op, s, a, b, c;
+} sh_event;
+
+typedef struct {
+    uint64_t code, numbers[3];
+} sh_reply;
+
+sh_result sh_batch(sh_heap *heap, const sh_event *events, size_t count, bool go_on, sh_reply *replies, size_t *made);
 
 sh_result sh_begin(sh_heap *heap, sh_transaction **transaction);
 

@@ -10,7 +10,8 @@
 
 The heap is the file `heap.img` of a folder. A process of its own, `heap session`, works on it: this module sends it one line for each call
 and reads the answer. So the heap keeps its guarantee whatever this program does: if it dies, that is a crash of the heap's client, and what
-was committed is there.
+was committed is there. With `Heap.open(folder, here=True)` the heap is in this program's own process, by the library of `clients/lib`: a call is then
+many times as fast, and what overwrites the program's memory can spoil the heap.
 
 A transaction that ends without an exception is committed, and is on the disk when its `with` is left; one that ends with an exception is
 aborted. A call that the heap refuses is an exception, a `Refused`. A transaction of which a call was refused can't be committed, also if
@@ -19,7 +20,9 @@ the exception was caught: at its end it is aborted, and the refusal is raised ag
 Threads may share a heap: each transaction has a session of its own, of which there are 32.
 """
 
+import ctypes
 import operator
+import os
 import pathlib
 import random
 import subprocess
@@ -57,6 +60,12 @@ __all__ = [
 HANDLES = 64
 SESSIONS = 32
 LAUNCHER = pathlib.Path(__file__).resolve().parents[2] / "heap"
+# where the library is looked for, in this order: what the variable STABLE_HEAP_LIBRARY names, a file beside this one, what `make -C clients/lib` made
+LIBRARIES = [
+    os.environ.get("STABLE_HEAP_LIBRARY", ""),
+    pathlib.Path(__file__).resolve().parent / "libstable_heap.so",
+    pathlib.Path(__file__).resolve().parents[1] / "lib/build/libstable_heap.so",
+]
 
 STATUSES = {1: "out of memory", 6: "the disk failed", 7: "not a heap", 8: "damaged", 10: "in use", 70: "the program can't be built"}
 
@@ -341,38 +350,18 @@ class Transaction:
             self._refusal = self._refusal or refusal
             raise
 
-class Heap:
-    """An open heap: a process that works on the file `heap.img` of a folder, which no other program can open meanwhile."""
+class Pipe:
+    """A way to a heap: a process that answers lines."""
 
-    def __init__(self, process: subprocess.Popen):
-        self._process = process
-        self._turn = threading.Lock()
-        self._sessions = list(range(SESSIONS, 0, -1))
-        self._has_session = threading.Condition()
-
-    @classmethod
-    def open(
-        cls, folder: Union[str, pathlib.Path], pages: int = 1_024, log_bytes: int = 16_777_216, command: Sequence[str] = (str(LAUNCHER),)
-    ) -> "Heap":
-        """Opens the heap in that folder. Where the folder has no `heap.img`, or an empty one, a heap is made, of these sizes; what
-        holds something else is never written over, but raises NotAHeap. `command` is the launcher with its options: without `--quick`
-        it proves the program before its first run, which takes many minutes."""
-        folder = pathlib.Path(folder)
-        command = from_here(command)
+    def __init__(self, folder: pathlib.Path, pages: int, log_bytes: int, command: Sequence[str]):
         file = folder / "heap.img"
+        command = from_here(command)
         if not file.exists() or file.stat().st_size == 0:
-            folder.mkdir(parents=True, exist_ok=True)
-            cls._format(folder, pages, log_bytes, command)
-        heap = cls(
-            subprocess.Popen([*command, "session"], cwd=folder, stdin=subprocess.PIPE, stdout=subprocess.PIPE, text=True, bufsize=1)
+            self._format(folder, pages, log_bytes, command)
+        self._turn = threading.Lock()
+        self._process = subprocess.Popen(
+            [*command, "session"], cwd=folder, stdin=subprocess.PIPE, stdout=subprocess.PIPE, text=True, bufsize=1
         )
-        try:
-            # The first answer says that the heap is open.
-            heap.force()
-        except BaseException:
-            heap.close()
-            raise
-        return heap
 
     @staticmethod
     def _format(folder: pathlib.Path, pages: int, log_bytes: int, command: Sequence[str]) -> None:
@@ -381,6 +370,154 @@ class Heap:
         if status != 0:
             raise ENDS.get(status, Ended)(status)
 
+    def close(self) -> None:
+        try:
+            # (what it says at its end is read, so that it is not held up)
+            self._process.communicate()
+        except BrokenPipeError:
+            self._process.wait()
+
+    def exchange(self, event: str) -> List[str]:
+        """Sends a line, and gives the words of the reply."""
+        with self._turn:
+            try:
+                self._process.stdin.write(event + "\n")
+                answer = self._process.stdout.readline()
+            except (BrokenPipeError, ValueError):
+                answer = ""
+            except BaseException:
+                # A call that was cut short leaves an answer behind, which the next one would take for its own.
+                self._process.terminate()
+                raise
+        if not answer:
+            raise self._ended()
+        asked, arrow, reply = answer.rstrip("\n").partition(" -> ")
+        if not arrow or asked != event:
+            raise Protocol(f"the session answered {answer!r} to {event!r}")
+        return reply.split()
+
+    def _ended(self) -> HeapError:
+        """Why there is no answer."""
+        if self._process.stdin.closed:
+            return Protocol("the heap was closed")
+        status = self._process.wait()
+        return ENDS.get(status, Ended)(status)
+
+
+class EventNumbers(ctypes.Structure):
+    _fields_ = [("op", ctypes.c_uint64), ("s", ctypes.c_uint64), ("numbers", ctypes.c_uint64 * 3)]
+
+
+class ReplyNumbers(ctypes.Structure):
+    _fields_ = [("code", ctypes.c_uint64), ("numbers", ctypes.c_uint64 * 3)]
+
+
+class ErrorNumbers(ctypes.Structure):
+    _fields_ = [("result", ctypes.c_int), ("numbers", ctypes.c_uint64 * 3), ("status", ctypes.c_int), ("text", ctypes.c_char * 160)]
+
+
+# the events from number 32 on, the replies from code 32 and the refusals from code 64, each with how many numbers it says
+EVENTS = "begin root new put clear link drop get same len seal abort force flush flip scan".split()
+REPLIES = (
+    "begun1 done0 null0 int1 ref0 yes0 no0 len1 sealed1 aborted0 durable1 flipped2 collecting0 scanned3 collected1 idle0 flushed1 clean1"
+).split()
+REFUSED = (
+    "failed1 alreadyactive0 notactive0 numbersspent0 badhandle0 range0 badfield0 nosuchpage0 busy1 volatilefull1 exhausted3 logfull3 diskfault0 stopped0"
+).split()
+EVENT_NUMBERS = {word: 32 + place for place, word in enumerate(EVENTS)}
+REPLY_WORDS = {first + place: (it[:-1], int(it[-1])) for first, words in ((32, REPLIES), (64, REFUSED)) for place, it in enumerate(words)}
+SH_UNFINISHED = 10
+
+
+def open_library() -> ctypes.CDLL:
+    """The library of `clients/lib`."""
+    for path in LIBRARIES:
+        if path and os.path.exists(path):
+            library = ctypes.CDLL(str(path))
+            break
+    else:
+        raise HeapError("libstable_heap.so is not there: make -C clients/lib makes it")
+    library.sh_open_here.argtypes = [ctypes.c_char_p, ctypes.c_uint, ctypes.c_uint, ctypes.POINTER(ErrorNumbers)]
+    library.sh_open_here.restype = ctypes.c_void_p
+    library.sh_close.argtypes = [ctypes.c_void_p]
+    library.sh_reopen.argtypes = [ctypes.c_void_p]
+    library.sh_batch.argtypes = [
+        ctypes.c_void_p,
+        ctypes.POINTER(EventNumbers),
+        ctypes.c_size_t,
+        ctypes.c_bool,
+        ctypes.POINTER(ReplyNumbers),
+        ctypes.POINTER(ctypes.c_size_t),
+    ]
+    return library
+
+
+class Here:
+    """A way to a heap: the library, in this process."""
+
+    def __init__(self, folder: pathlib.Path, pages: int, log_bytes: int):
+        error = ErrorNumbers()
+        self._library = open_library()
+        self._heap = self._library.sh_open_here(os.fsencode(folder), pages, log_bytes, ctypes.byref(error))
+        if not self._heap:
+            raise ENDS.get(error.status, Ended)(error.status)
+
+    def close(self) -> None:
+        heap, self._heap = self._heap, None
+        if heap:
+            self._library.sh_close(heap)
+
+    def exchange(self, event: str) -> List[str]:
+        """Makes the event of a line, and gives the words of the reply."""
+        if not self._heap:
+            raise Protocol("the heap was closed")
+        if event == "reopen":
+            return ["unfinished"] if self._library.sh_reopen(self._heap) == SH_UNFINISHED else ["closed"]
+        reply = self._reply(event.split())
+        if reply.code not in REPLY_WORDS:
+            raise Ended(1) if reply.code == 1 else DiskFault(6) if reply.code == 4 else Protocol(f"the heap answered {reply.code} to {event!r}")
+        word, count = REPLY_WORDS[reply.code]
+        return [word, *map(str, reply.numbers[:count])]
+
+    def _reply(self, words: List[str]) -> ReplyNumbers:
+        session = int(words.pop(0)) if words[0].isdigit() else 0
+        numbers = (ctypes.c_uint64 * 3)(*map(int, words[1:]))
+        event, reply = EventNumbers(EVENT_NUMBERS[words[0]], session, numbers), ReplyNumbers()
+        self._library.sh_batch(self._heap, ctypes.byref(event), 1, False, ctypes.byref(reply), None)
+        return reply
+
+
+class Heap:
+    """An open heap, in a process that works on the file `heap.img` of a folder or in this one. No other program can open it meanwhile."""
+
+    def __init__(self, way: Union[Pipe, Here]):
+        self._way = way
+        self._sessions = list(range(SESSIONS, 0, -1))
+        self._has_session = threading.Condition()
+
+    @classmethod
+    def open(
+        cls,
+        folder: Union[str, pathlib.Path],
+        pages: int = 1_024,
+        log_bytes: int = 16_777_216,
+        command: Sequence[str] = (str(LAUNCHER),),
+        here: bool = False,
+    ) -> "Heap":
+        """Opens the heap in that folder. Where the folder has no `heap.img`, or an empty one, a heap is made, of these sizes; what
+        holds something else is never written over, but raises NotAHeap. `command` is the launcher with its options: without `--quick`
+        it proves the program before its first run, which takes many minutes. With `here` there is no such process: the heap is in this one."""
+        folder = pathlib.Path(folder)
+        folder.mkdir(parents=True, exist_ok=True)
+        heap = cls(Here(folder, pages, log_bytes) if here else Pipe(folder, pages, log_bytes, command))
+        try:
+            # The first answer says that the heap is open.
+            heap.force()
+        except BaseException:
+            heap.close()
+            raise
+        return heap
+
     def __enter__(self) -> "Heap":
         return self
 
@@ -388,12 +525,8 @@ class Heap:
         self.close()
 
     def close(self) -> None:
-        """Ends the session's process. Transactions that are active are aborted, and what was sealed is forced."""
-        try:
-            # (what it says at its end is read, so that it is not held up)
-            self._process.communicate()
-        except BrokenPipeError:
-            self._process.wait()
+        """Closes the heap, and ends its process. Transactions that are active are aborted, and what was sealed is forced."""
+        self._way.close()
 
     def transaction(self, durable: bool = True) -> Transaction:
         """A transaction, for `with`. If it is not to be durable at its end, it is so after the next `force` of any caller; a crash
@@ -460,34 +593,9 @@ class Heap:
         # (such a number is not of the grammar, so the heap can't be asked)
         if any(not 0 <= number < 2**64 for number in wholes):
             raise OutOfRange(event, "range", [])
-        word, *numbers = self._exchange(event)
+        word, *numbers = self._way.exchange(event)
         if word in FAULTS:
             raise DiskFault(6)
         if word in REFUSALS:
             raise REFUSALS[word](event, word, list(map(int, numbers)))
         return [word, *numbers]
-
-    def _exchange(self, event: str) -> List[str]:
-        with self._turn:
-            try:
-                self._process.stdin.write(event + "\n")
-                answer = self._process.stdout.readline()
-            except (BrokenPipeError, ValueError):
-                answer = ""
-            except BaseException:
-                # A call that was cut short leaves an answer behind, which the next one would take for its own.
-                self._process.terminate()
-                raise
-        if not answer:
-            raise self._ended()
-        asked, arrow, reply = answer.rstrip("\n").partition(" -> ")
-        if not arrow or asked != event:
-            raise Protocol(f"the session answered {answer!r} to {event!r}")
-        return reply.split()
-
-    def _ended(self) -> HeapError:
-        """Why there is no answer."""
-        if self._process.stdin.closed:
-            return Protocol("the heap was closed")
-        status = self._process.wait()
-        return ENDS.get(status, Ended)(status)

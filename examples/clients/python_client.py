@@ -1,7 +1,9 @@
 #!/usr/bin/env python3
-"""Tries clients/python/stable_heap.py. Where the variable HEAP is set, it is the launcher with its options.
+"""Tries clients/python/stable_heap.py. Where the variable HEAP is set, it is the launcher with its options; where it is "here", the heap is in this
+process.
 
     HEAP="./heap --quick" examples/clients/python_client.py
+    HEAP=here examples/clients/python_client.py
 """
 import os
 import pathlib
@@ -17,6 +19,7 @@ sys.path.insert(0, str(CLIENT))
 import stable_heap as sh  # noqa: E402
 
 COMMAND = os.environ.get("HEAP", str(sh.LAUNCHER)).split()
+HERE = COMMAND == ["here"]
 
 
 class Client(unittest.TestCase):
@@ -27,7 +30,7 @@ class Client(unittest.TestCase):
         self.heap = self.open()
 
     def open(self):
-        heap = sh.Heap.open(self.folder, pages=1, log_bytes=65_536, command=COMMAND)
+        heap = sh.Heap.open(self.folder, pages=1, log_bytes=65_536, command=COMMAND, here=HERE)
         self.addCleanup(heap.close)
         return heap
 
@@ -170,13 +173,14 @@ class Client(unittest.TestCase):
         self.put(2, durable=False)
         self.assertEqual(self.heap.force(), 2)
 
+    @unittest.skipIf(HERE, "there is no process of its own")
     def test_killed_process(self):
         self.put(7)
         with self.assertRaises(sh.Ended):
             with self.heap.transaction() as t:
                 t.root.put(0, 8)
-                self.heap._process.terminate()
-                self.heap._process.wait()
+                self.heap._way._process.terminate()
+                self.heap._way._process.wait()
                 t.root.put(0, 9)
         self.open_again()
         self.assertEqual(self.root_fields()[0], 7)

@@ -1,6 +1,6 @@
 # Part of the launcher heap: says how it is used, and what a user can do about an error.
 
-commands="commands today: format PAGES LOGBYTES FIRST; play [--fresh PAGES] [--stop N] [--again M] < SCRIPT; threads [--fresh PAGES] [--tries N] < SCRIPT; graph; load SEED COUNT [--fresh PAGES]; session"
+commands="commands today: format PAGES LOGBYTES FIRST; play [--fresh PAGES] [--stop N] [--again M] < SCRIPT; threads [--fresh PAGES] [--tries N] < SCRIPT; graph; load SEED COUNT [--fresh PAGES]; session; lab [--pages PAGES] [--log BYTES] [FILE].."
 limits="PAGES is 1 to 16384, LOGBYTES 64 to 1073741824, FIRST 1 to 4294967295; the heap is the file heap.img of this folder"
 
 help() {
@@ -54,6 +54,10 @@ why_no_heap() {
 
 # Adds to the program's own text what a user can do about it.
 explain() {
+    if [ "${program-}" = crash_lab ]; then
+        explain_lab "$1"
+        return
+    fi
     case "$1" in
     2)
         say "$commands"
@@ -67,6 +71,15 @@ explain() {
     8) say "keep a copy of heap.img before anything else; tools/heap_inspect heap.img says what can be read of it, and writes nothing" ;;
     153) say "the limit on the size of a file ended the run, as a crash: ulimit -f says how much is allowed" ;;
     129 | 1[3-5][0-9]) [ -n "$signal" ] || say "the run was ended by signal $(kill -l "$1"): to the heap that is a crash, and the next run recovers from it" ;;
+    esac
+}
+
+# Adds what a user can do where a crash lab ended so.
+explain_lab() {
+    case "$1" in
+    1) say "something differs: that is a fault of the heap, or a script that says another thing than it makes; please report it with the script" ;;
+    4) say "a line of a script is none, as examples/README.md, \"Why was my line refused?\", says; line 0 is a script that is too long" ;;
+    129 | 1[3-5][0-9]) [ -n "$signal" ] || say "the lab was ended by signal $(kill -l "$1")" ;;
     esac
 }
 

@@ -70,7 +70,7 @@ prove() {
 
 # Links the program, which is run on words that are no command, since a command would touch a heap.
 link_program() {
-    start_in_crate rt run -- none || return
+    start_in_crate rt run -- --none || return
     finish
     tail -n 1 -- "$kept/log" | grep -q -e '^usage: ' -e '^not a heap'
 }

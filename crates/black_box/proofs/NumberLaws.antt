@@ -1,5 +1,5 @@
 -- Committed transactions have numbers of their own.
-use Rattle.std.proofs.Common.{◌≡◌, ◌≢◌, inl, inr, ℕ, List, [], ◌∷◌, ◌++◌, Option, Some, None, get_or, refl, sym, ◌∙◌, subst, arith, append-nil, append_assoc}
+use Rattle.std.proofs.Common.{◌≡◌, ◌≢◌, inl, inr, ℕ, ◌+◌, List, [], ◌∷◌, ◌++◌, Option, Some, None, get_or, refl, sym, ap, ◌∙◌, subst, arith, append-nil, append_assoc}
 use Rattle.std.specs.List.{All, AllPairs, Contains}
 use Rattle.std.specs.Option.{option_to_list}
 use Rattle.std.proofs.lemmas.Option.{same_Some}
@@ -8,14 +8,14 @@ use Rattle.std.proofs.lemmas.List.Quantifiers.{all_pairs_push}
 use Rattle.graph_model.specs.declared.event.Event.{Event}
 use Rattle.graph_model.specs.declared.event.Event.TheVariants.{Begin, Seal}
 use Rattle.graph_model.specs.declared.reply.Entry.{Entry}
-use Rattle.graph_model.specs.declared.reply.Refusal.TheVariants.{DiskFault, Stopped}
+use Rattle.graph_model.specs.declared.reply.Refusal.TheVariants.{DiskFault, Failed, Stopped}
 use Rattle.graph_model.specs.declared.reply.Reply.{Reply}
 use Rattle.graph_model.specs.declared.reply.Reply.TheVariants.{Begun, Done, Null, Int, Reference, Yes, No, Length, Sealed, Aborted, Refused}
 use Rattle.graph_model.specs.Graph.{Graph}
 use Rattle.graph_model.specs.Transaction.{Transaction}
-use Rattle.graph_model.specs.History.{Account, account, answered, cut_short, sealed, session_of, with_active, with_call}
+use Rattle.graph_model.specs.History.{Account, account, answered, commits, cut_short, first_failure, session_of, with_active, with_call}
 use Rattle.graph_model.proofs.Runs.History.{account-append}
-use Rattle.commit_order.specs.SerialOrder.{HasPlainReplies, begun_number, numbers_begun}
+use Rattle.commit_order.specs.SerialOrder.{EachEntry, EndsWithFailure, HasPlainReplies, begun_number, numbers_begun}
 use Rattle.commit_order.proofs.OrderLaws.{changed, numbers-append}
 
 -- the numbers of two transactions differ
@@ -131,15 +131,57 @@ entry_numbers ns a event (Refused DiskFault) new h = more_numbers ns _ _ [] (cut
 entry_numbers ns a event (Refused Stopped) new h = more_numbers ns _ _ [] (cut_numbers ns a event h)
 entry_numbers ns a event reply new h = more_numbers ns a.active a.sealed [] h
 
-rest_numbers : (g0 : Graph) (history before rest : List Entry) → HasPlainReplies g0 history → history ≡ before ++ rest → HaveNumbers (numbers_begun before) (account before).active (account before).sealed
-    → HaveNumbers (numbers_begun history) (account history).active (account history).sealed
-rest_numbers g0 history before [] plain is h =
-    subst (λ l. HaveNumbers (numbers_begun l) (account l).active (account l).sealed) (sym (is ∙ append-nil before)) h
-rest_numbers g0 history before (e ∷ rest) plain is h =
-    rest_numbers g0 history (before ++ e ∷ []) rest plain (is ∙ sym (append_assoc before (e ∷ []) rest))
-    (subst (λ ns. HaveNumbers ns (account (before ++ e ∷ [])).active (account (before ++ e ∷ [])).sealed) (sym (numbers-append before e))
-    (subst (λ (a : Account). HaveNumbers (numbers_begun before ++ option_to_list (begun_number e.reply)) a.active a.sealed) (sym (account-append before e))
-    (entry_numbers (numbers_begun before) (account before) e.event e.reply (λ n now. (plain.numbered before e rest is n now).0) h)))
+-- The commits differ too, and none is in doubt while the disk has not failed.
+record HaveCommits (ns : List ℕ) (a : Account) : Type 0 where
+  numbers : HaveNumbers ns a.active a.sealed
+  certain : a.failed ≡ None → a.in_doubt ≡ None
+  differ : AllPairs Differ (a.sealed ++ option_to_list a.in_doubt)
+
+-- the commits are the sealed ones where none is in doubt
+alone : (ns : List ℕ) (a : Account) → HaveNumbers ns a.active a.sealed → a.in_doubt ≡ None → HaveCommits ns a
+alone ns a h certain = record {
+  numbers = h;
+  certain = λ unfailed. certain;
+  differ = subst (AllPairs Differ) (sym (append-nil a.sealed) ∙ ap (λ (o : Option Transaction). a.sealed ++ option_to_list o) (sym certain)) h.differ;
+}
+
+failed_now : (first : Option ℕ) (entry : ℕ) → first_failure first entry ≡ None → ⊥
+failed_now None entry is = cc
+failed_now (Some n) entry is = cc
+
+-- one that a session has may be in doubt
+doubted : (ns : List ℕ) (active : ℕ → Option Transaction) (done : List Transaction) (s : ℕ) (o : Option Transaction) → active s ≡ o → HaveNumbers ns active done → AllPairs Differ (done ++ option_to_list o)
+doubted ns active done s None is h = subst (AllPairs Differ) (sym (append-nil done)) h.differ
+doubted ns active done s (Some t) is h = all_pairs_push Differ done t h.differ (h.apart s t is)
+
+cut_commits : (ns : List ℕ) (a : Account) (event : Event) → a.in_doubt ≡ None → HaveNumbers ns a.active a.sealed → HaveCommits ns (cut_short a event)
+cut_commits ns a (Seal s) certain h = record { numbers = h; certain = λ unfailed. absurd (failed_now a.failed (a.entries + 1) unfailed); differ = doubted ns a.active a.sealed s (a.active s) refl h }
+cut_commits ns a event certain h = alone ns (cut_short a event) h certain
+
+-- One entry more, while the disk has not failed.
+going_on : (ns : List ℕ) (a : Account) (event : Event) (reply : Reply) → a.in_doubt ≡ None → HaveNumbers ns a.active a.sealed → HaveNumbers ns (answered a event reply).active (answered a event reply).sealed → HaveCommits ns (answered a event reply)
+going_on ns a event (Refused DiskFault) certain h next = cut_commits ns a event certain h
+going_on ns a event (Refused Stopped) certain h next = cut_commits ns a event certain h
+going_on ns a event reply certain h next = alone ns (answered a event reply) next certain
+
+entry_commits : (ns : List ℕ) (a : Account) (event : Event) (reply : Reply) (failed : Option ℕ) → a.failed ≡ failed → ((n : ℕ) → a.failed ≡ Some n → reply ≡ Refused (Failed n)) → ((n : ℕ) → reply ≡ Begun n → Contains ns n → ⊥) → HaveCommits ns a
+    → HaveCommits (ns ++ option_to_list (begun_number reply)) (answered a event reply)
+entry_commits ns a event reply None is ends new h =
+    let more = option_to_list (begun_number reply) in
+    going_on (ns ++ more) a event reply (h.certain is) (more_numbers ns a.active a.sealed more h.numbers) (entry_numbers ns a event reply new h.numbers)
+entry_commits ns a event reply (Some n) is ends new h =
+    subst (λ (r : Reply). HaveCommits (ns ++ option_to_list (begun_number r)) (answered a event r)) (sym (ends n is))
+    (record { numbers = more_numbers ns a.active a.sealed [] h.numbers; certain = h.certain; differ = h.differ })
+
+rest_commits : (g0 : Graph) (history before rest : List Entry) → HasPlainReplies g0 history → EachEntry EndsWithFailure history → history ≡ before ++ rest → HaveCommits (numbers_begun before) (account before)
+    → HaveCommits (numbers_begun history) (account history)
+rest_commits g0 history before [] plain ends is h = subst (λ l. HaveCommits (numbers_begun l) (account l)) (sym (is ∙ append-nil before)) h
+rest_commits g0 history before (e ∷ rest) plain ends is h =
+    let one = entry_commits (numbers_begun before) (account before) e.event e.reply (account before).failed refl (ends before e rest is) (λ n now. (plain.numbered before e rest is n now).0) h in
+    rest_commits g0 history (before ++ e ∷ []) rest plain ends (is ∙ sym (append_assoc before (e ∷ []) rest))
+    (subst (λ ns. HaveCommits ns (account (before ++ e ∷ []))) (sym (numbers-append before e))
+    (subst (HaveCommits (numbers_begun before ++ option_to_list (begun_number e.reply))) (sym (account-append before e))
+    (record { numbers = one.numbers; certain = one.certain; differ = one.differ })))
 
 -- No number begins two transactions of a history of plain replies.
 pub begun_once : (g0 : Graph) (history first between rest : List Entry) (s r n : ℕ) → HasPlainReplies g0 history → history ≢ first ++ record { event = Begin s; reply = Begun n } ∷ between ++ record { event = Begin r; reply = Begun n } ∷ rest
@@ -151,13 +193,13 @@ begun_once g0 history first between rest s r n plain is =
     let numbers = filter_map-append (λ (e : Entry). begun_number e.reply) first (one ∷ between) in
     (plain.numbered before other rest is n refl).0 (subst (λ ns. Contains ns n) (sym numbers) there)
 
--- So sealed transactions have different numbers in each history of plain replies.
-pub numbers_differ : (g0 : Graph) (history : List Entry) → HasPlainReplies g0 history → AllPairs Differ (sealed history)
-numbers_differ g0 history plain =
-    (rest_numbers g0 history [] history plain refl (record {
+-- So commits have different numbers in each history of plain replies, also one that is in doubt.
+pub numbers_differ : (g0 : Graph) (history : List Entry) → HasPlainReplies g0 history → EachEntry EndsWithFailure history → AllPairs Differ (commits history)
+numbers_differ g0 history plain ends =
+    (rest_commits g0 history [] history plain ends refl (alone (numbers_begun []) (account []) (record {
       known = All-nil (λ t. Contains (numbers_begun []) t.number);
       begun = λ s t is. cc;
       differ = λ i j d less within. absurd (omega (arith, within));
       apart = λ s t is. cc;
       beside = λ s r t u other is also. cc;
-    })).differ
+    }) refl)).differ

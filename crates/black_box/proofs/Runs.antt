@@ -14,9 +14,9 @@ use Rattle.graph_model.specs.History.{sealed, commits, account, IsOfSession}
 use Rattle.graph_model.specs.Transaction.{Transaction, serial, serial_replies}
 use Rattle.image_plan.specs.declared.superblock.Super.{Super}
 use Rattle.commit_order.specs.SerialOrder.{HasPlainReplies}
-use Rattle.core_laws.proofs.Crash.Image.{commits-sealed}
 use Rattle.core_laws.proofs.Run.Calls.{of_session_front}
 use Rattle.core_laws.proofs.Run.Events.{run_reached}
+use Rattle.core_laws.proofs.Step.Sound.{sound_valid}
 use Rattle.heap_model.specs.Core.{Core, IsRun}
 use Rattle.heap_model.specs.CoreRuns.{after_events}
 use Rattle.heap_model.specs.Ending.{ending}
@@ -116,12 +116,13 @@ module _ {D : Type 0} (g : Ghosts D) where
           least = first.kept;
           most = first.some;
           graph = there.2 ∙ stands.says.graph ∙ ap (λ (x : Graph). canon (serial x (take kept.0 (commits d.history)))) same;
-          certain = commits-sealed d at_end.sound;
+          fails = at_end.locked.fails;
           done = λ done.
               let ended = all_made calls c made behind d (played.run.done done) in
               let settled = ended_core c d made behind (events plays.lines) running.reached running.unfailed is.sessions played.run.parts ended.0 ended.1 in (
                 ended.0,
-                whole_count d (g.bytes again) at_end settled kept,
+                (sound_valid d at_end.sound settled.1).certain,
+                whole_count d (g.bytes again) at_end settled.1 settled.0 kept,
                 written.whole done ∙ ap (λ (ts : List Transaction). before ++ (lines_text d.history ++ text_of (serial d.g0 ts))) last ∙ ap (λ (x : Graph). before ++ (lines_text d.history ++ text_of (serial x (sealed d.history)))) same,
               );
         },

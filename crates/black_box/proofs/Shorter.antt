@@ -1,28 +1,26 @@
 -- The short form of the theorem follows from the long one.
-use Rattle.std.proofs.Common.{◌≡◌, ◌≢◌, ◌⊎◌, inl, inr, ℕ, zero, suc, ◌-◌, ◌≤◌, List, [], ◌∷◌, ◌++◌, length, map, take, refl, sym, ap, ◌∙◌, subst, arith, append-nil, append_assoc}
+use Rattle.std.proofs.Common.{◌≡◌, ◌≢◌, ◌⊎◌, inl, inr, ℕ, zero, suc, ◌-◌, ◌≤◌, List, [], ◌∷◌, ◌++◌, length, take, Option, refl, sym, ap, ◌∙◌, subst, arith, append-nil, append_assoc}
 use Rattle.std.specs.List.{AllByRecursion, AllPairs, flat_map}
 use Rattle.std.specs.Option.{option_to_list}
 use Rattle.std.proofs.lemmas.Grind.{flat_map-append}
-use Rattle.std.proofs.lemmas.List.{append_cancel_left, length-append, length-map, take-append-le}
-use Rattle.std.proofs.Math.Seq.{take-append_seam, take-length}
+use Rattle.std.proofs.lemmas.List.{append_cancel_left, length-append, take-append-le}
 use Rattle.graph_model.specs.declared.event.Event.{Event}
 use Rattle.graph_model.specs.declared.event.Event.TheVariants.{Abort, Force}
 use Rattle.graph_model.specs.declared.reply.Entry.{Entry}
 use Rattle.graph_model.specs.Canon.{canon}
 use Rattle.graph_model.specs.Graph.{Graph}
-use Rattle.graph_model.specs.History.{account, sealed, commits}
+use Rattle.graph_model.specs.History.{sealed, commits}
 use Rattle.graph_model.specs.Text.{canon_text, line}
-use Rattle.graph_model.specs.Transaction.{Transaction, run, serial, serial_replies}
-use Rattle.commit_order.specs.Heard.{heard_in, replies_of_commits}
+use Rattle.graph_model.specs.Transaction.{Transaction, serial, serial_replies}
 use Rattle.commit_order.proofs.PlaceLaws.{EachEntry-before}
 use Rattle.script_text.specs.declared.line.Line.{Line}
 use Rattle.script_text.specs.Line.{events}
 use Rattle.heap_program.specs.declared.status.Status.{Status}
 use Rattle.heap_program.specs.Play.{lines_text}
 use Rattle.black_box.specs.Told.{EndsScript, Fits, TellsRun, text_of}
-use Rattle.black_box.specs.Tale.{Tale, Tells, committed, text_after}
+use Rattle.black_box.specs.Tale.{Tells, text_after}
 use Rattle.black_box.proofs.NumberLaws.{begun_once, numbers_differ}
-use Rattle.black_box.proofs.TaleLaws.{Agree, fits_told, tale_so_far}
+use Rattle.black_box.proofs.TaleLaws.{fits_told, tale_so_far, tale_certain, tale_commits, tale_replies}
 
 -- an event that ends a script is an abort or a force
 ends_as : (event : Event) → EndsScript event → ((s : ℕ) × (1 ≤ s) × (s ≤ 32) × (event ≡ Abort s)) ⊎ (event ≡ Force)
@@ -33,24 +31,6 @@ ends_as event ends = absurd ends
 all_end : (ending : List Event) → AllByRecursion EndsScript ending → AllByRecursion (λ event. ((s : ℕ) × (1 ≤ s) × (s ≤ 32) × (event ≡ Abort s)) ⊎ (event ≡ Force)) ending
 all_end [] ends = tt
 all_end (event ∷ ending) ends = (ends_as event ends.0, all_end ending ends.1)
-
--- there are as many lists of replies as transactions
-length_replies : (g : Graph) (ts : List Transaction) → length (serial_replies g ts) ≡ length ts
-length_replies g [] = refl
-length_replies g (t ∷ ts) = let rest = length_replies (run g t).graph ts in omega arith
-
--- the front of a list is all of it that is as long
-front_all : {X : Type 0} (front rest whole : List X) → front ++ rest ≡ whole → length front ≡ length whole → front ≡ whole
-front_all front rest whole is same = sym (take-append_seam front rest) ∙ ap (take (length front)) is ∙ ap (λ n. take n whole) same ∙ take-length whole
-
--- the committed transactions had the replies of the serial run, where none is in doubt
-committed_replies : (begins : Graph) (history : List Entry) (told : Tale) → Agree told (account history) (heard_in history) → replies_of_commits history ≡ serial_replies begins (commits history) → commits history ≡ sealed history
-    → map (λ own. own.1) told.sealed ≡ serial_replies begins (committed told)
-committed_replies begins history told agree replies certain =
-    let is = agree.sealed in
-    let own : length (heard_in history).sealed ≡ length told.sealed = ap length (sym agree.told) ∙ length-map told.sealed (λ own. own.1) in
-    let same : length (serial_replies begins (sealed history)) ≡ length told.sealed = length_replies begins (sealed history) ∙ ap length (sym is) ∙ length-map told.sealed (λ own. own.0) in
-    agree.told ∙ front_all (heard_in history).sealed (option_to_list (heard_in history).in_doubt) (serial_replies begins (sealed history)) (replies ∙ ap (serial_replies begins) certain) (own ∙ sym same) ∙ ap (serial_replies begins) (sym is)
 
 -- a list begins with its first elements
 begins_with : (k : ℕ) (xs : List Entry) → (more : List Entry) × (take k xs ++ more ≡ xs)
@@ -82,7 +62,7 @@ tells begins left script result before after tale_of =
     let told = there.0 in
     let agree = there.2 in
     let is = agree.sealed in
-    let all = ap (λ (ts : List Transaction). length ts) is in
+    let all = tale_commits told h agree in
     let front = tale_of.front in
     let lines = tale_of.lines in
     let text = lines_text h ++ text_of (serial begins (sealed h)) in
@@ -101,20 +81,23 @@ tells begins left script result before after tale_of =
         unwritten = front.1;
         front = ap (λ ts. flat_map line h ++ text_after begins ts) is ∙ front.2;
         lines = (but_last.0, append_cancel_left before front.0 (lines_text lines.0 ++ lines.2) behind ∙ but_last.1);
+        fails = tale_of.fails;
         begun = λ first between rest s r n. begun_once begins h first between rest s r n tale_of.plain;
-        numbers = subst (AllPairs (λ (t u : Transaction). t.number ≢ u.number)) (sym is) (numbers_differ begins h tale_of.plain);
-        replies = committed_replies begins h told agree tale_of.replies tale_of.certain;
+        numbers = subst (AllPairs (λ (t u : Transaction). t.number ≢ u.number)) (sym all) (numbers_differ begins h tale_of.plain tale_of.fails);
+        replies = tale_replies told h agree ∙ tale_of.replies ∙ ap (serial_replies begins) (sym all);
         so_far = λ first rest now s own parts. tale_so_far begins first now s own (EachEntry-before Fits h first rest parts tale_of.fits) (tale_of.so_far first rest parts);
         count = tale_of.count;
         least = subst (λ n. n ≤ tale_of.count) (sym agree.acknowledged) tale_of.least;
-        most = subst (λ (ts : List Transaction). tale_of.count ≤ length ts) (tale_of.certain ∙ sym is) tale_of.most;
-        graph = ap canon_text (tale_of.graph ∙ ap (λ ts. canon (serial begins (take tale_of.count ts))) (tale_of.certain ∙ sym is));
+        most = subst (λ (ts : List Transaction). tale_of.count ≤ length ts) (sym all) tale_of.most;
+        graph = ap canon_text (tale_of.graph ∙ ap (λ ts. canon (serial begins (take tale_of.count ts))) (sym all));
         done = λ done.
             let ended = tale_of.done done in
-            let whole : front.0 ≡ text = append_cancel_left before front.0 text (sym front.3 ∙ ended.2) in (
+            let whole : front.0 ≡ text = append_cancel_left before front.0 text (sym front.3 ∙ ended.3) in
+            let none : commits h ≡ sealed h = ap (λ (o : Option Transaction). sealed h ++ option_to_list o) ended.1 ∙ append-nil (sealed h) in (
               ended.0,
+              tale_certain told h agree ended.1,
               append_cancel_left text front.1 [] (ap (λ l. l ++ front.1) (sym whole) ∙ sym front.2 ∙ sym (append-nil text)),
-              ended.1 ∙ sym all,
+              ended.2 ∙ ap (λ (ts : List Transaction). length ts) (sym (all ∙ none)),
             );
       },
     )

@@ -18,11 +18,11 @@ use Rattle.graph_model.specs.Transaction.{IsCall, Transaction, replies, serial}
 use Rattle.graph_model.specs.History as says
 use Rattle.graph_model.specs.History.{Account, account, answered, session_of, cut_short}
 use Rattle.graph_model.proofs.Runs.History.{account-append}
-use Rattle.commit_order.specs.Heard.{Heard, hear, hear_call, hear_cut, heard_in, with_reply}
+use Rattle.commit_order.specs.Heard.{Heard, hear, hear_call, hear_cut, heard_in, replies_of_commits, with_reply}
 use Rattle.commit_order.specs.SerialOrder.{EachEntry}
 use Rattle.commit_order.proofs.OrderLaws.{heard-append}
 use Rattle.black_box.specs.Told.{Fits, Grants, HaveReplies}
-use Rattle.black_box.specs.Tale.{Tale, tell, tale, with_session, with_call, committed}
+use Rattle.black_box.specs.Tale.{Tale, tell, tale, with_session, with_call, sealed_in, commits_in, committed}
 
 -- a transaction with the replies to its calls
 abbrev Answered : Type 0
@@ -40,6 +40,8 @@ pub record Agree (t : Tale) (a : Account) (heard : Heard) : Type 0 where
   pub hearing : (s : ℕ) → option_map replies_of (t.active s) ≡ heard.active s
   pub sealed : map transaction_of t.sealed ≡ a.sealed
   pub told : map replies_of t.sealed ≡ heard.sealed
+  pub in_doubt : option_map transaction_of t.in_doubt ≡ a.in_doubt
+  pub doubted : option_map replies_of t.in_doubt ≡ heard.in_doubt
   pub acknowledged : t.acknowledged ≡ a.acknowledged
   pub few : t.acknowledged ≤ length t.sealed
 
@@ -79,6 +81,8 @@ with_agree t a heard s own own' replies' agree is said = record {
   hearing = λ x. chosen (option_map replies_of) (x == s) own (t.active x) replies' (heard.active x) said (agree.hearing x);
   sealed = agree.sealed;
   told = agree.told;
+  in_doubt = agree.in_doubt;
+  doubted = agree.doubted;
   acknowledged = agree.acknowledged;
   few = agree.few;
 }
@@ -90,7 +94,7 @@ begin_told t a heard s n agree none =
     let it = with_agree t a heard s own (Some (record { number = n; calls = [] })) (Some []) agree refl refl in (
       with_session t s own,
       ap (λ b. if b then None else Some (with_session t s own)) (none_there (t.active s) (agree.active s ∙ none)),
-      record { active = it.active; hearing = it.hearing; sealed = it.sealed; told = it.told; acknowledged = it.acknowledged; few = it.few },
+      record { active = it.active; hearing = it.hearing; sealed = it.sealed; told = it.told; in_doubt = it.in_doubt; doubted = it.doubted; acknowledged = it.acknowledged; few = it.few },
     )
 
 -- A transaction is sealed.
@@ -107,6 +111,8 @@ seal_told t a heard s own agree is =
         hearing = λ x. chosen (option_map replies_of) (x == s) None (t.active x) None (heard.active x) refl (agree.hearing x);
         sealed = map_sealed transaction_of t.sealed (Some own) a.sealed (a.active s) agree.sealed (ap (option_map transaction_of) (sym is) ∙ agree.active s);
         told = map_sealed replies_of t.sealed (Some own) heard.sealed (heard.active s) agree.told (ap (option_map replies_of) (sym is) ∙ agree.hearing s);
+        in_doubt = agree.in_doubt;
+        doubted = agree.doubted;
         acknowledged = agree.acknowledged;
         few = (let few = agree.few in let more = length-append t.sealed (own ∷ []) in omega (arith, few, more));
       },
@@ -128,7 +134,7 @@ force_told t a heard agree =
     let few : a.acknowledged ≤ n = (let few = agree.few in let same = agree.acknowledged in omega (arith, few, all, same)) in (
       last,
       cond-true (n == length t.sealed) (Some last) None (eq-eqb n (length t.sealed) all),
-      record { active = agree.active; hearing = agree.hearing; sealed = agree.sealed; told = agree.told; acknowledged = greatest a.acknowledged n few; few = omega (arith, all) },
+      record { active = agree.active; hearing = agree.hearing; sealed = agree.sealed; told = agree.told; in_doubt = agree.in_doubt; doubted = agree.doubted; acknowledged = greatest a.acknowledged n few; few = omega (arith, all) },
     )
 
 -- A call.
@@ -197,19 +203,30 @@ call_told t a heard event reply own agree call is active =
 
 -- An entry more.
 
--- an event that the disk cut short
-cut_agree : (t : Tale) (a : Account) (heard : Heard) (event : Event) → Agree t a heard → Agree t (cut_short a event) (hear_cut heard event)
-cut_agree t a heard (Seal s) agree = record { active = agree.active; hearing = agree.hearing; sealed = agree.sealed; told = agree.told; acknowledged = agree.acknowledged; few = agree.few }
-cut_agree t a heard event agree = record { active = agree.active; hearing = agree.hearing; sealed = agree.sealed; told = agree.told; acknowledged = agree.acknowledged; few = agree.few }
+-- an event that the disk cut short: a seal is in doubt then
+cut_told : (t : Tale) (a : Account) (heard : Heard) (event : Event) → Agree t a heard
+    → HasTale (tell t event (Refused DiskFault)) (cut_short a event) (hear_cut heard event) × HasTale (tell t event (Refused Stopped)) (cut_short a event) (hear_cut heard event)
+cut_told t a heard (Seal s) agree = (
+  (record t { in_doubt = t.active s }, refl, record { active = agree.active; hearing = agree.hearing; sealed = agree.sealed; told = agree.told; in_doubt = agree.active s; doubted = agree.hearing s; acknowledged = agree.acknowledged; few = agree.few }),
+  (record t { in_doubt = t.active s }, refl, record { active = agree.active; hearing = agree.hearing; sealed = agree.sealed; told = agree.told; in_doubt = agree.active s; doubted = agree.hearing s; acknowledged = agree.acknowledged; few = agree.few }),
+)
+cut_told t a heard event agree = (
+  (t, refl, record { active = agree.active; hearing = agree.hearing; sealed = agree.sealed; told = agree.told; in_doubt = agree.in_doubt; doubted = agree.doubted; acknowledged = agree.acknowledged; few = agree.few }),
+  (t, refl, record { active = agree.active; hearing = agree.hearing; sealed = agree.sealed; told = agree.told; in_doubt = agree.in_doubt; doubted = agree.doubted; acknowledged = agree.acknowledged; few = agree.few }),
+)
 
 -- the number of entries is nothing to it
 counted_agree : (t : Tale) (a : Account) (heard : Heard) (n : ℕ) → Agree t a heard → Agree t (record a { entries = n }) heard
-counted_agree t a heard n agree = record { active = agree.active; hearing = agree.hearing; sealed = agree.sealed; told = agree.told; acknowledged = agree.acknowledged; few = agree.few }
+counted_agree t a heard n agree = record { active = agree.active; hearing = agree.hearing; sealed = agree.sealed; told = agree.told; in_doubt = agree.in_doubt; doubted = agree.doubted; acknowledged = agree.acknowledged; few = agree.few }
 
-refused_agree : (t : Tale) (a : Account) (heard : Heard) (event : Event) (why : Refusal) → Agree t a heard → Agree t (answered a event (Refused why)) (hear heard event (Refused why))
-refused_agree t a heard event DiskFault agree = cut_agree t a heard event agree
-refused_agree t a heard event Stopped agree = cut_agree t a heard event agree
-refused_agree t a heard event why agree = agree
+refused_told : (t : Tale) (a : Account) (heard : Heard) (event : Event) (why : Refusal) → Agree t a heard → HasTale (tell t event (Refused why)) (answered a event (Refused why)) (hear heard event (Refused why))
+refused_told t a heard event DiskFault agree = (cut_told t a heard event agree).0
+refused_told t a heard event Stopped agree = (cut_told t a heard event agree).1
+refused_told t a heard event why agree = others event
+  where
+    others : (event : Event) → HasTale (tell t event (Refused why)) a heard
+    others (Seal s) = (t, refl, agree)
+    others event = (t, refl, agree)
 
 module _ (t : Tale) (a : Account) (heard : Heard) (agree : Agree t a heard) where
   -- an entry leaves a tale
@@ -243,7 +260,7 @@ module _ (t : Tale) (a : Account) (heard : Heard) (agree : Agree t a heard) wher
       call_told t a heard event reply own.0 agree tt grants.1 own.1
 
   entry_told : (event : Event) (reply : Reply) → ((why : Refusal) × (reply ≡ Refused why)) ⊎ Grants a event reply → Told event reply
-  entry_told event reply (inl refused) = subst (Told event) (sym refused.1) (t, refl, refused_agree t a heard event refused.0 agree)
+  entry_told event reply (inl refused) = subst (Told event) (sym refused.1) (refused_told t a heard event refused.0 agree)
   entry_told event reply (inr grants) = granted_told event reply grants
 
 -- There is a tale of each history.
@@ -251,7 +268,7 @@ abbrev IsTold : List Entry → Type 0
 IsTold history = HasTale (tale history) (account history) (heard_in history)
 
 tale-append : (history : List Entry) (e : Entry) → tale (history ++ e ∷ []) ≡ option_and_then (λ t. tell t e.event e.reply) (tale history)
-tale-append history e = fold-append (λ told (entry : Entry). option_and_then (λ t. tell t entry.event entry.reply) told) (Some (record { active = λ s. None; sealed = []; acknowledged = 0 })) history (e ∷ [])
+tale-append history e = fold-append (λ told (entry : Entry). option_and_then (λ t. tell t entry.event entry.reply) told) (Some (record { active = λ s. None; sealed = []; in_doubt = None; acknowledged = 0 })) history (e ∷ [])
 
 told_on : (history : List Entry) (e : Entry) → IsTold history → Fits history e → IsTold (history ++ e ∷ [])
 told_on history e told fits =
@@ -272,13 +289,29 @@ rest_told history before (e ∷ rest) fits is told =
 -- a history whose replies fit their events has a tale, which agrees with its account
 pub fits_told : (history : List Entry) → EachEntry Fits history → (t : Tale) × (tale history ≡ Some t) × Agree t (account history) (heard_in history)
 fits_told history fits =
-    rest_told history [] history fits refl (record { active = λ s. None; sealed = []; acknowledged = 0 }, refl, record { active = λ s. refl; hearing = λ s. refl; sealed = refl; told = refl; acknowledged = refl; few = omega arith })
+    rest_told history [] history fits refl (record { active = λ s. None; sealed = []; in_doubt = None; acknowledged = 0 }, refl, record { active = λ s. refl; hearing = λ s. refl; sealed = refl; told = refl; in_doubt = refl; doubted = refl; acknowledged = refl; few = omega arith })
 
 -- and in it the transactions have the replies so far that they have in the history
-pub tale_so_far : (begins : Graph) (history : List Entry) (now : Tale) (s : ℕ) (own : Transaction × List Reply) → EachEntry Fits history → HaveReplies begins history → tale history ≡ Some now → now.active s ≡ Some own → own.1 ≡ replies (serial begins (committed now)) own.0
+pub tale_so_far : (begins : Graph) (history : List Entry) (now : Tale) (s : ℕ) (own : Transaction × List Reply) → EachEntry Fits history → HaveReplies begins history → tale history ≡ Some now → now.active s ≡ Some own → own.1 ≡ replies (serial begins (sealed_in now)) own.0
 tale_so_far begins history now s own fits have is active =
     let told = fits_told history fits in
     let agree = subst (λ (t : Tale). Agree t (account history) (heard_in history)) (same_Some told.0 now (sym told.1 ∙ is)) told.2 in
     let run = replies (serial begins (says.sealed history)) in
-    same_Some own.1 (replies (serial begins (committed now)) own.0)
+    same_Some own.1 (replies (serial begins (sealed_in now)) own.0)
     (ap (option_map replies_of) (sym active) ∙ agree.hearing s ∙ have s ∙ ap (option_map run) (sym (agree.active s) ∙ ap (option_map transaction_of) active) ∙ ap (λ (ts : List Transaction). Some (replies (serial begins ts) own.0)) (sym agree.sealed))
+
+-- the commits of a tale are those of its history
+pub tale_commits : (t : Tale) (history : List Entry) → Agree t (account history) (heard_in history) → committed t ≡ says.commits history
+tale_commits t history agree = map_sealed transaction_of t.sealed t.in_doubt (says.sealed history) (account history).in_doubt agree.sealed agree.in_doubt
+
+-- with the replies that they had
+pub tale_replies : (t : Tale) (history : List Entry) → Agree t (account history) (heard_in history) → map replies_of (commits_in t) ≡ replies_of_commits history
+tale_replies t history agree = map_sealed replies_of t.sealed t.in_doubt (heard_in history).sealed (heard_in history).in_doubt agree.told agree.doubted
+
+-- and none is in doubt where none is there
+pub tale_certain : (t : Tale) (history : List Entry) → Agree t (account history) (heard_in history) → (account history).in_doubt ≡ None → t.in_doubt ≡ None
+tale_certain t history agree certain = none_in t.in_doubt (agree.in_doubt ∙ certain)
+  where
+    none_in : (o : Option Answered) → option_map transaction_of o ≡ None → o ≡ None
+    none_in None is = refl
+    none_in (Some own) is = cc

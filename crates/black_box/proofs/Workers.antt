@@ -12,8 +12,8 @@ use Rattle.graph_model.specs.Graph.{Graph, new_graph}
 use Rattle.graph_model.specs.History.{sealed, commits}
 use Rattle.graph_model.specs.Transaction.{serial, serial_replies}
 use Rattle.commit_order.specs.SerialOrder.{HasPlainReplies}
-use Rattle.core_laws.proofs.Crash.Image.{commits-sealed}
 use Rattle.core_laws.proofs.Run.Events.{run_reached}
+use Rattle.core_laws.proofs.Step.Sound.{sound_valid}
 use Rattle.heap_model.specs.Core.{Core, IsRun}
 use Rattle.heap_model.proofs.Run.Calls.{same_run, step_history}
 use Rattle.heap_model.proofs.Step.Calls.{run_append}
@@ -96,11 +96,12 @@ module _ {D : Type 0} (g : Ghosts D) where
           least = first.kept;
           most = first.some;
           graph = there.2 ∙ stands.says.graph ∙ ap (λ (x : Graph). canon (serial x (take kept.0 (commits d.history)))) same;
-          certain = commits-sealed d at_end.sound;
+          fails = at_end.locked.fails;
           done = λ done.
               let settled = done_settled tries plays.lines c made d result running.reached running.unfailed runs.sessions together done in (
                 (together.done done).0,
-                whole_count d (g.bytes again) at_end settled kept,
+                (sound_valid d at_end.sound settled.1).certain,
+                whole_count d (g.bytes again) at_end settled.1 settled.0 kept,
                 written.whole done ∙ ap (λ (x : Graph). before ++ (lines_text d.history ++ text_of (serial x (sealed d.history)))) same,
               );
         },

@@ -15,7 +15,7 @@ use Rattle.graph_model.specs.Replies.{IsCallReply}
 use Rattle.graph_model.specs.Text.{canon_text}
 use Rattle.graph_model.specs.Transaction.{Transaction, replies, serial, serial_replies}
 use Rattle.commit_order.specs.Heard.{heard_in, replies_of_commits}
-use Rattle.commit_order.specs.SerialOrder.{EachEntry, HasPlainReplies}
+use Rattle.commit_order.specs.SerialOrder.{EachEntry, EndsWithFailure, HasPlainReplies}
 use Rattle.script_text.specs.declared.line.Line.{Line}
 use Rattle.script_text.specs.Line.{events}
 use Rattle.heap_program.specs.Play.{lines_text, WroteFront, WroteLines}
@@ -88,10 +88,10 @@ pub record TellsRun (begins : Graph) (script : List Line) (status : Status) (bef
   pub least : acknowledged history ≤ count
   pub most : count ≤ length (commits history)
   pub graph : canon left ≡ canon (serial begins (take count (commits history)))
-  -- no commit is in doubt: a seal asks nothing of the disk
-  pub certain : commits history ≡ sealed history
-  -- a run that is done made all events, left all that was sealed, and wrote all lines and the graph
-  pub done : status ≡ Done → (made.rest ≡ []) × (count ≡ length (sealed history)) × (after ≡ before ++ (lines_text history ++ text_of (serial begins (sealed history))))
+  -- once the disk has failed or stopped, everything is refused for that
+  pub fails : EachEntry EndsWithFailure history
+  -- a run that is done made all events, left no commit in doubt and all that was sealed, and wrote all lines and the graph
+  pub done : status ≡ Done → (made.rest ≡ []) × ((account history).in_doubt ≡ None) × (count ≡ length (sealed history)) × (after ≡ before ++ (lines_text history ++ text_of (serial begins (sealed history))))
 
 -- The statuses of a run that was to make a heap and made none.
 abbrev pub MakesNone : Status → Type 0

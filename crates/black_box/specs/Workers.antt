@@ -1,14 +1,14 @@
 -- What a run of a script in threads reports, and the graph after it, in words of the plain model alone.
-use Rattle.std.specs.Prelude.{◌≡◌, ℕ, ◌≤◌, List, ◌++◌, length, take, IsOk, Result}
+use Rattle.std.specs.Prelude.{◌≡◌, ℕ, ◌≤◌, List, ◌++◌, None, length, take, IsOk, Result}
 use Rattle.std.specs.List.{AllByRecursion}
 use Rattle.std.specs.declared.alloc.AllocError.{AllocError}
 use Rattle.graph_model.specs.declared.reply.Entry.{Entry}
 use Rattle.graph_model.specs.Canon.{canon}
 use Rattle.graph_model.specs.Graph.{Graph}
-use Rattle.graph_model.specs.History.{sealed, commits, acknowledged}
+use Rattle.graph_model.specs.History.{account, sealed, commits, acknowledged}
 use Rattle.graph_model.specs.Transaction.{serial, serial_replies}
 use Rattle.commit_order.specs.Heard.{replies_of_commits}
-use Rattle.commit_order.specs.SerialOrder.{EachEntry, HasPlainReplies}
+use Rattle.commit_order.specs.SerialOrder.{EachEntry, EndsWithFailure, HasPlainReplies}
 use Rattle.script_text.specs.declared.line.Line.{Line}
 use Rattle.thread_program.specs.Together.{IsWorked}
 use Rattle.heap_program.specs.Play.{lines_text, WroteFront}
@@ -42,7 +42,7 @@ pub record TellsWorkers (begins : Graph) (tries : ℕ) (script : List Line) (sta
   pub least : acknowledged history ≤ count
   pub most : count ≤ length (commits history)
   pub graph : canon left ≡ canon (serial begins (take count (commits history)))
-  -- no commit is in doubt: a seal asks nothing of the disk
-  pub certain : commits history ≡ sealed history
-  -- a run that is done sent all, left all that was sealed, and wrote all lines and the graph
-  pub done : status ≡ Done → IsOk end × (count ≡ length (sealed history)) × (after ≡ before ++ (lines_text history ++ text_of (serial begins (sealed history))))
+  -- once the disk has failed or stopped, everything is refused for that
+  pub fails : EachEntry EndsWithFailure history
+  -- a run that is done sent all, left no commit in doubt and all that was sealed, and wrote all lines and the graph
+  pub done : status ≡ Done → IsOk end × ((account history).in_doubt ≡ None) × (count ≡ length (sealed history)) × (after ≡ before ++ (lines_text history ++ text_of (serial begins (sealed history))))

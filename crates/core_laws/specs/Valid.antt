@@ -86,7 +86,7 @@ DiskAgrees a c = IsDurable (log_start c) c.born c.g0 c.before c.first c.room c.b
 -- A core agrees with what its history says.
 pub record Agrees (a : Account) (c : Core) : Type 0 where
   pub unfailed : a.failed ≡ None  -- the disk has not failed
-  pub certain : a.in_doubt ≡ None  -- a seal makes no device call
+  pub certain : a.in_doubt ≡ None  -- and it cut no seal short
   pub in_sessions : AreInSessions a
   pub in_range : IsInRange c.pages c.first
   pub next_fits : c.first + a.begun ≤ no_number
@@ -107,7 +107,7 @@ IsValid c = Agrees (account c.history) c
 pub record HasFailed (a : Account) (c : Core) : Type 0 where
   pub entry : ℕ
   pub failed : a.failed ≡ Some entry
-  pub before : Agrees (record a { failed = None }) c
+  pub before : Agrees (record a { failed = None; in_doubt = None }) c
 
 -- A core is valid, or the disk stopped or failed in an event.
 abbrev pub IsSound : Core → Type 0

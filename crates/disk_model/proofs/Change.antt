@@ -63,6 +63,7 @@ module _ (a b : Inside) (at : ℕ) (piece : List ℕ) (kept : IsFaithful a) (wri
       ∙ pending-push a.pending_from a.calls.items (Wrote at (length a.pool.items) (length piece)) kept.from in
       let size : length b.newest.items ≡ length a.newest.items = ap length writes.newest ∙ length-overwrite a.newest.items at piece fits in
       let calls : length b.calls.items ≡ length a.calls.items + 1 = ap length writes.calls ∙ length-append a.calls.items _ in
+      let whole : b.whole ≡ a.whole = ap (λ (d : Memory). d.whole) writes.rest in
       let pool : length b.pool.items ≡ length a.pool.items + length piece = ap length writes.pool ∙ length-append a.pool.items piece in
       record {
         newest = writes.newest ∙ ap (λ image. overwrite image at piece) kept.newest ∙ sym (ap (λ (s : Contents). s.newest) n);
@@ -76,6 +77,8 @@ module _ (a b : Inside) (at : ℕ) (piece : List ℕ) (kept : IsFaithful a) (wri
         pool_room = omega (arith, kept.pool_room, writes.room, writes.pool_capacity);
         calls_room = omega (arith, kept.calls_room, writes.room, writes.calls_capacity);
         ending_room = λ _. omega (arith, kept.calls_room, writes.room, writes.calls_capacity);
+        whole_pool = omega (arith, kept.whole_pool, whole, writes.pool_capacity);
+        whole_calls = omega (arith, kept.whole_calls, whole, writes.calls_capacity);
       }
 
 -- what a sync or a restart changes of the fields, where something is pending: image is what it leaves
@@ -127,6 +130,7 @@ module _ (a b : Inside) (call : Call) (image : List ℕ) (kept : IsFaithful a) (
       let none : pending_of b ≡ [] = pending_none b.pending_from b.calls.items (omega (arith, settles.from)) in
       let calls : length b.calls.items ≡ length a.calls.items + 1 = ap length settles.calls ∙ length-append a.calls.items (call ∷ []) in
       let pool = settles.pool in
+      let whole : b.whole ≡ a.whole = ap (λ (d : Memory). d.whole) settles.rest in
       record {
         newest = settles.newest ∙ sym (ap (λ (s : Contents). s.newest) n);
         synced = settles.synced ∙ sym (ap (λ (s : Contents). s.synced) n);
@@ -139,11 +143,13 @@ module _ (a b : Inside) (call : Call) (image : List ℕ) (kept : IsFaithful a) (
         pool_room = subst (λ (pool : Vec ℕ Global). length pool.items + b.room ≤ vec_capacity pool) (sym pool) (omega (arith, kept.pool_room, settles.room));
         calls_room = omega (arith, kept.ending_room lt, settles.room, settles.calls_capacity);
         ending_room = λ more. absurd (omega (arith, more, settles.from));
+        whole_pool = subst (λ (pool : Vec ℕ Global). b.whole ≤ vec_capacity pool) (sym pool) (omega (arith, kept.whole_pool, whole));
+        whole_calls = omega (arith, kept.whole_calls, whole, settles.calls_capacity);
       }
 
 -- a disk that was just made
-pub kept_made : (a : Inside) (bytes : List ℕ) → a.first.value.items ≡ bytes → a.newest.items ≡ bytes → a.synced.items ≡ bytes → a.calls.items ≡ [] → a.pool.items ≡ [] → a.pending_from ≡ 0 → a.room ≤ vec_capacity a.pool → a.room ≤ 32 * vec_capacity a.calls + 31 → IsFaithful a
-kept_made a bytes first newest synced calls pool from pool_room calls_room =
+pub kept_made : (a : Inside) (bytes : List ℕ) → a.first.value.items ≡ bytes → a.newest.items ≡ bytes → a.synced.items ≡ bytes → a.calls.items ≡ [] → a.pool.items ≡ [] → a.pending_from ≡ 0 → a.room ≡ a.whole → a.whole ≤ vec_capacity a.pool → a.whole ≤ 32 * vec_capacity a.calls + 31 → IsFaithful a
+kept_made a bytes first newest synced calls pool from free pool_room calls_room =
     let n : now_of (view_of a) ≡ settled_as bytes =
     ap (λ cs. contents_of a.pick a.first.value.items (map (change_of a.pool.items) cs)) calls
     ∙ ap (λ image. contents_of a.pick image []) first
@@ -160,7 +166,9 @@ kept_made a bytes first newest synced calls pool from pool_room calls_room =
       tied = λ k out. ap (λ image. get_or image k 0) (synced ∙ sym newest);
       fit = subst (All (Fits (length a.newest.items))) (sym none) (All-nil (Fits (length a.newest.items)));
       in_pool = subst (All (IsInPool (length a.pool.items))) (sym calls) (All-nil (IsInPool (length a.pool.items)));
-      pool_room = omega (arith, bare, pool_room);
-      calls_room = omega (arith, empty, calls_room);
+      pool_room = omega (arith, bare, free, pool_room);
+      calls_room = omega (arith, empty, free, calls_room);
       ending_room = λ more. absurd (omega (arith, more, from, empty));
+      whole_pool = pool_room;
+      whole_calls = calls_room;
     }

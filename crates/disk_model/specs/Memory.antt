@@ -67,13 +67,14 @@ pub record MayLeave (at : Contents) (image : List ℕ) : Type 0 where
   pub size : length image ≡ length at.newest
   pub same : (k : ℕ) → is_within at.pending k ≡ false → slice_index image k ≡ slice_index at.newest k
 
--- A disk in memory: the bytes that it was made of, its changes, how a restart picks, the bytes of its record that are
--- free, the numbers of the writes and syncs and of the reads that fail, and its counts.
+-- A disk in memory: the bytes that it was made of, or began anew with, its changes, how a restart picks, the bytes of its record that are
+-- free, and all that it has, the numbers of the writes and syncs and of the reads that fail, and its counts.
 pub record Memory : Type 0 where
   pub first : List ℕ
   pub changes : List Change
   pub pick : Pick
   pub room : ℕ
+  pub whole : ℕ
   pub fail_writes : List ℕ
   pub fail_reads : List ℕ
   pub passed : ℕ
@@ -83,7 +84,7 @@ pub record Memory : Type 0 where
 
 -- a disk that was just made, with nothing pending
 abbrev pub made : List ℕ → Pick → ℕ → List ℕ → List ℕ → Memory
-made bytes pick room fail_writes fail_reads = record { first = bytes; changes = []; pick = pick; room = room; fail_writes = fail_writes; fail_reads = fail_reads; passed = 0; reads = 0; faults = 0; restarts = 0 }
+made bytes pick room fail_writes fail_reads = record { first = bytes; changes = []; pick = pick; room = room; whole = room; fail_writes = fail_writes; fail_reads = fail_reads; passed = 0; reads = 0; faults = 0; restarts = 0 }
 
 -- the contents of a disk that began with these bytes, after these changes
 unfoldable pub contents_of : Pick → List ℕ → List Change → Contents
@@ -172,3 +173,7 @@ after_read disk = record disk { reads = raised disk.reads; faults = faults_after
 -- after a restart
 abbrev pub after_restart : Memory → Memory
 after_restart disk = record (settled disk Restart) { restarts = raised disk.restarts }
+
+-- after its record was forgotten: it began anew with its bytes
+abbrev pub begun_anew : Memory → Memory
+begun_anew disk = record disk { first = (now_of disk).newest; changes = []; room = disk.whole }

@@ -23,13 +23,13 @@ IsInPool size Restarted = Unit {0}
 
 -- the disk that the record describes
 abbrev pub view_of : Inside → Memory
-view_of a = record { first = a.first.value.items; changes = map (change_of a.pool.items) a.calls.items; pick = a.pick; room = a.room; fail_writes = a.fail_writes.items; fail_reads = a.fail_reads.items; passed = a.passed; reads = a.reads; faults = a.faults; restarts = a.restarts }
+view_of a = record { first = a.first.value.items; changes = map (change_of a.pool.items) a.calls.items; pick = a.pick; room = a.room; whole = a.whole; fail_writes = a.fail_writes.items; fail_reads = a.fail_reads.items; passed = a.passed; reads = a.reads; faults = a.faults; restarts = a.restarts }
 
 -- the ranges that are pending
 abbrev pub pending_of : Inside → List (ℕ × ℕ)
 pending_of a = map range_of (drop a.pending_from a.calls.items)
 
--- The fields agree with the record, and the room that was taken suffices for what is free.
+-- The fields agree with the record, and the room that was taken suffices for what is free, and once the record is forgotten for all of it.
 pub record IsFaithful (a : Inside) : Type 0 where
   pub newest : a.newest.items ≡ (now_of (view_of a)).newest
   pub synced : a.synced.items ≡ (now_of (view_of a)).synced
@@ -44,3 +44,5 @@ pub record IsFaithful (a : Inside) : Type 0 where
   pub calls_room : 32 * length a.calls.items + a.room ≤ 32 * vec_capacity a.calls + 31
   -- where something is pending, for the entry of the sync or restart that ends it too
   pub ending_room : a.pending_from < length a.calls.items → 32 * length a.calls.items + 32 + a.room ≤ 32 * vec_capacity a.calls + 31
+  pub whole_pool : a.whole ≤ vec_capacity a.pool
+  pub whole_calls : a.whole ≤ 32 * vec_capacity a.calls + 31

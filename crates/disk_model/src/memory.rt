@@ -1,10 +1,10 @@
 //! A disk in memory, of which each image that a crash may leave is known.
-ghost use Rattle.std.specs.Prelude.{◌≡◌, ℕ, ◌+◌, ◌≤◌, ◌++◌, Bool, ◌↔◌, List, length, map, replicate, take, Ok, IfOk, IsTrue, OnOk, true};
+ghost use Rattle.std.specs.Prelude.{◌≡◌, ℕ, ◌+◌, ◌≤◌, ◌++◌, Bool, ◌↔◌, [], List, length, map, replicate, slice_index_or, ◌<◌, ◌⊎◌, take, Ok, IfOk, MatchOption, IsTrue, IsFalse, OnOk, true};
 ghost use Rattle.std.specs.List.{All};
 ghost use Rattle.std.specs.Vec.{vec_len, vec_capacity};
 ghost use Rattle.counts.specs.Count.{raised};
 ghost use Rattle.disk_model.specs.Disk.{overwrite, part, Torn, WidensBy, Narrows, Only, Elapses, HasCause, passed_after};
-ghost use Rattle.disk_model.specs.Memory.{Write, Sync, Restart, MayLeave, MightHaveLeft, blended, left_by, made, changes_of, now_of, cost, write_fails, sync_fails, read_fails, answer, with_write, settled, after_write, after_sync, after_read, after_restart};
+ghost use Rattle.disk_model.specs.Memory.{Write, Sync, Restart, MayLeave, MightHaveLeft, blended, left_by, made, changes_of, now_of, cost, write_fails, sync_fails, read_fails, answer, with_write, settled, after_write, after_sync, after_read, after_restart, begun_anew};
 ghost use Rattle.disk_model.specs.Range.{range_of, Fits, IsTied};
 
 use crate::{Disk, DiskError};
@@ -75,7 +75,9 @@ pub struct MemoryDisk {
     /// Where the record's entries since the last sync or restart begin.
     pending_from: usize,
     pick: Pick,
+    /// What is free of the room, and the room that was taken.
     room: usize,
+    whole: usize,
     fail_writes: Vec<u64>,
     fail_reads: Vec<u64>,
     passed: Count,
@@ -222,6 +224,7 @@ impl MemoryDisk {
             pending_from: 0,
             pick,
             room,
+            whole: room,
             fail_writes,
             fail_reads,
             passed: Count::new(),
@@ -229,6 +232,44 @@ impl MemoryDisk {
             faults: Count::new(),
             restarts: Count::new(),
         })
+    }
+
+    /// Forgets the record where nothing is pending: the disk begins anew with its bytes.
+    pub fn forget(&mut self) -> bool
+        ensures pending { IsTrue result ↔ ((now_of self.old).pending ≡ []) }
+        // Its room is whole again, and nothing else of it changes.
+        ensures anew { IsTrue result → self.new ≡ begun_anew self.old }
+        ensures kept { IsFalse result → self.new ≡ self.old }
+        ensures same { (now_of self.new).newest ≡ (now_of self.old).newest }
+        ensures only { IsTrue result → Only (now_of self.old).newest (MayLeave (now_of self.old)) }
+    {
+        if self.pending_from < self.calls.len() {
+            return false;
+        }
+        self.first = Snapshot::of(&self.newest);
+        self.calls.clear();
+        self.pool.clear();
+        self.pending_from = 0;
+        self.room = self.whole;
+        true
+    }
+
+    /// How many changes the record has.
+    pub fn told(&self) -> usize
+        ensures { result ≡ changes_of self.now }
+    {
+        self.calls.len()
+    }
+
+    /// The change of that number: of a write its offset and bytes, and nothing of a sync or a restart.
+    pub fn told_write(&self, k: usize) -> Option<(usize, &[u8])>
+        requires { k < length self.now.changes }
+        ensures { MatchOption result ((slice_index_or self.now.changes k Sync ≡ Sync) ⊎ (slice_index_or self.now.changes k Sync ≡ Restart)) (λ w. slice_index_or self.now.changes k Sync ≡ Write w.0 w.1.now) }
+    {
+        match self.calls[k] {
+            Call::Wrote { at, from, len } => Some((at, &self.pool[from..from + len])),
+            Call::Synced | Call::Restarted => None,
+        }
     }
 
     /// The newest bytes: what a read gives.
@@ -332,6 +373,7 @@ impl Disk for MemoryDisk {
     ghost use Rattle.disk_model.specs.Disk.{overwrite, part, Torn, WidensBy, Narrows, Only, Elapses};
     ghost use Rattle.disk_model.specs.Memory.{MayLeave, MightHaveLeft, changes_of, now_of, left_by, answer, read_fails, write_fails, sync_fails, after_read, after_write, after_sync, after_restart};
     ghost use Rattle.disk_model.specs.MemoryLaws.{counts_now, only_now, reads_an_image};
+    ghost use Rattle.disk_model.specs.declared.memory.Pick.{Pick};
 
     ghost tells = { true };
 
@@ -353,9 +395,10 @@ impl Disk for MemoryDisk {
 
     ghost restarts = { λ disk. disk.restarts };
 
-    ghost Origin = { Unit {0} };
+    // How a restart picks.
+    ghost Origin = { Pick };
 
-    ghost origin = { λ disk. tt };
+    ghost origin = { λ disk. disk.pick };
 
     fn size(&self) -> u64 {
         self.newest.len() as u64

@@ -9,27 +9,29 @@ use Rattle.graph_model.specs.declared.reply.Refusal.{Refusal}
 use Rattle.graph_model.specs.declared.reply.Refusal.TheVariants.{Failed, DiskFault, Stopped}
 use Rattle.graph_model.specs.declared.reply.Reply.{Reply}
 use Rattle.graph_model.specs.declared.reply.Reply.TheVariants.{Refused}
+use Rattle.graph_model.specs.Transaction.{Transaction}
 use Rattle.graph_model.specs.History.{Account, account, account_after, first_failure}
 use Rattle.graph_model.proofs.Runs.History.{account-append, entries-account}
 use Rattle.graph_model.specs.Plain.{reply_of}
 use Rattle.graph_model.proofs.Refusals.Plain.{account_after-refused}
+use Rattle.core_laws.proofs.Crash.Cut.{cut_told, cut_leaves, prefix_left}
 use Rattle.core_laws.proofs.Step.Sound.{sound_valid}
 use Rattle.core_laws.specs.Valid.{IsValid, IsReached}
 use Rattle.image_plan.specs.declared.superblock.Super.{Super}
 use Rattle.image_plan.specs.Plan.{image_size}
-use Rattle.heap_model.specs.Core.{Core, granted_by, answer, with_entry, after, AsksDisk, calls_if, calls, IsStep}
-use Rattle.heap_model.proofs.Run.Calls.{failed_refusal, failed_after, calls-asks, calls-unfailed, after_history, step_history}
+use Rattle.heap_model.specs.Core.{Core, granted_by, answer, with_entry, after, calls_if, calls, cut, IsStep}
+use Rattle.heap_model.proofs.Run.Calls.{failed_refusal, failed_after, calls-unfailed, after_history, step_history}
 use Rattle.heap_model.proofs.Outside.{outside_between}
 use Rattle.heap_core.specs.Causes.{reply_device}
 use Rattle.heap_core.specs.declared.in_memory.Failure.{Failure}
 use Rattle.heap_core.specs.HeapState.{entry_of}
 use Rattle.heap_core.specs.Refinement.{Remembers, DiskHolds}
-use Rattle.heap_core.proofs.RefinementLeft.{keeps_refused, cut_account, keeps_cut}
+use Rattle.heap_core.proofs.RefinementLeft.{keeps_refused}
 use Rattle.heap_engine.specs.declared.engine.Engine.{Engine}
 use Rattle.heap_engine.specs.Refinement.{OnDisk, IsLeftByStep, IsEngine, WasCutShort}
 use Rattle.heap_engine.specs.EngineState.{memory}
 use Rattle.heap_engine.proofs.DeviceCalls.{none_pass}
-use Rattle.heap_engine.proofs.EventCore.{born_after}
+use Rattle.heap_engine.proofs.EventCore.{born_after, cut_behind}
 use Rattle.heap_engine.proofs.SessionsCore.{is_some_own}
 
 -- no entry is known of a failure where there is none
@@ -74,9 +76,10 @@ module _ {D : Type 0} (g : Ghosts D) where
     engine = λ still. is;
   }
 
-  pub told_entry : (a : Account) (event : Event) (reply : Reply) → AsksDisk event → a.failed ≡ None → (reply ≡ Refused DiskFault) ⊎ (reply ≡ Refused Stopped)
+  pub told_entry : (a : Account) (event : Event) (reply : Reply) → a.failed ≡ None → (reply ≡ Refused DiskFault) ⊎ (reply ≡ Refused Stopped)
       → Some (a.entries + 1) ≡ (account_after a (record { event = event; reply = reply })).failed
-  told_entry a event reply asks none told = sym (ap (λ (b : Account). b.failed) (cut_account a event reply asks told) ∙ ap (λ (o : Option ℕ). first_failure o (a.entries + 1)) none)
+  told_entry a event reply none told =
+      sym (ap (λ (b : Account). b.failed) (cut_told a event reply told) ∙ (cut_leaves a event).failed ∙ ap (λ (o : Option ℕ). first_failure o (a.entries + 1)) none)
 
   -- one that it cut short
   abbrev pub cut_steps : (c : Core) (event : Event) (reply : Reply) (e : Engine) (disk : D) (entries : ℕ) (pending : Bool) (failed : Option Failure) → (account c.history).failed ≡ None → WasCutShort c event e
@@ -84,19 +87,19 @@ module _ {D : Type 0} (g : Ghosts D) where
       → StepsTo c event reply e disk failed
   cut_steps c event reply e disk entries pending failed none cut told count is known =
       let a = account c.history in
-      let asks : AsksDisk event = (calls-asks c event cut.some).0 in
       let at : Failure = record { entry = entries + 1; pending = pending } in
       let entry : Entry = record { event = event; reply = reply } in
       let said : account (c.history ++ entry ∷ []) ≡ account_after a entry = account-append c.history entry in
-      let same = cut_account a event reply asks told in
+      let same = cut_told a event reply told in
+      let left = cut_leaves a event in
       record {
         next = with_entry c event reply;
         step = inr (record { some = cut.some; told = told }, refl);
         memory = record {
-          failure = ap entry_of is ∙ ap (λ (n : ℕ). Some (n + 1)) (count ∙ sym (entries-account c.history)) ∙ told_entry a event reply asks none told ∙ ap (λ (b : Account). b.failed) (sym said);
+          failure = ap entry_of is ∙ ap (λ (n : ℕ). Some (n + 1)) (count ∙ sym (entries-account c.history)) ∙ told_entry a event reply none told ∙ ap (λ (b : Account). b.failed) (sym said);
           pending = subst (KnowsPending c) (sym is) known;
-          sealed = cut.sealed ∙ ap (λ (b : Account). length b.sealed) (sym same) ∙ ap (λ (b : Account). length b.sealed) (sym said);
-          active = λ s. cut.active s ∙ ap (λ (b : Account). is_some (b.active s)) (sym same) ∙ ap (λ (b : Account). is_some (b.active s)) (sym said);
+          sealed = cut.sealed ∙ ap (λ (l : List Transaction). length l) (sym left.sealed) ∙ ap (λ (b : Account). length b.sealed) (sym same) ∙ ap (λ (b : Account). length b.sealed) (sym said);
+          active = λ s. cut.active s ∙ ap (λ (f : ℕ → Option Transaction). is_some (f s)) (sym left.active) ∙ ap (λ (b : Account). is_some (b.active s)) (sym same) ∙ ap (λ (b : Account). is_some (b.active s)) (sym said);
         };
         engine = λ still. absurd (never_none failed at is still);
       }
@@ -134,13 +137,13 @@ pub whole_on : (s : Super) (c : Core) (event : Event) (image : List ℕ) (may_le
 whole_on s c event image may_leave none born on = record { born = born_after c event born; unfailed = λ still. on; failed = λ some. absurd (some none) }
 
 pub cut_on : (s : Super) (c : Core) (event : Event) (reply : Reply) (old image : List ℕ) (may_leave : List ℕ → Type 0) (entries : ℕ) → IsTrue c.born → 0 < calls c event → (reply ≡ Refused DiskFault) ⊎ (reply ≡ Refused Stopped)
-    → Some entries ≡ (account (with_entry c event reply).history).failed → may_leave image → ((d : List ℕ) → may_leave d → IsLeftByStep c old d) → DiskHolds s (with_entry c event reply) image may_leave
+    → Some entries ≡ (account (with_entry c event reply).history).failed → may_leave image → ((d : List ℕ) → may_leave d → IsLeftByStep (cut c event) old d) → DiskHolds s (with_entry c event reply) image may_leave
 cut_on s c event reply old image may_leave entries born some told fails reads left = record {
   born = born;
   unfailed = λ none. let never : None ≡ Some entries = sym none ∙ sym fails in cc;
   failed = λ any d leaves. record {
-    commits = keeps_cut c event reply d (calls-asks c event some).0 told (left d leaves).commits;
-    outside = outside_between 0 (image_size c.pages c.room) old image d (left image reads).outside (left d leaves).outside;
+    commits = prefix_left c event reply d some told (left d leaves).commits;
+    outside = outside_between 0 (image_size c.pages c.room) old image d (cut_behind c event old image (left image reads).outside) (cut_behind c event old d (left d leaves).outside);
   };
 }
 

@@ -13,8 +13,9 @@ use Rattle.heap_core.specs.Causes.{reply_device}
 use Rattle.heap_core.specs.Refinement.{IsLeftByStep, IsHeap}
 use Rattle.heap_core.specs.Steps.{HeapStep, AreSteps}
 use Rattle.heap_core.specs.declared.heap.Heap.{Heap}
-use Rattle.heap_model.specs.Core.{Core, IsStep, calls}
+use Rattle.heap_model.specs.Core.{Core, IsStep, calls, cut}
 use Rattle.heap_model.specs.CoreCrash.{IsCommitPrefix}
+pub use Rattle.heap_engine.proofs.EventCore.{cut_behind}
 use Rattle.core_laws.proofs.Run.Events.{step_reached}
 use Rattle.core_laws.specs.Valid.{IsReached}
 
@@ -24,7 +25,7 @@ heap_leaves {g = g} s c heap is reached = heap_keeps s c (g.bytes heap.disk) (g.
 
 -- One event, by what a heap says of its step.
 pub one_steps : {D : Type 0} {g : Ghosts D} (s : Super) (c d : Core) (event : Event) (reply : Reply) (old new : Heap D g) → IsReached c → IsOfSession event → IsStep c event reply d → KeepsDisk g old.disk new.disk (reply_device reply)
-    → Passes (calls c event) (g.passed old.disk) (g.passed new.disk) (reply_device reply) → LeavesOnly g.moment g.left_since old.disk new.disk (IsLeftByStep c (g.bytes old.disk)) → IsHeap s d new
+    → Passes (calls c event) (g.passed old.disk) (g.passed new.disk) (reply_device reply) → LeavesOnly g.moment g.left_since old.disk new.disk (IsLeftByStep (cut c event) (g.bytes old.disk)) → IsHeap s d new
     → AreSteps (HeapStep g) c old.disk (event ∷ []) d new.disk
 one_steps {D} {g} s c d event reply old new reached session step keeps passes moments heap =
     let next = step_reached c d event reply reached session step in

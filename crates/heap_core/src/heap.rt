@@ -18,7 +18,7 @@ ghost use Rattle.heap_model.specs.Opening.{opened, IsFound};
 ghost use Rattle.heap_core.specs.Ending.{EndsAsTold, TakesNoMemory};
 ghost use Rattle.limit_laws.specs.Room.{IsEnd};
 ghost use Rattle.heap_core.specs.Causes.{step_device, reply_device, opened_outcome};
-ghost use Rattle.heap_model.specs.Core.{Core, IsStep, calls, is_dirty};
+ghost use Rattle.heap_model.specs.Core.{Core, IsStep, calls, cut, is_dirty};
 ghost use Rattle.page_store.specs.Gates.{open_gates};
 ghost use Rattle.core_laws.specs.Valid.{IsReached};
 ghost use Rattle.heap_engine.specs.EngineState.{memory, LiesWithin};
@@ -101,8 +101,9 @@ impl<D: Disk> Heap<D> {
 
         // The same holds for what a modelled disk holds.
         ensures holds { IsTrue D.tells → (s : Super) (c : Core) → IsHeap s c self.old → IsReached c → IfOk result (λ reply. (d : Core) × IsStep c event reply d × IsHeap s d self.new) }
-        // At each moment of it a crash leaves a commit prefix with all that were acknowledged or forced before, and each byte past the plan as it was.
-        ensures moments { IsTrue D.tells → (s : Super) (c : Core) → IsHeap s c self.old → IsReached c → LeavesOnly D.moment D.left_since self.old.disk self.new.disk (IsLeftByStep c (D.bytes self.old.disk)) }
+        // At each moment of it a crash leaves a commit prefix with all that were acknowledged or forced before, and each byte past the plan as it was. A
+        // seal that makes device calls is in doubt in them.
+        ensures moments { IsTrue D.tells → (s : Super) (c : Core) → IsHeap s c self.old → IsReached c → LeavesOnly D.moment D.left_since self.old.disk self.new.disk (IsLeftByStep (cut c event) (D.bytes self.old.disk)) }
         ensures passes { IsTrue D.tells → (c : Core) → IsCore c self.old → IsReached c → IfOk result (λ reply. Passes (calls c event) (D.passed self.old.disk) (D.passed self.new.disk) (reply_device reply)) }
         // An event that makes no write or sync leaves the disk alone, and does not read it either.
         ensures still { (c : Core) → IsCore c self.old → IsReached c → calls c event ≡ 0 → self.new.disk ≡ self.old.disk }
@@ -186,6 +187,15 @@ impl<D: Disk> Heap<D> {
         ensures error { (c : Core) → IsCore c self.now → IsReached c → IfErr result (λ e. e ≡ GraphError.NoMemory) }
     {
         self.core.objects(alloc)
+    }
+
+    /// Takes the heap apart: its steps can be made on its disk further on.
+    pub fn into_parts(self) -> (HeapCore, D)
+        ensures parts { result ≡ (self.core, self.disk) }
+        ensures inside { LiesWithin result.0.engine (D.extent result.1) }
+    {
+        let Heap { disk, core } = self;
+        (core, disk)
     }
 
     /// Gives the disk back.

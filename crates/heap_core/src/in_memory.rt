@@ -17,7 +17,7 @@ ghost use Rattle.object_layout.specs.Layout.{IsSeenAs};
 ghost use Rattle.heap_core.specs.Ending.{EndsAsTold, TakesNoMemory, IsReady, entries_kept};
 ghost use Rattle.limit_laws.specs.Room.{IsEnd};
 ghost use Rattle.heap_core.specs.Causes.{step_device, reply_device};
-ghost use Rattle.heap_model.specs.Core.{Core, IsStep, calls, is_dirty};
+ghost use Rattle.heap_model.specs.Core.{Core, IsStep, calls, cut, is_dirty};
 ghost use Rattle.core_laws.specs.Valid.{IsReached};
 ghost use Rattle.heap_engine.specs.EngineState.{memory, LiesWithin, HasNotFailed};
 ghost use Rattle.heap_engine.specs.Refinement.{IsLeftByStep};
@@ -163,8 +163,9 @@ impl HeapCore {
 
         // The same holds for what a modelled disk holds.
         ensures holds { IsTrue E.tells → (s : Super) (c : Core) → IsHeapOn E.Disk s c self.old disk.old → IsReached c → IfOk result (λ reply. (d : Core) × IsStep c event reply d × IsHeapOn E.Disk s d self.new disk.new) }
-        // At each moment of it a crash leaves a commit prefix with all that were acknowledged or forced before, and each byte past the plan as it was.
-        ensures moments { IsTrue E.tells → (s : Super) (c : Core) → IsHeapOn E.Disk s c self.old disk.old → IsReached c → LeavesOnly E.moment E.left_since disk.old disk.new (IsLeftByStep c (E.bytes disk.old)) }
+        // At each moment of it a crash leaves a commit prefix with all that were acknowledged or forced before, and each byte past the plan as it was. A
+        // seal that makes device calls is in doubt in them.
+        ensures moments { IsTrue E.tells → (s : Super) (c : Core) → IsHeapOn E.Disk s c self.old disk.old → IsReached c → LeavesOnly E.moment E.left_since disk.old disk.new (IsLeftByStep (cut c event) (E.bytes disk.old)) }
         ensures passes { IsTrue E.tells → (c : Core) → IsCoreOn E.Disk c self.old disk.old → IsReached c → IfOk result (λ reply. Passes (calls c event) (E.passed disk.old) (E.passed disk.new) (reply_device reply)) }
         // An event that makes no write or sync leaves the disk alone, and does not read it either.
         ensures still { (c : Core) → IsCoreOn E.Disk c self.old disk.old → IsReached c → calls c event ≡ 0 → disk.new ≡ disk.old }

@@ -11,11 +11,11 @@ use Rattle.gated_log.specs.declared.log.Log.{Log}
 use Rattle.gated_log.proofs.LogLaws.{buffer_size-Keeps}
 use Rattle.gated_log.specs.LogState.{buffer_size, is_waiting, IsBufferEmpty, Keeps}
 use Rattle.graph_model.specs.declared.event.Event.{Event}
-use Rattle.graph_model.specs.declared.event.Event.TheVariants.{Force, Flush}
+use Rattle.graph_model.specs.declared.event.Event.TheVariants.{Force}
 use Rattle.graph_model.specs.declared.reply.Refusal.{Refusal}
 use Rattle.log_records.specs.declared.Record.{Record}
 use Rattle.log_records.specs.Record.{spellings}
-use Rattle.heap_model.specs.Core.{Core, core_refusal, force_calls, AsksDisk, calls_if, calls}
+use Rattle.heap_model.specs.Core.{Core, core_refusal, noted, transfers, force_calls, calls_of, calls_if, calls}
 use Rattle.core_laws.proofs.Run.Events.{calls-forced}
 use Rattle.core_laws.specs.Valid.{IsValid}
 use Rattle.memory_laws.proofs.Kept.Log.{some_spellings}
@@ -37,14 +37,12 @@ none_pass n before result none = subst (λ (k : ℕ). Passes k before before res
   stopped = λ same any. absurd (omega (arith, any));
 })
 
-quiet_calls : (o : Option Refusal) (c : Core) (event : Event) → (AsksDisk event → ⊥) → calls_if o c event ≡ 0
-quiet_calls (Some why) c event other = refl
-quiet_calls None c Force other = absurd (other tt)
-quiet_calls None c (Flush p) other = absurd (other tt)
-quiet_calls None c event other = refl
+quiet_calls : (o : Option Refusal) (c : Core) (event : Event) → transfers c event ≡ [] → calls_if o c event ≡ 0
+quiet_calls (Some why) c event none = refl
+quiet_calls None c event none = ap (calls_of (noted c event)) none
 
-pub quiet_passes : (c : Core) (event : Event) (before : ℕ) (result : Result (Unit {0}) DiskError) → (AsksDisk event → ⊥) → Passes (calls c event) before before result
-quiet_passes c event before result other = none_pass (calls c event) before result (quiet_calls (core_refusal c event) c event other)
+pub quiet_passes : (c : Core) (event : Event) (before : ℕ) (result : Result (Unit {0}) DiskError) → transfers c event ≡ [] → Passes (calls c event) before before result
+quiet_passes c event before result none = none_pass (calls c event) before result (quiet_calls (core_refusal c event) c event none)
 
 -- what a log says of its buffer, says whether a force makes calls
 pub hand_calls : (n : ℕ) (p : List Record) → n ≡ 4 + length (spellings p) → (if nat_lt 4 n then 4 else 0) ≡ force_calls p

@@ -1,15 +1,19 @@
 -- An event that the disk did not cut short is a step of the core that an engine is.
-use Rattle.std.proofs.Common.{◌≡◌, ◌≢◌, inl, ℕ, ◌<◌, ◌≤◌, List, [], ◌∷◌, Option, Some, None, Result, Ok, Err, is_some, refl, sym, ap, ◌∙◌, subst, arith}
-use Rattle.std.specs.Prelude.{IsTrue, IsFalse}
+use Rattle.std.proofs.Common.{◌≡◌, inl, ℕ, ◌<◌, ◌≤◌, Bool, true, false, List, [], Option, Some, None, Result, Ok, Err, is_some, refl, sym, ap, ◌∙◌, subst, arith}
+use Rattle.std.specs.List.{AllByRecursion}
+use Rattle.std.specs.Prelude.{IsTrue, IsFalse, nat_lt, if◌then◌else◌}
 use Rattle.disk_model.specs.declared.disk.Disk.{Ghosts}
 use Rattle.disk_model.specs.Moments.{LeavesOnly}
 use Rattle.gated_log.specs.LogState.{IsPlaced}
 use Rattle.graph_model.specs.declared.event.Event.{Event}
 use Rattle.graph_model.specs.declared.event.Event.TheVariants.{Force, Flip, Scan, Flush}
 use Rattle.graph_model.specs.declared.reply.Refusal.{Refusal}
+use Rattle.graph_model.specs.declared.reply.Refusal.TheVariants.{Stopped}
 use Rattle.graph_model.specs.declared.reply.Reply.{Reply}
+use Rattle.graph_model.specs.declared.reply.Reply.TheVariants.{Refused}
 use Rattle.graph_model.specs.History.{account}
 use Rattle.graph_model.specs.History.{IsOfSession}
+use Rattle.core_laws.proofs.Crash.Cut.{prefix_cut}
 use Rattle.core_laws.proofs.Crash.Image.{crash_law, prefixes_on}
 use Rattle.core_laws.proofs.Step.Sound.{sound_valid}
 use Rattle.core_laws.proofs.Step.Events.{valid_after}
@@ -22,9 +26,10 @@ use Rattle.page_cache.specs.CacheState.{cache_store}
 use Rattle.page_store.specs.declared.store.PageStore.{PageStore}
 use Rattle.page_store.specs.Gates.{open_gates}
 use Rattle.page_store.specs.StoreState.{store_size, has_failed, Knows}
-use Rattle.heap_model.specs.Core.{Core, core_refusal, answer, barrier_records, forced, done, after_refusal, after, calls, moved, own_records, AsksDisk}
+use Rattle.heap_model.specs.Core.{Core, core_refusal, answer, barrier_records, noted, transfers, done, after_refusal, after, calls, cut, with_entry, moved, own_records}
 use Rattle.heap_model.specs.CoreCrash.{held_of, IsLogged, IsSuperOf, IsCommitPrefix}
 use Rattle.heap_model.proofs.Step.Logged.{logged_step}
+use Rattle.heap_model.proofs.Step.Transfers.{IsLanding, all_landed, done_noted, gates_landed, none_stored, stage_now}
 use Rattle.heap_model.proofs.Step.Moved.{moved_is, moved_keeps}
 use Rattle.heap_model.proofs.Run.Calls.{same_step}
 use Rattle.heap_model.specs.Image.{Holds}
@@ -60,65 +65,63 @@ all_same c = record { batches = refl; pages = refl; room = refl; first_number = 
 same_moved : (c : Core) (rs : List Record) → SameDisk c (moved c rs)
 same_moved c rs = moved_keeps (SameDisk c) c rs (record { batches = refl; pages = refl; room = refl; first_number = refl; born = refl })
 
-same_done : (c : Core) (event : Event) → (AsksDisk event → ⊥) → SameDisk c (done c event)
-same_done c Force other = absurd (other tt)
-same_done c (Flush p) other = absurd (other tt)
-same_done c Flip other = same_moved c (own_records c Flip)
-same_done c Scan other = same_moved c (own_records c Scan)
-same_done c event other =
+same_noted : (c : Core) (event : Event) → SameDisk c (noted c event)
+same_noted c Force = all_same c
+same_noted c (Flush p) = all_same c
+same_noted c Flip = same_moved c (own_records c Flip)
+same_noted c Scan = same_moved c (own_records c Scan)
+same_noted c event =
     let same = same_moved c (barrier_records c event) in record { batches = same.batches; pages = same.pages; room = same.room; first_number = same.first_number; born = same.born }
 
-same_disk : (o : Option Refusal) (c : Core) (event : Event) → (AsksDisk event → ⊥) → SameDisk c (after_refusal o c event)
-same_disk (Some why) c event other = all_same c
-same_disk None c event other = same_done c event other
+same_done : (c : Core) (event : Event) → transfers c event ≡ [] → SameDisk c (done c event)
+same_done c event none = subst (SameDisk c) (sym (done_noted c event none)) (same_noted c event)
+
+same_disk : (o : Option Refusal) (c : Core) (event : Event) → transfers c event ≡ [] → SameDisk c (after_refusal o c event)
+same_disk (Some why) c event none = all_same c
+same_disk None c event none = same_done c event none
 
 -- the names of objects are their births after an event, if they were before
 pub born_after : (c : Core) (event : Event) → IsTrue c.born → IsTrue (after c event).born
 born_after c event born = (same_step c (after c event) event (answer c event) (inl (refl, refl))).born ∙ born
 
--- what asks nothing of the disk is no flush
-quiet_flush : (event : Event) → (AsksDisk event → ⊥) → (p : ℕ) → event ≢ Flush p
-quiet_flush event other p is = other (subst AsksDisk (sym is) tt)
-
 -- its words are those that its log leaves, if they were before, and stored pages hold as many records as their LSNs say
-pub logged_after : (c : Core) (event : Event) (stored : Pages) → ((p : ℕ) → event ≢ Flush p) → IsLogged c stored → IsLogged (after c event) stored
+pub logged_after : (c : Core) (event : Event) (stored : Pages) → AllByRecursion IsLanding (transfers c event) → IsLogged c stored → IsLogged (after c event) stored
 logged_after c event stored other logged = logged_step c (after c event) stored event (answer c event) other (inl (refl, refl)) logged
 
--- what asks nothing of the disk leaves it
-pub disk_stays : (s : Super) (c : Core) (event : Event) (image : List ℕ) (may_leave : List ℕ → Type 0) → (AsksDisk event → ⊥) → OnDisk s c image may_leave → OnDisk s (after c event) image may_leave
-disk_stays s c event image may_leave other disk =
-    let same = same_disk (core_refusal c event) c event other in
+-- what makes no transfer leaves the disk
+pub disk_stays : (s : Super) (c : Core) (event : Event) (image : List ℕ) (may_leave : List ℕ → Type 0) → transfers c event ≡ [] → OnDisk s c image may_leave → OnDisk s (after c event) image may_leave
+disk_stays s c event image may_leave none disk =
+    let same = same_disk (core_refusal c event) c event none in
     record {
       of = of_same s c (after c event) disk.of same.pages same.room same.first_number;
       born = born_after c event disk.born;
       stored = disk.stored;
-      logged = logged_after c event disk.stored (quiet_flush event other) disk.logged;
+      logged = logged_after c event disk.stored (none_stored (transfers c event) none) disk.logged;
       held = let P : List (List Record) → Type 0 = λ bs. Holds (record { super = s; batches = bs; pages = disk.stored }) image in subst P (sym same.batches) disk.held;
       only = disk.only;
     }
 
 -- The pages that are stored.
 
-gates_forced : (c : Core) (p : List Record) → (forced c p).gates ≡ c.gates
-gates_forced c [] = refl
-gates_forced c (r ∷ rs) = refl
-
 gates_moved : (c : Core) (rs : List Record) → (moved c rs).gates ≡ c.gates
 gates_moved c rs = ap (λ (d : Core). d.gates) (moved_is c rs)
 
-gates_done : (c : Core) (event : Event) → ((p : ℕ) → event ≢ Flush p) → (done c event).gates ≡ c.gates
-gates_done c Force other = gates_forced c c.pending
-gates_done c (Flush p) other = absurd (other p refl)
-gates_done c Flip other = gates_moved c (own_records c Flip)
-gates_done c Scan other = gates_moved c (own_records c Scan)
-gates_done c event other = gates_moved c (barrier_records c event)
+gates_noted : (c : Core) (event : Event) → (noted c event).gates ≡ c.gates
+gates_noted c Force = refl
+gates_noted c (Flush p) = refl
+gates_noted c Flip = gates_moved c (own_records c Flip)
+gates_noted c Scan = gates_moved c (own_records c Scan)
+gates_noted c event = gates_moved c (barrier_records c event)
 
-gates_refusal : (o : Option Refusal) (c : Core) (event : Event) → ((p : ℕ) → event ≢ Flush p) → (after_refusal o c event).gates ≡ c.gates
+gates_done : (c : Core) (event : Event) → AllByRecursion IsLanding (transfers c event) → (done c event).gates ≡ c.gates
+gates_done c event none = all_landed (λ d. d.gates ≡ c.gates) (λ d is. gates_landed d ∙ is) (noted c event) (transfers c event) none (gates_noted c event)
+
+gates_refusal : (o : Option Refusal) (c : Core) (event : Event) → AllByRecursion IsLanding (transfers c event) → (after_refusal o c event).gates ≡ c.gates
 gates_refusal None c event other = gates_done c event other
 gates_refusal (Some why) c event other = refl
 
--- only a flush stores a page
-pub knows_after : (c : Core) (event : Event) (m n : Memory) (old image : List ℕ) → ((p : ℕ) → event ≢ Flush p) → n.store ≡ m.store → Knows m.store image
+-- an event whose transfers store none leaves those that are stored
+pub knows_after : (c : Core) (event : Event) (m n : Memory) (old image : List ℕ) → AllByRecursion IsLanding (transfers c event) → n.store ≡ m.store → Knows m.store image
     → ((p : ℕ) → open_gates c.room image p ≡ open_gates c.room old p) → KnowsPages c m old → KnowsPages (after c event) n image
 knows_after c event m n old image other store knows same pages =
     let room : (after c event).room ≡ c.room = (same_step c (after c event) event (answer c event) (inl (refl, refl))).room in
@@ -137,7 +140,7 @@ knows_as c m n image store pages = record {
 -- a crash of a disk that holds a core leaves a commit prefix
 pub disk_keeps : (s : Super) (c : Core) (image : List ℕ) (may_leave : List ℕ → Type 0) → OnDisk s c image may_leave → IsSound c → (d : List ℕ) → may_leave d → IsCommitPrefix c d
 disk_keeps s c image may_leave disk sound d left =
-    crash_law c (held_of s c disk.stored) sound disk.born disk.logged.words (prefixes_on c c.batches disk.stored disk.logged (inl refl)) (inl refl) disk.of d
+    crash_law c (held_of s c disk.stored) sound disk.born disk.logged.words (prefixes_on c c.batches disk.stored disk.logged (stage_now c)) (stage_now c) disk.of d
     (subst (Holds (held_of s c disk.stored)) (sym (disk.only d left)) disk.held)
 
 -- and the bytes past its plan
@@ -146,6 +149,25 @@ disk_leaves s c image may_leave disk sound d left = record {
   commits = disk_keeps s c image may_leave disk sound d left;
   outside = subst (SameBehind c image) (sym (disk.only d left)) (untouched 0 (image_size c.pages c.room) image);
 }
+
+-- Such an image is left by an event that may be cut short,
+pub behind_cut : (c : Core) (event : Event) (old image : List ℕ) → SameBehind c old image → SameBehind (cut c event) old image
+behind_cut c event old image same = by (nat_lt 0 (calls c event))
+  where
+    by : (some : Bool) → SameBehind (if some then with_entry c event (Refused Stopped) else c) old image
+    by true = same
+    by false = same
+
+-- and the bytes past the plan are the same
+pub cut_behind : (c : Core) (event : Event) (old image : List ℕ) → SameBehind (cut c event) old image → SameBehind c old image
+cut_behind c event old image = by (nat_lt 0 (calls c event))
+  where
+    by : (some : Bool) → SameBehind (if some then with_entry c event (Refused Stopped) else c) old image → SameBehind c old image
+    by true same = same
+    by false same = same
+
+pub left_cut : (c : Core) (event : Event) (old image : List ℕ) → IsSound c → IsLeftByStep c old image → IsLeftByStep (cut c event) old image
+left_cut c event old image sound left = record { commits = prefix_cut c event image sound left.commits; outside = behind_cut c event old image left.outside }
 
 -- the sessions of an event that the disk cut short are as they were
 pub cut_short : (c : Core) (event : Event) (old new : Engine) → IsMemory (memory old) (account c.history) c → 0 < calls c event → new.sealed ≡ old.sealed → new.table ≡ old.table → WasCutShort c event new
@@ -219,32 +241,34 @@ module _ {D : Type 0} (g : Ghosts D) where
   module _ (event : Event) (old new : Engine) (disk : D) where
     -- at each moment of it a crash leaves what it left before
     alone : ((image : List ℕ) → g.left_since disk (g.moment disk) image → g.may_leave disk image) → (s : Super) (c : Core) → IsReached c → OnDisk s c (g.bytes disk) (g.may_leave disk)
-        → LeavesOnly g.moment g.left_since disk disk (IsLeftByStep c (g.bytes disk))
-    alone now s c reached held = stays g.moment g.left_since disk (g.may_leave disk) (IsLeftByStep c (g.bytes disk)) now (disk_leaves s c (g.bytes disk) (g.may_leave disk) held reached.sound)
+        → LeavesOnly g.moment g.left_since disk disk (IsLeftByStep (cut c event) (g.bytes disk))
+    alone now s c reached held =
+        stays g.moment g.left_since disk (g.may_leave disk) (IsLeftByStep (cut c event) (g.bytes disk)) now
+        (λ image left. left_cut c event (g.bytes disk) image reached.sound (disk_leaves s c (g.bytes disk) (g.may_leave disk) held reached.sound image left))
 
     -- a call of a session, or a begin
-    pub call_leaves : (reply : Reply) → IsOfSession event → (AsksDisk event → ⊥) → LeavesStored old new
+    pub call_leaves : (reply : Reply) → IsOfSession event → ((c : Core) → transfers c event ≡ []) → LeavesStored old new
         → ((c : Core) → IsMemory (memory old) (account c.history) c → IsValid c → RunsLocked c.g0 c.first c.history → Does c event reply (memory new)) → LeavesDisk event old new disk (Ok reply)
-    call_leaves reply one other leaves does = record {
+    call_leaves reply one moves leaves does = record {
       inside = still_within old new (g.extent disk) leaves;
       works = still_works old new leaves;
       core = record {
         core = λ c is reached.
             let valid = engine_valid c old disk is reached in
-            let done = does c is.memory valid reached.locked in
+            let came = does c is.memory valid reached.locked in
             let later = valid_after c event valid reached.locked one in (
-              done.replied,
-              engine_after c event reply new disk later done
-                  (λ told. let known = is.pages told in knows_after c event (memory old) (memory new) (g.bytes disk) (g.bytes disk) (quiet_flush event other) leaves.store known.frames (λ p. refl) known),
+              came.replied,
+              engine_after c event reply new disk later came
+                  (λ told. let known = is.pages told in knows_after c event (memory old) (memory new) (g.bytes disk) (g.bytes disk) (none_stored (transfers c event) (moves c)) leaves.store known.frames (λ p. refl) known),
             );
         still = λ c is reached none. refl;
         untouched = λ never. refl;
         kept = λ never. absurd (cc never);
       };
       holds = λ now. record {
-        holds = λ s c is reached held. disk_stays s c event (g.bytes disk) (g.may_leave disk) other held;
+        holds = λ s c is reached held. disk_stays s c event (g.bytes disk) (g.may_leave disk) (moves c) held;
         moments = λ s c is reached held. alone now s c reached held;
-        passes = λ c is reached. quiet_passes c event (g.passed disk) (Ok tt) other;
+        passes = λ c is reached. quiet_passes c event (g.passed disk) (Ok tt) (moves c);
       };
     }
 

@@ -1,5 +1,6 @@
 -- A flush is a step of the core that an engine is.
 use Rattle.std.proofs.Common.{◌≡◌, ℕ, ◌+◌, ◌*◌, ◌<◌, ◌≤◌, Bool, true, false, cond, List, Option, Ok, refl, sym, ap, ◌∙◌, subst, arith}
+use Rattle.std.specs.Prelude.{fold}
 use Rattle.disk_model.specs.declared.disk.Disk.{Ghosts}
 use Rattle.graph_model.specs.declared.event.Event.TheVariants.{Flush}
 use Rattle.graph_model.specs.declared.reply.Refusal.{Refusal}
@@ -13,13 +14,13 @@ use Rattle.core_laws.proofs.Step.Flush.{flush_granted, flush_refused, calls-flus
 use Rattle.core_laws.proofs.Step.Events.{valid_after}
 use Rattle.core_laws.specs.Valid.{IsValid}
 use Rattle.heap_memory.specs.Memory.{Memory}
-use Rattle.heap_model.specs.Core.{Core, core_refusal, answer, with_entry, is_dirty, is_ahead, page_stored, flushed, force_calls, store_calls, calls_if, calls, after_refusal, after}
+use Rattle.heap_model.specs.Core.{Core, core_refusal, answer, with_entry, present_lsn, is_dirty, is_ahead, made, storing, done, force_calls, store_calls, calls_if, calls, cut, after_refusal, after}
 use Rattle.memory_laws.specs.CoreMemory.{IsMemory}
 use Rattle.memory_laws.proofs.Does.{Does}
 use Rattle.heap_engine.specs.Refinement.{OnDisk, IsLeftByStep, KnowsPages, Steps, StepsOn}
-use Rattle.heap_engine.proofs.StoreCore.{ready, some_store}
+use Rattle.heap_engine.proofs.StoreCore.{some_store}
 use Rattle.heap_engine.proofs.DeviceCalls.{stays, none_pass}
-use Rattle.heap_engine.proofs.EventCore.{disk_leaves, engine_valid, engine_after}
+use Rattle.heap_engine.proofs.EventCore.{disk_leaves, left_cut, engine_valid, engine_after}
 use Rattle.heap_engine.specs.declared.engine.Engine.{Engine}
 use Rattle.heap_engine.specs.EngineState.{memory}
 
@@ -35,12 +36,12 @@ pub left_refused : (c : Core) (p : ℕ) → IsValid c → pages_in c.pages ≤ p
 left_refused c p valid beyond = ap (λ (o : Option Refusal). after_refusal o c (Flush p)) (flush_refused c p valid beyond)
 
 -- the page stored where it is not,
-pub left_flushed : (c : Core) (p : ℕ) → IsValid c → p < pages_in c.pages → after_refusal (core_refusal c (Flush p)) c (Flush p) ≡ flushed c p
+pub left_flushed : (c : Core) (p : ℕ) → IsValid c → p < pages_in c.pages → after_refusal (core_refusal c (Flush p)) c (Flush p) ≡ done c (Flush p)
 left_flushed c p valid lt = ap (λ (o : Option Refusal). after_refusal o c (Flush p)) (flush_granted c p valid lt)
 
 -- and nothing else where the page is clean.
 pub left_clean : (c : Core) (p : ℕ) → IsValid c → p < pages_in c.pages → is_dirty c p ≡ false → after_refusal (core_refusal c (Flush p)) c (Flush p) ≡ c
-left_clean c p valid lt clean = left_flushed c p valid lt ∙ ap (λ (b : Bool). cond b (page_stored (ready c p) p) c) clean
+left_clean c p valid lt clean = left_flushed c p valid lt ∙ ap (λ (b : Bool). fold made c (storing b (is_ahead c p) p (present_lsn c p))) clean
 
 -- One that is refused makes no calls,
 pub refused_calls : (c : Core) (p : ℕ) → IsValid c → pages_in c.pages ≤ p → calls c (Flush p) ≡ 0
@@ -83,9 +84,9 @@ module _ {D : Type 0} (g : Ghosts D) (p : ℕ) (e : Engine) (disk : D) where
     idle_steps = record {
       core = λ c is reached.
           let valid = engine_valid g c e disk is reached in
-          let done = does c is.memory valid in (
-            done.replied,
-            engine_after g c (Flush p) reply e disk (valid_after c (Flush p) valid reached.locked tt) done (λ told. knows_left c c p (left c is.memory valid) (memory e) (g.bytes disk) (is.pages told)),
+          let came = does c is.memory valid in (
+            came.replied,
+            engine_after g c (Flush p) reply e disk (valid_after c (Flush p) valid reached.locked tt) came (λ told. knows_left c c p (left c is.memory valid) (memory e) (g.bytes disk) (is.pages told)),
           );
       still = λ c is reached none. refl;
       untouched = λ never. refl;
@@ -95,6 +96,8 @@ module _ {D : Type 0} (g : Ghosts D) (p : ℕ) (e : Engine) (disk : D) where
     pub idle_on : ((image : List ℕ) → g.left_since disk (g.moment disk) image → g.may_leave disk image) → StepsOn g (Flush p) e disk e disk (Ok reply)
     idle_on now = record {
       holds = λ s c is reached held. disk_left c c p (left c is.memory (engine_valid g c e disk is reached)) s (g.bytes disk) (g.may_leave disk) held;
-      moments = λ s c is reached held. stays g.moment g.left_since disk (g.may_leave disk) (IsLeftByStep c (g.bytes disk)) now (disk_leaves s c (g.bytes disk) (g.may_leave disk) held reached.sound);
+      moments = λ s c is reached held.
+          stays g.moment g.left_since disk (g.may_leave disk) (IsLeftByStep (cut c (Flush p)) (g.bytes disk)) now
+          (λ image left. left_cut c (Flush p) (g.bytes disk) image reached.sound (disk_leaves s c (g.bytes disk) (g.may_leave disk) held reached.sound image left));
       passes = λ c is reached. none_pass (calls c (Flush p)) (g.passed disk) (Ok tt) (none c is.memory (engine_valid g c e disk is reached));
     }

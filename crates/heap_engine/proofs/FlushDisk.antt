@@ -1,7 +1,6 @@
 -- A force and the store of a page: what they leave of a core, and what the disk holds then.
-use Rattle.std.proofs.Common.{◌≡◌, ◌≢◌, inl, inr, ℕ, ◌<◌, max, Bool, true, false, cond, List, length, Result, Ok, Err, refl, sym, ap, ◌∙◌, subst, arith}
-use Rattle.std.specs.Prelude.{◌==◌, OnOk}
-use Rattle.std.proofs.lemmas.Bool.{eqb-true}
+use Rattle.std.proofs.Common.{◌≡◌, ◌≢◌, inr, ℕ, ◌<◌, max, Bool, true, false, cond, List, length, Result, Ok, Err, refl, sym, ap, ◌∙◌, subst, arith}
+use Rattle.std.specs.Prelude.{fold, ◌==◌, OnOk}
 use Rattle.std.proofs.lemmas.List.{append-nil, take_at}
 use Rattle.gate_slot.proofs.ImageLaws.{same_part}
 use Rattle.gated_log.specs.Log.{records_of, HoldsBatches}
@@ -18,9 +17,10 @@ use Rattle.page_redo.proofs.PrefixLaws.{redone-present, HoldsPrefix-own, HoldsPr
 use Rattle.page_redo.specs.Redo.{last_lsn, redone}
 use Rattle.page_redo.proofs.RedoLaws.{lsn-redone}
 use Rattle.page_store.specs.Page.{HasPage, SamePage, SameButPage, IsStoring}
-use Rattle.heap_model.specs.Core.{Core, log_origin, all_records, all_words, present_lsn, forced_if, page_stored}
+use Rattle.heap_model.specs.Core.{Core, log_origin, all_records, all_words, present_lsn, Stores, made, landing}
 use Rattle.heap_model.specs.CoreCrash.{held_of, IsLogged, IsSuperOf, IsOnDisk}
-use Rattle.heap_model.proofs.Step.Logged.{super_origin, all_logged, logged_forced}
+use Rattle.heap_model.proofs.Step.Logged.{super_origin, all_logged, logged_landed}
+use Rattle.heap_model.proofs.Step.Transfers.{stage_now, stage_landed}
 use Rattle.heap_model.proofs.Step.Room.{forced-with_batch, records_of-with_batch}
 use Rattle.heap_model.specs.Image.{Holds}
 
@@ -42,7 +42,7 @@ pub record IsForced (c d : Core) : Type 0 where
   pub on : IsOnDisk c d.batches
 
 -- so it does where it is only made if something is ahead
-pub is_forced : (ahead : Bool) (c : Core) → IsForced c (forced_if ahead c)
+pub is_forced : (ahead : Bool) (c : Core) → IsForced c (fold made c (landing ahead))
 is_forced true c = subst (IsForced c) (sym (forced-with_batch c)) (record {
   pages = refl;
   room = refl;
@@ -52,9 +52,9 @@ is_forced true c = subst (IsForced c) (sym (forced-with_batch c)) (record {
   born = refl;
   words = refl;
   records = append-nil _ ∙ records_of-with_batch c.batches c.pending;
-  on = inr refl;
+  on = stage_landed c;
 })
-is_forced false c = record { pages = refl; room = refl; first_number = refl; stored_lsns = refl; gates = refl; born = refl; words = refl; records = refl; on = inl refl }
+is_forced false c = record { pages = refl; room = refl; first_number = refl; stored_lsns = refl; gates = refl; born = refl; words = refl; records = refl; on = stage_now c }
 
 -- each page has the LSN that it had
 pub present_forced : (c d : Core) (p : ℕ) → IsForced c d → present_lsn d p ≡ present_lsn c p
@@ -70,8 +70,8 @@ pub super_forced : (s : Super) (c d : Core) → IsForced c d → IsSuperOf s c �
 super_forced s c d same of = record { limits = of.limits; pages = of.pages ∙ sym same.pages; room = of.room ∙ sym same.room; first = of.first ∙ sym same.first_number }
 
 -- the stored pages may stay beside the log
-pub logged_if : (ahead : Bool) (c : Core) (stored : Pages) → IsLogged c stored → IsLogged (forced_if ahead c) stored
-logged_if true c stored logged = logged_forced c stored c.pending logged
+pub logged_if : (ahead : Bool) (c : Core) (stored : Pages) → IsLogged c stored → IsLogged (fold made c (landing ahead)) stored
+logged_if true c stored logged = logged_landed c stored logged
 logged_if false c stored logged = logged
 
 -- The store of a page that is not ahead of the log.
@@ -111,18 +111,18 @@ module _ (s : Super) (d : Core) (p : ℕ) (of : IsSuperOf s d) (lt : p < pages_i
       pages = refl;
     }
 
-    stored_one : (q : ℕ) (b : Bool) (was : ℕ) → (q == p) ≡ b → was ≡ d.stored_lsns q → cond b (present_lsn d p) was ≡ cond b (present_lsn d q) (d.stored_lsns q)
-    stored_one q true was here before = ap (present_lsn d) (sym (eqb-true q p here))
-    stored_one q false was here before = before
+    stored_one : (q lsn : ℕ) (b : Bool) (was : ℕ) → lsn ≡ present_lsn d p → was ≡ d.stored_lsns q → cond b (present_lsn d p) was ≡ cond b lsn (d.stored_lsns q)
+    stored_one q lsn true was is before = sym is
+    stored_one q lsn false was is before = before
 
     -- once it is stored, it is stored with its LSN
-    pub stored_logged : HasPage s.log_bytes p (present_lsn d p) (page_words (all_words d) p) new → ((q : ℕ) → q ≢ p → SamePage s.log_bytes q old new) → SameButPage s.log_bytes p old new
-        → IsLogged (page_stored d p) (stored_pages s.pages s.log_bytes new)
-    stored_logged has others but = record {
+    pub stored_logged : (lsn : ℕ) → lsn ≡ present_lsn d p → HasPage s.log_bytes p (present_lsn d p) (page_words (all_words d) p) new → ((q : ℕ) → q ≢ p → SamePage s.log_bytes q old new) → SameButPage s.log_bytes p old new
+        → IsLogged (made d (Stores p lsn)) (stored_pages s.pages s.log_bytes new)
+    stored_logged lsn is has others but = record {
       words = logged.words;
       prefixes = storing_prefixes (record { page = inr has; others = others; outside = but });
       lsns = λ q within.
           let was : lsn_of (stored_pages s.pages s.log_bytes old) q ≡ d.stored_lsns q = ap (λ (at : Pages). lsn_of at q) held.pages ∙ logged.lsns q within in
           flushed_stored s.pages s.log_bytes p (present_lsn d p) (page_words (all_words d) p) old new has others q (subst (λ (n : ℕ). q < pages_in n) (sym of.pages) within)
-          ∙ stored_one q (q == p) (lsn_of (stored_pages s.pages s.log_bytes old) q) refl was;
+          ∙ stored_one q lsn (q == p) (lsn_of (stored_pages s.pages s.log_bytes old) q) is was;
     }

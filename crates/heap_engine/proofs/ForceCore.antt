@@ -1,12 +1,12 @@
 -- A force: what it leaves of an engine and on the disk, whole or cut short.
-use Rattle.std.proofs.Common.{lit<, ◌<◌, ◌≡◌, ◌≢◌, ◌⊎◌, inl, inr, ℕ, ◌+◌, max, List, [], ◌∷◌, length, Option, None, Result, Ok, Err, refl, sym, ap, ◌∙◌, subst, ⊎_elim, arith}
+use Rattle.std.proofs.Common.{lit<, ◌<◌, ◌≡◌, ◌≢◌, ◌⊎◌, ℕ, ◌+◌, max, List, [], ◌∷◌, length, Option, None, Result, Ok, Err, refl, sym, ap, ◌∙◌, subst, ⊎_elim, arith}
 use Rattle.disk_model.specs.Disk.{part, Only, SameOutside}
 use Rattle.disk_model.specs.declared.disk.DiskError.{DiskError}
 use Rattle.gated_log.specs.declared.log.Log.{Log}
 use Rattle.gated_log.specs.Log.{with_batch, HoldsBatches}
 use Rattle.gated_log.proofs.LogLaws.{buffer_size-Keeps}
 use Rattle.gated_log.specs.LogState.{log_place, log_room, IsBufferEmpty, Keeps, IsSameLog}
-use Rattle.graph_model.specs.declared.event.Event.TheVariants.{Force, Flush}
+use Rattle.graph_model.specs.declared.event.Event.TheVariants.{Force}
 use Rattle.graph_model.specs.declared.reply.Refusal.{Refusal}
 use Rattle.graph_model.specs.declared.reply.Reply.{Reply}
 use Rattle.graph_model.specs.declared.reply.Reply.TheVariants.{Durable, Refused}
@@ -27,6 +27,7 @@ use Rattle.page_store.specs.StoreState.{store_log, Knows}
 use Rattle.heap_model.specs.Core.{Core, all_words, core_refusal, answer, with_entry, done, after_refusal, after, force_calls, calls}
 use Rattle.heap_model.specs.CoreCrash.{held_of, IsLogged, IsOnDisk, IsCommitPrefix}
 use Rattle.heap_model.proofs.Step.Room.{forced-with_batch}
+use Rattle.heap_model.proofs.Step.Transfers.{stage_now, stage_landed}
 use Rattle.heap_model.proofs.Opening.Held.{held_with}
 use Rattle.heap_model.proofs.Outside.{outside_within}
 use Rattle.heap_engine.specs.Refinement.{OnDisk, SameBehind, IsLeftByStep, KnowsPages, WasCutShort}
@@ -55,9 +56,6 @@ force_does m new c reply valid is keeps at room same store replied =
     (λ e granted. memory_told new a (done c Force) (max a.acknowledged (length a.sealed)) (a.entries + 1) forced)
     (λ why refused. let never : Durable m.sealed ≡ Refused why = sym replied ∙ refused in cc never)
 
-force_flush : (p : ℕ) → Force ≢ Flush p
-force_flush p is = cc is
-
 -- the disk after a force
 pub disk_forced : (s : Super) (c : Core) (old new : List ℕ) (may_leave' may_leave : List ℕ → Type 0) → IsValid c → OnDisk s c old may_leave' → SameOutside 64 (64 + s.log_bytes) old new
     → HoldsBatches (part new 64 s.log_bytes) (with_batch c.batches c.pending) → Only new may_leave → OnDisk s (after c Force) new may_leave
@@ -65,7 +63,7 @@ disk_forced s c old new may_leave' may_leave valid disk outside holds only =
     let forced_now : after_refusal (core_refusal c Force) c Force ≡ record c { batches = with_batch c.batches c.pending; words = all_words c; pending = [] } =
     ap (λ (o : Option Refusal). after_refusal o c Force) (force_granted c valid) ∙ forced-with_batch c in
     let P : Core → Type 0 = λ d. OnDisk s (with_entry d Force (answer c Force)) new may_leave in
-    let logged = logged_after c Force disk.stored force_flush disk.logged in
+    let logged = logged_after c Force disk.stored (tt, tt) disk.logged in
     subst P (sym forced_now) (record {
       of = of_same s c _ disk.of refl refl refl;
       born = disk.born;
@@ -112,7 +110,7 @@ module _ (c : Core) (w : Engine) (log : Log) (works : IsMemory (memory w) (accou
 
   pub knows_forced : (n : Memory) (old image : List ℕ) → n.store ≡ cache_store w.cache → SameOutside (log_place log) (log_place log + log_room log) old image → KnowsPages c (memory w) old
       → KnowsPages (after c Force) n image
-  knows_forced n old image store outside pages = knows_after c Force (memory w) n old image force_flush store (frames_forced old image outside pages.frames) (gates_still old image outside) pages
+  knows_forced n old image store outside pages = knows_after c Force (memory w) n old image (tt, tt) store (frames_forced old image outside pages.frames) (gates_still old image outside) pages
 
   -- something is pending if a force ends in an error
   pub force_waits : (result : Result (Unit {0}) DiskError) (e : DiskError) → (IsBufferEmpty log → result ≡ Ok tt) → result ≡ Err e → c.pending ≢ []
@@ -154,8 +152,8 @@ module _ (c : Core) (w : Engine) (log : Log) (works : IsMemory (memory w) (accou
         → IsCommitPrefix c image
     force_keeps image sound found =
         let outside = (let P : ℕ → ℕ → Type 0 = λ n m. SameOutside n (n + m) old image in in_log P found.0) in
-        ⊎_elim (λ held. kept_batches c.batches image sound (inl refl) outside held)
-        (λ held. kept_batches (with_batch c.batches c.pending) image sound (inr refl) outside held) found.1
+        ⊎_elim (λ held. kept_batches c.batches image sound (stage_now c) outside held)
+        (λ held. kept_batches (with_batch c.batches c.pending) image sound (stage_landed c) outside held) found.1
 
     -- and each byte past the plan is as it was
     pub force_leaves : (image : List ℕ) → IsSound c → SameOutside (log_place log) (log_place log + log_room log) old image × (HoldsBatches (part image (log_place log) (log_room log)) c.batches ⊎ HoldsBatches (part image (log_place log) (log_room log)) (with_batch c.batches c.pending))

@@ -1,6 +1,6 @@
 -- What a step promises, of an event that leaves the disk alone: its callee granted or refused it, or had no memory.
 use Rattle.std.specs.Prelude.{IsTrue, IfOk}
-use Rattle.std.proofs.Common.{◌≡◌, ◌≢◌, ℕ, List, Result, Ok, Err, sym, subst}
+use Rattle.std.proofs.Common.{◌≡◌, ◌≢◌, ℕ, List, [], Result, Ok, Err, sym, subst}
 use Rattle.disk_model.specs.declared.disk.Disk.{Ghosts}
 use Rattle.disk_model.specs.Keeps.{KeepsDisk}
 use Rattle.disk_model.proofs.KeepsLaws.{keeps_none}
@@ -9,7 +9,7 @@ use Rattle.graph_model.specs.declared.reply.Reply.{Reply}
 use Rattle.graph_model.specs.History.{account, IsOfSession}
 use Rattle.core_laws.specs.Valid.{RunsLocked, IsValid}
 use Rattle.heap_memory.specs.Leaves.{IsAsItWas}
-use Rattle.heap_model.specs.Core.{Core, AsksDisk}
+use Rattle.heap_model.specs.Core.{Core, transfers}
 use Rattle.memory_laws.specs.CoreMemory.{IsMemory}
 use Rattle.memory_laws.proofs.Does.{Does}
 use Rattle.heap_engine.specs.declared.engine.Engine.{Engine}
@@ -35,11 +35,11 @@ module _ {D : Type 0} (g : Ghosts D) (event : Event) (old new : Engine) (d : D) 
 
   module _ (inside : LiesWithin old (g.extent d)) (works : HasNotFailed old) (now : IsTrue g.tells → (image : List ℕ) → g.left_since d (g.moment d) image → g.may_leave d image) where
     -- it was answered
-    pub answered_aside : (reply : Reply) → IsOfSession event → (AsksDisk event → ⊥) → LeavesStored old new
+    pub answered_aside : (reply : Reply) → IsOfSession event → ((c : Core) → transfers c event ≡ []) → LeavesStored old new
         → ((c : Core) → IsMemory (memory old) (account c.history) c → IsValid c → RunsLocked c.g0 c.first c.history → Does c event reply (memory new))
         → reply_device reply ≡ Ok tt → Ends (memory old) (memory new) event reply → StepsAside (Ok reply)
-    answered_aside reply one other leaves does answered ends =
-        let all = call_leaves g event old new d reply one other leaves does in
+    answered_aside reply one moves leaves does answered ends =
+        let all = call_leaves g event old new d reply one moves leaves does in
         record {
           inside = all.inside inside;
           works = λ fine. all.works works;

@@ -1,6 +1,6 @@
 -- The store of a page of an open heap is the flush of a core, in memory and on the disk.
-use Rattle.std.proofs.Common.{◌≡◌, ◌≢◌, ℕ, ◌+◌, ◌*◌, ◌<◌, ◌≤◌, inl, inr, min, lit<, Bool, true, false, cond, List, length, Result, Ok, Err, refl, sym, ap, ◌∙◌, subst, arith}
-use Rattle.std.specs.Prelude.{◌==◌, ◌&&◌, not, nat_lt, OnOk, IsTrue, IsFalse, if◌then◌else◌}
+use Rattle.std.proofs.Common.{◌≡◌, ◌≢◌, ℕ, ◌+◌, ◌*◌, ◌<◌, ◌≤◌, inl, inr, min, lit<, Bool, true, false, cond, List, [], ◌∷◌, ◌++◌, length, Result, Ok, Err, refl, sym, ap, ◌∙◌, subst, arith}
+use Rattle.std.specs.Prelude.{fold, ◌==◌, ◌&&◌, not, nat_lt, OnOk, IsTrue, IsFalse, if◌then◌else◌}
 use Rattle.std.proofs.lemmas.Bool.{cases_lt, lt-ltb, le-ltb, eqb-true, eqb-false}
 use Rattle.counts.specs.Count.{counted}
 use Rattle.disk_model.specs.Disk.{part, Only, SameOutside}
@@ -11,6 +11,7 @@ use Rattle.gated_log.specs.declared.log.Log.{Log}
 use Rattle.gated_log.specs.Log.{records_of, HoldsBatches}
 use Rattle.gated_log.proofs.LogLaws.{buffer_size-Keeps}
 use Rattle.gated_log.specs.LogState.{buffer_size, log_place, log_room, log_forced, is_waiting, Keeps, IsSameLog}
+use Rattle.graph_model.specs.declared.event.Event.TheVariants.{Flush}
 use Rattle.graph_model.specs.History.{Account, account}
 use Rattle.image_plan.specs.declared.plan.Plan.{Plan}
 use Rattle.image_plan.specs.declared.superblock.Super.{Super}
@@ -26,11 +27,12 @@ use Rattle.log_machine.specs.Origin.{Origin, next_lsn}
 use Rattle.page_store.specs.Page.{HasPage, SamePage, SameButPage, IsStoring}
 use Rattle.page_store.specs.StoreState.{store_plan, stored_entry, stored_lsn, has_failed, Knows}
 use Rattle.heap_memory.specs.Memory.{Memory}
-use Rattle.heap_model.specs.Core.{Core, log_origin, all_words, present_lsn, is_dirty, is_ahead, forced_if, page_stored, flushed, force_calls, store_calls, flush_calls}
+use Rattle.heap_model.specs.Core.{Core, log_origin, all_words, present_lsn, is_dirty, is_ahead, Stores, made, landing, storing, transfers, done, force_calls, store_calls, calls_of}
 use Rattle.heap_model.specs.CoreCrash.{held_of, IsCommitPrefix, IsLogged, IsSuperOf}
 use Rattle.heap_model.proofs.Opening.Held.{held_with}
 use Rattle.heap_model.proofs.Outside.{outside_within, outside_then}
 use Rattle.heap_model.proofs.Step.Room.{forced-with_batch}
+use Rattle.heap_model.proofs.Step.Transfers.{calls_storing}
 use Rattle.heap_model.specs.Image.{Holds}
 use Rattle.core_laws.proofs.Crash.Image.{crash_law}
 use Rattle.core_laws.specs.Valid.{IsSound}
@@ -56,8 +58,8 @@ pub same_log : (log : Log) → IsSameLog log log
 same_log log = record { place = record { at = refl; room = refl; tail = refl; forced = refl }; buffer = refl; size = refl; count = refl }
 
 -- memory after a force that is only made if something is ahead
-memory_if : (ahead : Bool) (m : Memory) (log : Log) (a : Account) (c : Core) → IsMemory m a c → Keeps log (forced_if ahead c).batches (forced_if ahead c).pending → log_place log ≡ log_place m.log → log_room log ≡ log_room m.log
-    → IsMemory (record m { log = log }) a (forced_if ahead c)
+memory_if : (ahead : Bool) (m : Memory) (log : Log) (a : Account) (c : Core) → IsMemory m a c → Keeps log (fold made c (landing ahead)).batches (fold made c (landing ahead)).pending → log_place log ≡ log_place m.log → log_room log ≡ log_room m.log
+    → IsMemory (record m { log = log }) a (fold made c (landing ahead))
 memory_if true m log a c is keeps at room =
     forced_memory m (record m { log = log }) a c is (subst (λ (d : Core). Keeps log d.batches d.pending) (forced-with_batch c) keeps) at room
     (record { words = refl; lsns = refl; table = refl; locks = refl; spaces = refl; collection = refl; sealed = refl }) refl
@@ -95,7 +97,12 @@ past_or_below a b = elim (cases_lt a b) [
 
 -- the core after pending records are forced if a page is ahead
 abbrev pub ready : Core → ℕ → Core
-ready c p = forced_if (is_ahead c p) c
+ready c p = fold made c (landing (is_ahead c p))
+
+-- a store behind it is the last transfer
+ready_stored : (c : Core) (p lsn : ℕ) (ahead : Bool) → fold made c (landing ahead ++ Stores p lsn ∷ []) ≡ made (fold made c (landing ahead)) (Stores p lsn)
+ready_stored c p lsn true = refl
+ready_stored c p lsn false = refl
 
 module _ (c : Core) (w : Engine) (p : ℕ) (works : IsMemory (memory w) (account c.history) c) (page : p < cache_pages w.cache) where
   -- the pages in memory are those of the core
@@ -121,8 +128,8 @@ module _ (c : Core) (w : Engine) (p : ℕ) (works : IsMemory (memory w) (account
       ap (λ (k : ℕ). nat_lt k n) works.log.forced ∙ ap (λ (k : ℕ). nat_lt (length (records_of c.batches)) k) (is ∙ lsn)
       ∙ past_or_below (length (records_of c.batches)) (present_lsn c p)
 
-  pub flushed_is : IsTrue (cache.is_dirty w.cache p) → flushed c p ≡ page_stored (ready c p) p
-  flushed_is dirty = ap (λ (b : Bool). cond b (page_stored (ready c p) p) c) (sym dirty_is ∙ dirty)
+  pub flushed_is : IsTrue (cache.is_dirty w.cache p) → done c (Flush p) ≡ made (ready c p) (Stores p (present_lsn c p))
+  flushed_is dirty = ap (λ (b : Bool). fold made c (storing b (is_ahead c p) p (present_lsn c p))) (sym dirty_is ∙ dirty) ∙ ready_stored c p (present_lsn c p) (is_ahead c p)
 
   same : IsForced c (ready c p)
   same = is_forced (is_ahead c p) c
@@ -137,14 +144,14 @@ module _ (c : Core) (w : Engine) (p : ℕ) (works : IsMemory (memory w) (account
   -- What is in memory.
   pub flushed_memory : (new : Memory) → IsTrue (cache.is_dirty w.cache p) → Keeps new.log (ready c p).batches (ready c p).pending → log_place new.log ≡ log_place w.log → log_room new.log ≡ log_room w.log
       → HasSameWork (memory w) new → store_plan new.store ≡ store_plan (cache_store w.cache) → IsFalse (has_failed new.store) → stored_lsn new.store p ≡ cached_lsn w.cache p
-      → ((q : ℕ) → q ≢ p → stored_entry new.store q ≡ stored_entry (cache_store w.cache) q) → IsMemory new (account c.history) (flushed c p)
+      → ((q : ℕ) → q ≢ p → stored_entry new.store q ≡ stored_entry (cache_store w.cache) q) → IsMemory new (account c.history) (done c (Flush p))
   flushed_memory new dirty keeps at room work plan unfailed clean others =
       let a = account c.history in
       let forced = memory_if (is_ahead c p) (memory w) new.log a c works keeps at room in
       subst (IsMemory new a) (sym (flushed_is dirty))
-      (stored_memory (record (memory w) { log = new.log }) new a (ready c p) p forced refl
+      (stored_memory (record (memory w) { log = new.log }) new a (ready c p) p (present_lsn c p) forced refl
       (record { words = work.words; lsns = work.lsns; table = work.table; locks = work.locks; spaces = work.spaces; collection = work.collection; sealed = work.sealed })
-      plan unfailed clean (λ q apart. ap (λ (x : Stored). x.lsn) (others q apart)) there)
+      plan unfailed (sym (present_forced c (ready c p) p same)) (clean ∙ lsn) (λ q apart. ap (λ (x : Stored). x.lsn) (others q apart)))
 
   -- What is known of the frames.
   module _ (old mid image : List ℕ) (pages : KnowsPages c (memory w) old) (outside : SameOutside (log_place w.log) (log_place w.log + log_room w.log) old mid) where
@@ -163,7 +170,7 @@ module _ (c : Core) (w : Engine) (p : ℕ) (works : IsMemory (memory w) (account
 
     pub flushed_knows : (n : Memory) → IsTrue (cache.is_dirty w.cache p) → Knows n.store image
         → open_gates (cache_log w.cache) image p ≡ min 2 (open_gates (cache_log w.cache) mid p + 1) → ((q : ℕ) → q ≢ p → open_gates (cache_log w.cache) image q ≡ open_gates (cache_log w.cache) mid q)
-        → KnowsPages (flushed c p) n image
+        → KnowsPages (done c (Flush p)) n image
     flushed_knows n dirty frames one others =
         let P : Core → Type 0 = λ d. KnowsPages d n image in
         let one' = subst (λ (k : ℕ). open_gates k image p ≡ min 2 (open_gates k mid p + 1)) bytes one in
@@ -215,7 +222,7 @@ module _ (c : Core) (w : Engine) (p : ℕ) (works : IsMemory (memory w) (account
 
     -- after it the disk holds the core with that page stored
     pub flushed_on : (image : List ℕ) (leaves : List ℕ → Type 0) → IsTrue (cache.is_dirty w.cache p) → HasPage (cache_log w.cache) p (cached_lsn w.cache p) (cached_page w.cache p) image
-        → ((q : ℕ) → q ≢ p → SamePage (cache_log w.cache) q mid image) → SameButPage (cache_log w.cache) p mid image → Only image leaves → OnDisk s (flushed c p) image leaves
+        → ((q : ℕ) → q ≢ p → SamePage (cache_log w.cache) q mid image) → SameButPage (cache_log w.cache) p mid image → Only image leaves → OnDisk s (done c (Flush p)) image leaves
     flushed_on image leaves dirty has others but only =
         let has' = as_core (λ n k ws. HasPage n p k ws image) has in
         let others' = as_core (λ n k ws. (q : ℕ) → q ≢ p → SamePage n q mid image) others in
@@ -225,7 +232,7 @@ module _ (c : Core) (w : Engine) (p : ℕ) (works : IsMemory (memory w) (account
           of = record { limits = super_is.limits; pages = super_is.pages; room = super_is.room; first = super_is.first };
           born = same.born ∙ disk.born;
           stored = stored_pages s.pages s.log_bytes image;
-          logged = stored_logged s (ready c p) p super_is there behind disk.stored logged mid image held has' others' but';
+          logged = stored_logged s (ready c p) p super_is there behind disk.stored logged mid image held (present_lsn c p) (sym (present_forced c (ready c p) p same)) has' others' but';
           held = storing_held s (ready c p) p super_is there behind disk.stored logged mid image held but';
           only = only;
         })
@@ -234,9 +241,11 @@ module _ (c : Core) (w : Engine) (p : ℕ) (works : IsMemory (memory w) (account
   first_calls : ℕ
   first_calls = if is_ahead c p then force_calls c.pending else 0
 
-  calls_are : IsTrue (cache.is_dirty w.cache p) → flush_calls c p ≡ first_calls + store_calls (c.gates p)
+  calls_are : IsTrue (cache.is_dirty w.cache p) → calls_of c (transfers c (Flush p)) ≡ first_calls + store_calls (c.gates p)
   unfolding first_calls
-  calls_are dirty = ap (λ (b : Bool). cond b ((if is_ahead c p then force_calls c.pending else 0) + store_calls (c.gates p)) 0) (sym dirty_is ∙ dirty)
+  calls_are dirty =
+      calls_storing c (is_dirty c p) (is_ahead c p) p (present_lsn c p)
+      ∙ ap (λ (b : Bool). cond b ((if is_ahead c p then force_calls c.pending else 0) + store_calls (c.gates p)) 0) (sym dirty_is ∙ dirty)
 
   force_part : (n : ℕ) → n ≡ cached_lsn w.cache p → (if nat_lt (log_forced w.log) n then (if is_waiting w.log then 4 else 0) else 0) ≡ first_calls
   unfolding first_calls
@@ -246,7 +255,7 @@ module _ (c : Core) (w : Engine) (p : ℕ) (works : IsMemory (memory w) (account
 
   -- where it fails the page is not stored
   pub cut_passes : (n before now : ℕ) (e : DiskError) → n ≡ cached_lsn w.cache p → IsTrue (cache.is_dirty w.cache p)
-      → Passes (if nat_lt (log_forced w.log) n then (if is_waiting w.log then 4 else 0) else 0) before now (Err e) → Passes (flush_calls c p) before now (Err e)
+      → Passes (if nat_lt (log_forced w.log) n then (if is_waiting w.log then 4 else 0) else 0) before now (Err e) → Passes (calls_of c (transfers c (Flush p))) before now (Err e)
   cut_passes n before now e is dirty first =
       let made : Passes first_calls before now (Err e) = subst (λ (k : ℕ). Passes k before now (Err e)) (force_part n is) first in
       let some = some_store (c.gates p) in
@@ -260,7 +269,7 @@ module _ (c : Core) (w : Engine) (p : ℕ) (works : IsMemory (memory w) (account
   pub flush_passes : (n before mid now : ℕ) (old image : List ℕ) (result : Result (Unit {0}) DiskError) → n ≡ cached_lsn w.cache p → IsTrue (cache.is_dirty w.cache p) → KnowsPages c (memory w) old
       → SameOutside (log_place w.log) (log_place w.log + log_room w.log) old image
       → Passes (if nat_lt (log_forced w.log) n then (if is_waiting w.log then 4 else 0) else 0) before mid (Ok tt)
-      → Passes (if nat_lt (open_gates (cache_log w.cache) image p) 2 then 4 else 6) mid now result → Passes (flush_calls c p) before now result
+      → Passes (if nat_lt (open_gates (cache_log w.cache) image p) 2 then 4 else 6) mid now result → Passes (calls_of c (transfers c (Flush p))) before now result
   flush_passes n before mid now old image result is dirty pages outside first second =
       let gates : open_gates (cache_log w.cache) image p ≡ c.gates p = ap (λ (k : ℕ). open_gates k image p) bytes ∙ gates_still c w w.log works (same_log w.log) old image outside p ∙ pages.gates p in
       let stored = subst (λ (k : ℕ). Passes k mid now result) (ap store_calls gates) second in

@@ -10,7 +10,7 @@ use Rattle.image_plan.specs.declared.superblock.Super.{Super}
 use Rattle.image_plan.specs.Plan.{image_size}
 use Rattle.core_laws.specs.Valid.{IsReached}
 use Rattle.heap_memory.specs.Memory.{Memory, own}
-use Rattle.heap_model.specs.Core.{Core, answer, after, calls}
+use Rattle.heap_model.specs.Core.{Core, answer, after, calls, cut}
 use Rattle.heap_model.specs.CoreCrash.{held_of, IsLogged, IsSuperOf, IsCommitPrefix}
 use Rattle.heap_model.specs.Image.{Holds}
 use Rattle.memory_laws.specs.CoreMemory.{IsMemory}
@@ -80,6 +80,6 @@ module _ {D : Type 0} (g : Ghosts D) where
   -- So is what a modelled disk holds.
   pub record StepsOn (event : Event) (old : Engine) (before : D) (new : Engine) (now : D) (result : Result Reply StepError) : Type 0 where
     pub holds : (s : Super) (c : Core) → IsEngine c old before → IsReached c → OnDisk s c (g.bytes before) (g.may_leave before) → OnOk result (OnDisk s (after c event) (g.bytes now) (g.may_leave now))
-    -- at each moment of it
-    pub moments : (s : Super) (c : Core) → IsEngine c old before → IsReached c → OnDisk s c (g.bytes before) (g.may_leave before) → LeavesOnly g.moment g.left_since before now (IsLeftByStep c (g.bytes before))
+    -- at each moment of it, also what it leaves if the disk cuts it short
+    pub moments : (s : Super) (c : Core) → IsEngine c old before → IsReached c → OnDisk s c (g.bytes before) (g.may_leave before) → LeavesOnly g.moment g.left_since before now (IsLeftByStep (cut c event) (g.bytes before))
     pub passes : (c : Core) → IsEngine c old before → IsReached c → StepPasses (calls c event) (g.passed before) (g.passed now) result

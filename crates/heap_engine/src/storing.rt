@@ -1,5 +1,5 @@
 //! The events that write the disk: pending records are forced, and a page is stored, never ahead of the log.
-ghost use Rattle.std.specs.Prelude.{◌≡◌, ◌≢◌, ◌⊎◌, ◌+◌, ◌≤◌, ◌<◌, ℕ, nat_lt, Ok, Err, IfOk, IsTrue, OnOk, if◌then◌else◌};
+ghost use Rattle.std.specs.Prelude.{◌≡◌, ◌≢◌, ◌⊎◌, ◌+◌, ◌≤◌, ◌<◌, ℕ, nat_lt, Ok, Err, IfOk, IsTrue, OnOk, fold, if◌then◌else◌};
 ghost use Rattle.disk_model.specs.Disk.{Only, SameOutside, part};
 ghost use Rattle.disk_model.specs.Keeps.{KeepsDisk};
 ghost use Rattle.disk_model.specs.Moments.{LeavesOnly};
@@ -11,7 +11,7 @@ ghost use Rattle.graph_model.specs.History.{account};
 ghost use Rattle.image_plan.specs.declared.superblock.Super.{Super};
 ghost use Rattle.page_cache.specs.CacheState.{cache_store, cache_pages, cache_size, is_dirty};
 ghost use Rattle.page_store.specs.StoreState.{store_plan};
-ghost use Rattle.heap_model.specs.Core.{Core, forced_if, flushed, flush_calls};
+ghost use Rattle.heap_model.specs.Core.{Core, made, landing, transfers, done, calls_of};
 ghost use Rattle.core_laws.specs.Valid.{IsSound};
 ghost use Rattle.memory_laws.specs.CoreMemory.{IsMemory};
 ghost use Rattle.heap_engine.specs.StepResult.{engine_device, reply_device};
@@ -29,7 +29,7 @@ fn force_up_to<D: Disk>(log: &mut Log, disk: &mut D, lsn: u64) -> Result<(), Dis
 
     ensures disk { KeepsDisk D.Disk disk.old disk.new result }
     ensures forced { OnOk result (lsn ≤ log_forced log.new) }
-    ensures kept { (c : Core) → Keeps log.old c.batches c.pending → OnOk result (let d = forced_if (nat_lt (log_forced log.old) lsn) c in Keeps log.new d.batches d.pending) }
+    ensures kept { (c : Core) → Keeps log.old c.batches c.pending → OnOk result (let d = fold made c (landing (nat_lt (log_forced log.old) lsn)) in Keeps log.new d.batches d.pending) }
     ensures at { log_place log.new ≡ log_place log.old }
     ensures same_room { log_room log.new ≡ log_room log.old }
     ensures count { log_count log.new ≡ log_count log.old }
@@ -37,7 +37,7 @@ fn force_up_to<D: Disk>(log: &mut Log, disk: &mut D, lsn: u64) -> Result<(), Dis
     ensures spare { (more : ℕ) → HasSpare log.old more → HasSpare log.new more }
 
     ensures held { IsTrue D.tells → (c : Core) → Keeps log.old c.batches c.pending → HoldsBatches (part (D.bytes disk.old) (log_place log.old) (log_room log.old)) c.batches
-        → OnOk result (HoldsBatches (part (D.bytes disk.new) (log_place log.old) (log_room log.old)) (forced_if (nat_lt (log_forced log.old) lsn) c).batches) }
+        → OnOk result (HoldsBatches (part (D.bytes disk.new) (log_place log.old) (log_room log.old)) (fold made c (landing (nat_lt (log_forced log.old) lsn))).batches) }
     ensures outside { IsTrue D.tells → OnOk result (SameOutside (log_place log.old) (log_place log.old + log_room log.old) (D.bytes disk.old) (D.bytes disk.new)) }
     ensures durable { IsTrue D.tells → Only (D.bytes disk.old) (D.may_leave disk.old) → OnOk result (Only (D.bytes disk.new) (D.may_leave disk.new)) }
     // A crash at any moment leaves the batches as they were, or with one more, and all that is outside of the log.
@@ -114,14 +114,14 @@ impl Engine {
         ensures sealed { self.new.sealed ≡ self.old.sealed }
 
         // In memory, and on a modelled disk, it is the flush of a core.
-        ensures memory { (c : Core) → IsMemory (memory self.old) (account c.history) c → OnOk result (IsMemory (memory self.new) (account c.history) (flushed c p)) }
-        ensures pages { IsTrue D.tells → (c : Core) → IsMemory (memory self.old) (account c.history) c → KnowsPages c (memory self.old) (D.bytes disk.old) → OnOk result (KnowsPages (flushed c p) (memory self.new) (D.bytes disk.new)) }
+        ensures memory { (c : Core) → IsMemory (memory self.old) (account c.history) c → OnOk result (IsMemory (memory self.new) (account c.history) (done c (Flush p))) }
+        ensures pages { IsTrue D.tells → (c : Core) → IsMemory (memory self.old) (account c.history) c → KnowsPages c (memory self.old) (D.bytes disk.old) → OnOk result (KnowsPages (done c (Flush p)) (memory self.new) (D.bytes disk.new)) }
         ensures holds { IsTrue D.tells → (s : Super) (c : Core) → IsMemory (memory self.old) (account c.history) c → KnowsPages c (memory self.old) (D.bytes disk.old) → OnDisk s c (D.bytes disk.old) (D.may_leave disk.old)
-            → OnOk result (OnDisk s (flushed c p) (D.bytes disk.new) (D.may_leave disk.new)) }
+            → OnOk result (OnDisk s (done c (Flush p)) (D.bytes disk.new) (D.may_leave disk.new)) }
         // At each moment of it a crash leaves a commit prefix, with all commits that were acknowledged or forced before, and each byte past the plan as it was.
         ensures moments { IsTrue D.tells → (s : Super) (c : Core) → IsMemory (memory self.old) (account c.history) c → KnowsPages c (memory self.old) (D.bytes disk.old) → OnDisk s c (D.bytes disk.old) (D.may_leave disk.old) → IsSound c
             → LeavesOnly D.moment D.left_since disk.old disk.new (IsLeftByStep c (D.bytes disk.old)) }
-        ensures passes { IsTrue D.tells → (c : Core) → IsMemory (memory self.old) (account c.history) c → KnowsPages c (memory self.old) (D.bytes disk.old) → Passes (flush_calls c p) (D.passed disk.old) (D.passed disk.new) result }
+        ensures passes { IsTrue D.tells → (c : Core) → IsMemory (memory self.old) (account c.history) c → KnowsPages c (memory self.old) (D.bytes disk.old) → Passes (calls_of c (transfers c (Flush p))) (D.passed disk.old) (D.passed disk.new) result }
     {
         force_up_to(&mut self.log, disk, self.cache.lsn(p))?;
         self.cache.flush(disk, p, self.log.forced())

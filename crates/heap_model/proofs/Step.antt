@@ -10,3 +10,4 @@ pub mod Moved
 pub mod Plain
 pub mod Room
 pub mod Step
+pub mod Transfers

@@ -309,39 +309,75 @@ answer c event = reply_of (core_refusal c event) (granted_by c event)
 abbrev pub with_entry : Core → Event → Reply → Core
 with_entry c event reply = record c { history = c.history ++ record { event = event; reply = reply } ∷ [] }
 
--- all pending records are on the disk, as one batch
-abbrev pub forced : Core → List Record → Core
-forced c [] = c
-forced c (r ∷ rs) = record c { batches = c.batches ++ (r ∷ rs) ∷ []; words = fold put_record c.words (r ∷ rs); pending = [] }
+-- What an event does with the disk, one after the other: the next batch that waits gets there, or a page is stored, with the LSN that it has then.
+pub data Transfer : Type 0 where
+  Lands : Transfer
+  Stores : ℕ → ℕ → Transfer
+
+-- the batches that wait for the disk, oldest first: the pending records are one, if there are any
+abbrev pub batch_of : List Record → List (List Record)
+batch_of [] = []
+batch_of (r ∷ rs) = (r ∷ rs) ∷ []
+
+abbrev pub unforced : Core → List (List Record)
+unforced c = batch_of c.pending
+
+-- What the log on the disk may be, from these batches on: they alone, and with one more for each that waits.
+abbrev pub stages_from : List (List Record) → List (List Record) → List (List (List Record))
+stages_from batches [] = batches ∷ []
+stages_from batches (next ∷ waiting) = batches ∷ stages_from (batches ++ next ∷ []) waiting
+
+abbrev pub stages : Core → List (List (List Record))
+stages c = stages_from c.batches (unforced c)
+
+-- the oldest batch of those that wait is on the disk
+abbrev pub landed : Core → List (List Record) → Core
+landed c [] = c
+landed c (next ∷ waiting) = record c { batches = c.batches ++ next ∷ []; words = fold put_record c.words next; pending = records_of waiting }
+
+-- a page is stored with an LSN, in the frame that does not count
+abbrev pub page_stored : Core → ℕ → ℕ → Core
+page_stored c p lsn = record c {
+  stored_lsns = λ q. if q == p then lsn else c.stored_lsns q;
+  gates = λ q. if q == p then min 2 (c.gates q + 1) else c.gates q;
+}
+
+-- the core after a transfer
+abbrev pub made : Core → Transfer → Core
+made c Lands = landed c (unforced c)
+made c (Stores p lsn) = page_stored c p lsn
 
 -- whether a page is ahead of the log on the disk: it has a pending record
 abbrev pub is_ahead : Core → ℕ → Bool
 is_ahead c p = not (nat_lt (present_lsn c p) (next_lsn (log_origin c) (records_of c.batches)))
 
--- pending records are forced first if a page that is to be stored is ahead
-abbrev pub forced_if : Bool → Core → Core
-forced_if ahead c = if ahead then forced c c.pending else c
-
--- a page is stored as it is now, in the frame that does not count
-abbrev pub page_stored : Core → ℕ → Core
-page_stored c p = record c {
-  stored_lsns = λ q. if q == p then present_lsn c q else c.stored_lsns q;
-  gates = λ q. if q == p then min 2 (c.gates q + 1) else c.gates q;
-}
+-- what waits gets to the disk before a page that is ahead of the log there
+abbrev pub landing : Bool → List Transfer
+landing ahead = if ahead then Lands ∷ [] else []
 
 -- a page that has changed is stored, and no page gets ahead of the log
-abbrev pub flushed : Core → ℕ → Core
-flushed c p = if is_dirty c p then page_stored (forced_if (is_ahead c p) c) p else c
+abbrev pub storing : Bool → Bool → ℕ → ℕ → List Transfer
+storing dirty ahead p lsn = if dirty then landing ahead ++ Stores p lsn ∷ [] else []
 
--- what an event that is granted does
-abbrev pub done : Core → Event → Core
-done c Force = forced c c.pending
-done c Flip = moved c (own_records c Flip)
-done c Scan = moved c (own_records c Scan)
-done c (Flush p) = flushed c p
-done c event =
+-- the transfers of an event that is granted
+abbrev pub transfers : Core → Event → List Transfer
+transfers c Force = Lands ∷ []
+transfers c (Flush p) = storing (is_dirty c p) (is_ahead c p) p (present_lsn c p)
+transfers c event = []
+
+-- what an event that is granted does apart from the disk: its records are pending, and objects are where it places them
+abbrev pub noted : Core → Event → Core
+noted c Force = c
+noted c (Flush p) = c
+noted c Flip = moved c (own_records c Flip)
+noted c Scan = moved c (own_records c Scan)
+noted c event =
     let b = behind_barrier c event in
     record b { pending = b.pending ++ own_records c event; places = b.places ++ event_places b event }
+
+-- what an event that is granted does, with its transfers
+abbrev pub done : Core → Event → Core
+done c event = fold made (noted c event) (transfers c event)
 
 -- what an event that may be refused does
 abbrev pub after_refusal : Option Refusal → Core → Event → Core
@@ -361,21 +397,20 @@ force_calls (r ∷ rs) = 4
 abbrev pub store_calls : ℕ → ℕ
 store_calls gates = if nat_lt gates 2 then 4 else 6
 
--- those of a flush
-abbrev pub flush_calls : Core → ℕ → ℕ
-flush_calls c p = if is_dirty c p then (if is_ahead c p then force_calls c.pending else 0) + store_calls (c.gates p) else 0
+-- those of a transfer
+abbrev pub transfer_calls : Core → Transfer → ℕ
+transfer_calls c Lands = force_calls c.pending
+transfer_calls c (Stores p lsn) = store_calls (c.gates p)
 
--- the events that write or sync, if something is to be written
-abbrev pub AsksDisk : Event → Type 0
-AsksDisk Force = Unit {0}
-AsksDisk (Flush p) = Unit {0}
-AsksDisk event = ⊥
+-- those of transfers, one after the other
+abbrev pub calls_of : Core → List Transfer → ℕ
+calls_of c [] = 0
+calls_of c (t ∷ ts) = transfer_calls c t + calls_of (made c t) ts
 
 -- those of an event that may be refused
 abbrev pub calls_if : Option Refusal → Core → Event → ℕ
-calls_if None c Force = force_calls c.pending
-calls_if None c (Flush p) = flush_calls c p
-calls_if why c event = 0
+calls_if None c event = calls_of (noted c event) (transfers c event)
+calls_if (Some why) c event = 0
 
 -- the writes and syncs of an event where the disk does not fail
 abbrev pub calls : Core → Event → ℕ
@@ -385,6 +420,11 @@ calls c event = calls_if (core_refusal c event) c event
 pub record IsCutShort (c : Core) (event : Event) (reply : Reply) : Type 0 where
   pub some : 0 < calls c event
   pub told : (reply ≡ Refused DiskFault) ⊎ (reply ≡ Refused Stopped)
+
+-- What the disk leaves of a core if it cuts an event short: nothing but the entry, and a seal is in doubt then. An event that makes no call is not
+-- cut short.
+abbrev pub cut : Core → Event → Core
+cut c event = if nat_lt 0 (calls c event) then with_entry c event (Refused Stopped) else c
 
 -- From c an event may be answered so, and leave d.
 abbrev pub IsStep : Core → Event → Reply → Core → Type 0

@@ -1,15 +1,15 @@
 -- What a crash leaves of a core.
-use Rattle.std.specs.Prelude.{◌≡◌, ◌⊎◌, ℕ, ◌+◌, ◌<◌, ◌≤◌, List, length, take}
+use Rattle.std.specs.Prelude.{◌≡◌, ℕ, ◌+◌, ◌<◌, ◌≤◌, List, length, take, Contains}
 use Rattle.graph_model.specs.Transaction.{serial}
 use Rattle.graph_model.specs.History.{commits, acknowledged}
 use Rattle.image_plan.specs.declared.superblock.Super.{Super}
 use Rattle.image_plan.specs.Super.{IsSuper}
 use Rattle.log_records.specs.declared.Record.{Record}
-use Rattle.gated_log.specs.Log.{with_batch, records_of}
+use Rattle.gated_log.specs.Log.{records_of}
 use Rattle.log_machine.specs.Origin.{words_from}
 use Rattle.page_redo.specs.Pages.{Pages, pages_in, lsn_of}
 use Rattle.page_redo.specs.Prefix.{EachHoldsPrefix}
-use Rattle.heap_model.specs.Core.{Core, log_origin, commits_on_disk}
+use Rattle.heap_model.specs.Core.{Core, log_origin, commits_on_disk, stages}
 use Rattle.heap_model.specs.Image.{StoredHeap, StandsFor}
 use Rattle.heap_model.specs.Opening.{next_of}
 
@@ -27,9 +27,9 @@ pub record IsLogged (c : Core) (stored : Pages) : Type 0 where
 abbrev pub held_of : Super → Core → Pages → StoredHeap
 held_of s c pages = record { super = s; batches = c.batches; pages = pages }
 
--- The disk holds the batches that were forced, or the pending ones as one more.
+-- The disk holds the batches that were forced, or those that wait as well, each after those before it.
 abbrev pub IsOnDisk : Core → List (List Record) → Type 0
-IsOnDisk c batches = (batches ≡ c.batches) ⊎ (batches ≡ with_batch c.batches c.pending)
+IsOnDisk c batches = Contains (stages c) batches
 
 -- the superblock is that of a core's heap
 pub record IsSuperOf (s : Super) (c : Core) : Type 0 where

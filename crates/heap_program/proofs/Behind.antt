@@ -6,7 +6,8 @@ use Rattle.disk_model.proofs.MomentLaws.{begins, weaker}
 use Rattle.graph_model.specs.declared.event.Event.{Event}
 use Rattle.image_plan.specs.Plan.{image_size, log_offset}
 use Rattle.heap_core.specs.Refinement.{SameBehind, IsLeftByStep}
-use Rattle.heap_model.specs.Core.{Core}
+use Rattle.heap_core.proofs.StepsLaws.{cut_behind}
+use Rattle.heap_model.specs.Core.{Core, cut}
 use Rattle.heap_model.specs.CoreCrash.{StandsForFirst, IsCommitPrefix, IsSuperOf}
 use Rattle.heap_model.proofs.Outside.{outside_within, outside_then}
 use Rattle.heap_model.proofs.Run.Calls.{same_step}
@@ -68,8 +69,8 @@ module _ {D : Type 0} (g : Ghosts D) where
         let between = steps.1 in
         let step = steps.2 in
         let same = same_step c mid event step.reply step.step in
-        let first = weaker g.moment g.left_since old between (IsLeftByStep c (g.bytes old)) (SameBehind c base) step.moments
-        (λ image left. outside_then 0 (image_size c.pages c.room) base (g.bytes old) image (here (g.bytes old) (has.reads old)) left.outside) in
+        let first = weaker g.moment g.left_since old between (IsLeftByStep (cut c event) (g.bytes old)) (SameBehind c base) step.moments
+        (λ image left. outside_then 0 (image_size c.pages c.room) base (g.bytes old) image (here (g.bytes old) (has.reads old)) (cut_behind c event (g.bytes old) image left.outside)) in
         let rest = steps_behind stop start mid d between new events (λ image may. behind_on c mid base image same (leaves_now old between (SameBehind c base) first image may)) steps.3 in
         opening_then g.moment g.left_since old between new (SameBehind c base) (SameBehind c base) first
         (weaker g.moment g.left_since between new (SameBehind mid base) (SameBehind c base) rest (λ image. behind_back c mid base image same)) (λ image behind. behind)

@@ -27,7 +27,7 @@ use Rattle.heap_core.specs.Refinement.{SameBehind}
 use Rattle.heap_model.specs.Core.{Core, commits_on_disk, with_entry, IsRun}
 use Rattle.heap_model.specs.CoreCrash.{IsCommitPrefix}
 use Rattle.heap_model.proofs.Step.Calls.{total_calls-append}
-use Rattle.core_laws.proofs.Crash.Image.{commits-sealed}
+use Rattle.core_laws.proofs.Crash.Image.{sealed-few, sealed-first}
 use Rattle.heap_model.proofs.Run.Ending.{total_few}
 use Rattle.heap_program.proofs.CoreSteps.{makes_run, ready_front, running_after}
 use Rattle.core_laws.proofs.Run.Replies.{replies_law}
@@ -110,12 +110,12 @@ module _ {D : Type 0} {g : Ghosts D} (s : Super) (c : Core) (running : IsRunning
       omega (arith, agrees.disk.acknowledged_last, agrees.disk.sealed_first, agrees.disk.told.count, commits)
 
   most : all ≤ length (commits core.history)
-  most = let same : length (commits core.history) ≡ all = ap (λ (ts : List Transaction). length ts) (commits-sealed core run_reached.1.sound) in omega arith
+  most = sealed-few core.history
 
   -- the graph of all commits
   all_graph : graph_text (serial core.g0 (sealed core.history)) ≡ graph_text (serial core.g0 (take all (commits core.history)))
   all_graph =
-      let first : take all (commits core.history) ≡ sealed core.history = ap (take all) (commits-sealed core run_reached.1.sound) ∙ take_all all (sealed core.history) (omega arith) in
+      let first : take all (commits core.history) ≡ sealed core.history = sealed-first all core.history (omega arith) ∙ take_all all (sealed core.history) (omega arith) in
       ap (λ (ts : List Transaction). graph_text (serial core.g0 ts)) (sym first)
 
   -- what was written of the lines, by how the play ended

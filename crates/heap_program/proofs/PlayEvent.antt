@@ -23,7 +23,7 @@ use Rattle.log_machine.specs.Machine.{State}
 use Rattle.log_records.specs.declared.Record.{Record}
 use Rattle.heap_spaces.specs.Collection.{Collection}
 use Rattle.heap_model.specs.Collecting.{flip_reply, next_page, scan_reply, scan_reply_in}
-use Rattle.heap_model.specs.Core.{Core, ground, own_records, next_number, is_dirty, granted_by, answer, with_entry, after, IsCutShort, IsStep, calls}
+use Rattle.heap_model.specs.Core.{Core, ground, own_records, next_number, is_dirty, granted_by, answer, with_entry, after, IsCutShort, IsStep, calls, cut}
 use Rattle.heap_model.proofs.Run.Calls.{step_history}
 use Rattle.heap_model.proofs.Step.Step.{core_refusal-HasNoFault}
 use Rattle.heap_core.specs.Refinement.{IsLeftByStep, DiskHolds, IsCore, IsHeap}
@@ -78,7 +78,7 @@ one_call n m k e = let same : m ≡ m + 0 = omega arith in e ∙ ap (λ (i : ℕ
 
 module _ {D : Type 0} {g : Ghosts D} (s : Super) (c d : Core) (event : Event) (reply : Reply) (old new : Heap D g) (ready : AreReady c (event ∷ [])) (step : IsStep c event reply d)
     (keeps : KeepsDisk g old.disk new.disk (reply_device reply)) (passes : Passes (calls c event) (g.passed old.disk) (g.passed new.disk) (reply_device reply))
-    (moments : LeavesOnly g.moment g.left_since old.disk new.disk (IsLeftByStep c (g.bytes old.disk))) (heap : IsHeap s d new) where
+    (moments : LeavesOnly g.moment g.left_since old.disk new.disk (IsLeftByStep (cut c event) (g.bytes old.disk))) (heap : IsHeap s d new) where
   abbrev one : List Event
   one = event ∷ []
 

@@ -17,7 +17,7 @@ use Rattle.graph_model.specs.declared.reply.Reply.{Reply}
 use Rattle.graph_model.specs.declared.reply.Reply.TheVariants.{Refused}
 use Rattle.heap_core.specs.Causes.{reply_device}
 use Rattle.heap_core.specs.Refinement.{IsLeftByStep}
-use Rattle.heap_model.specs.Core.{Core, calls}
+use Rattle.heap_model.specs.Core.{Core, calls, cut}
 use Rattle.heap_program.specs.Causes.{DiskRose, PlaysDisk}
 use Rattle.heap_core.specs.Steps.{HeapStep, AreSteps}
 use Rattle.heap_program.specs.Steps.{StopCause, Step}
@@ -147,7 +147,7 @@ module _ {D : Type 0} {g : Ghosts D} where
             reply = made.reply;
             step = made.step;
             cause = cause_inside old mid made.reply same_mid limit_mid made.disk.cause;
-            moments = subst (λ (bytes : List ℕ). LeavesOnly g.moment g.left_since (fuse_inner old) (fuse_inner mid) (IsLeftByStep c bytes)) (is.bytes old) (is.moments c (h.bytes old) old mid made.moments);
+            moments = subst (λ (bytes : List ℕ). LeavesOnly g.moment g.left_since (fuse_inner old) (fuse_inner mid) (IsLeftByStep (cut c event) bytes)) (is.bytes old) (is.moments (cut c event) (h.bytes old) old mid made.moments);
             kept = λ image left. made.kept image (is.images mid image left);
             passes = λ u. passes_inside (calls c event) old mid (reply_device made.reply)
                 (fuse_passes old began (fuse_passed old) tells same (λ rose. u (rose_until _ _ _ low rose)) refl)

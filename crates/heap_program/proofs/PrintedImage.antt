@@ -17,8 +17,8 @@ use Rattle.heap_model.specs.Image.{StandsFor}
 use Rattle.heap_model.proofs.Step.Calls.{after_events-append}
 use Rattle.core_laws.proofs.Crash.Image.{commits-sealed}
 use Rattle.core_laws.proofs.Run.Calls.{reached_events, unfailed_events}
-use Rattle.core_laws.proofs.Run.Ending.{ending_ends}
-use Rattle.core_laws.proofs.Step.Sound.{reached_agrees}
+use Rattle.core_laws.proofs.Run.Ending.{ending_ends, ending_of_session}
+use Rattle.core_laws.proofs.Step.Sound.{reached_agrees, sound_valid}
 use Rattle.core_laws.specs.Ended.{IsUnfailed}
 use Rattle.core_laws.specs.Valid.{IsReached}
 use Rattle.command_words.specs.declared.commands.Stop.{Stop}
@@ -34,26 +34,28 @@ all_on_disk c reached none =
     ap (λ (rs : List Record). commits_in (state_behind c rs)) same ∙ ap commits_in b.told.reached ∙ b.told.count
 
 -- a commit prefix of such a core has all that is sealed
-pub whole_count : (c : Core) (image : List ℕ) → IsReached c → c.pending ≡ [] → (prefix : IsCommitPrefix c image) → prefix.0 ≡ length (sealed c.history)
-whole_count c image reached none prefix =
+pub whole_count : (c : Core) (image : List ℕ) → IsReached c → IsUnfailed c → c.pending ≡ [] → (prefix : IsCommitPrefix c image) → prefix.0 ≡ length (sealed c.history)
+whole_count c image reached unfailed none prefix =
     let forced = prefix.1.forced in
     let some = prefix.1.some in
     let held = all_on_disk c reached none in
-    let same : length (commits c.history) ≡ length (sealed c.history) = ap (λ (ts : List Transaction). length ts) (commits-sealed c reached.sound) in
+    let same : length (commits c.history) ≡ length (sealed c.history) = ap (λ (ts : List Transaction). length ts) (commits-sealed c (sound_valid c reached.sound unfailed)) in
     omega (arith, forced, some, held, same)
 
 -- its image stands for just that
-pub whole_prefix : (c : Core) (image : List ℕ) → IsReached c → c.pending ≡ [] → IsCommitPrefix c image → StandsFor (serial c.g0 (take (length (sealed c.history)) (commits c.history))) (c.before + length (sealed c.history)) image
-whole_prefix c image reached none prefix =
-    subst (λ (k : ℕ). StandsFor (serial c.g0 (take k (commits c.history))) (c.before + k) image) (whole_count c image reached none prefix) prefix.1.stands
+pub whole_prefix : (c : Core) (image : List ℕ) → IsReached c → IsUnfailed c → c.pending ≡ [] → IsCommitPrefix c image → StandsFor (serial c.g0 (take (length (sealed c.history)) (commits c.history))) (c.before + length (sealed c.history)) image
+whole_prefix c image reached unfailed none prefix =
+    subst (λ (k : ℕ). StandsFor (serial c.g0 (take k (commits c.history))) (c.before + k) image) (whole_count c image reached unfailed none prefix) prefix.1.stands
 
--- all events of a play without a stop leave nothing pending
-pub ended_core : (c d : Core) (made behind asked : List Event) → IsReached c → IsUnfailed c → AllByRecursion IsOfSession asked → all_events None c asked ≡ made ++ behind → behind ≡ [] → d ≡ after_events c made → d.pending ≡ []
+-- all events of a play without a stop leave nothing pending, if the disk does not fail
+pub ended_core : (c d : Core) (made behind asked : List Event) → IsReached c → IsUnfailed c → AllByRecursion IsOfSession asked → all_events None c asked ≡ made ++ behind → behind ≡ [] → d ≡ after_events c made → (d.pending ≡ []) × IsUnfailed d
 ended_core c d made behind asked reached unfailed sessions parts none all =
     let mid = after_events c asked in
     let whole : all_events None c asked ≡ made = parts ∙ ap (λ (l : List Event). made ++ l) none ∙ append-nil made in
     let is : d ≡ after_events mid (ending mid) = all ∙ ap (after_events c) (sym whole) ∙ after_events-append c asked (ending mid) in
-    ap (λ (x : Core). x.pending) is ∙ (ending_ends mid (reached_events c asked reached sessions) (unfailed_events c asked reached unfailed sessions)).settled
+    let at_mid = reached_events c asked reached sessions in
+    let still = unfailed_events c asked reached unfailed sessions in
+    (ap (λ (x : Core). x.pending) is ∙ (ending_ends mid at_mid still).settled, subst IsUnfailed (sym is) (unfailed_events mid (ending mid) at_mid still (ending_of_session mid)))
 
 module _ {D : Type 0} (g : Ghosts D) (at_opening : ℕ) (c : Core) (asked : List Event) (start final : D) (result : Status) (told : Bool) (before after : List ℕ) (reached : IsReached c) (unfailed : IsUnfailed c) (sessions : AllByRecursion IsOfSession asked) where
   -- so does each image after a restart, if the heap was opened again
@@ -68,9 +70,9 @@ module _ {D : Type 0} (g : Ghosts D) (at_opening : ℕ) (c : Core) (asked : List
   printed_image None played at_end done image leaves =
       let d = played.run.core in
       let all = played.prints.all refl in
-      let settled : d.pending ≡ [] = ⊎_elim
+      let settled : (d.pending ≡ []) × IsUnfailed d = ⊎_elim
       (λ (made : HasMade None c played.run.made played.run.behind d). ended_core c d played.run.made played.run.behind asked reached unfailed sessions played.run.parts made.0 made.1)
       (λ (stopped : StopsOpening None at_opening played.run.made). absurd stopped)
       (played.run.done done) in
-      subst (λ (k : ℕ). StandsFor (serial d.g0 (take k (commits d.history))) (d.before + k) image) (sym all) (whole_prefix d image at_end settled (played.disk.kept image leaves))
+      subst (λ (k : ℕ). StandsFor (serial d.g0 (take k (commits d.history))) (d.before + k) image) (sym all) (whole_prefix d image at_end settled.1 settled.0 (played.disk.kept image leaves))
   printed_image (Some stop) played at_end done image leaves = followed_image stop played.run.core played.prints.count played.disk.stopped _ played.prints.behind done image leaves

@@ -137,7 +137,7 @@ module _ {D : Type 0} (g : Ghosts D) (now : (disk : D) (image : List ℕ) → g.
         each = weaker g.moment g.left_since start final _ (HasAtLeast core least)
             (joined g.moment g.left_since start disk.opened final (IsCommitPrefix c) (HasAtLeast core (lasting c)) disk.opening since)
             (λ image either. ⊎_elim
-            (λ (kept : IsCommitPrefix c image). has_at_least_on c core made least image reached.sound at_end.sound run (keeps_at_least c image kept))
+            (λ (kept : IsCommitPrefix c image). has_at_least_on c core made least image reached.sound run (keeps_at_least c image kept))
             (λ (has : HasAtLeast core (lasting c) image). has_fewer core (lasting c) least image (omega arith) has)
             either);
         opened = disk.opened;

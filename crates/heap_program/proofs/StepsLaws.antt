@@ -1,5 +1,5 @@
 -- Laws of steps on a disk: they are a run of the core, and no moment of them loses what had been acknowledged or forced.
-use Rattle.std.specs.Prelude.{if◌then◌else◌}
+use Rattle.std.specs.Prelude.{nat_lt, if◌then◌else◌}
 use Rattle.std.proofs.Common.{◌≡◌, inl, inr, ℕ, ◌+◌, ◌≤◌, ⊎_elim, Bool, true, false, List, [], ◌∷◌, Option, Some, None, refl, sym, ap, ◌∙◌, subst, arith}
 use Rattle.std.specs.List.{AllByRecursion}
 use Rattle.disk_model.specs.declared.disk.Disk.{Ghosts}
@@ -19,11 +19,13 @@ use Rattle.log_machine.specs.Machine as machine
 use Rattle.log_machine.specs.Origin.{commits_in}
 use Rattle.log_machine.proofs.MachineLaws.{commits-append}
 use Rattle.log_machine.proofs.StateLaws.{commits-start}
-use Rattle.heap_model.specs.Core.{Core, barrier_records, moved, own_records, commits_on_disk, core_refusal, is_dirty, is_ahead, forced, forced_if, page_stored, after_refusal, IsStep, IsRun}
+use Rattle.heap_model.specs.Core.{Core, barrier_records, moved, own_records, commits_on_disk, core_refusal, Transfer, Lands, Stores, made, noted, transfers, after_refusal, with_entry, cut, IsStep, IsRun}
 use Rattle.heap_model.specs.Core as model
 use Rattle.log_records.specs.declared.Record.{Record}
 use Rattle.heap_model.proofs.Step.Room.{forced-with_batch, records_of-with_batch}
+use Rattle.heap_model.proofs.Step.Transfers.{all_made}
 use Rattle.heap_model.specs.CoreCrash.{IsCommitPrefix, HasAtLeast}
+use Rattle.core_laws.proofs.Crash.Cut.{acknowledged_cut, has_cut}
 use Rattle.core_laws.proofs.Crash.Grow.{has_at_least_on}
 use Rattle.heap_model.proofs.Step.Grow.{has_fewer}
 use Rattle.heap_model.proofs.Run.Calls.{step_history, same_run}
@@ -79,27 +81,30 @@ disk_commits c h =
     let b = sound_agrees c h in
     ap commits_in b.disk.told.reached ∙ commits-start c.pages c.first_number b.disk.state (records_of c.batches) b.disk.told.reached
 
-forced_commits : (c : Core) → on_disk c ≤ on_disk (forced c c.pending)
-forced_commits c =
-    let all : on_disk (forced c c.pending) ≡ on_disk c + machine.commits c.pending =
+landed_commits : (c : Core) → on_disk c ≤ on_disk (made c Lands)
+landed_commits c =
+    let all : on_disk (made c Lands) ≡ on_disk c + machine.commits c.pending =
     ap on_disk (forced-with_batch c) ∙ ap machine.commits (records_of-with_batch c.batches c.pending) ∙ commits-append (records_of c.batches) c.pending in
     omega (arith, all)
+
+made_commits : (c : Core) (t : Transfer) → on_disk c ≤ on_disk (made c t)
+made_commits c Lands = landed_commits c
+made_commits c (Stores p lsn) = omega arith
 
 moved_commits : (c : Core) (records : List Record) → on_disk c ≤ on_disk (moved c records)
 moved_commits c [] = omega arith
 moved_commits c (rec ∷ more) = omega arith
 
+noted_commits : (c : Core) (event : Event) → on_disk c ≤ on_disk (noted c event)
+noted_commits c Force = omega arith
+noted_commits c (Flush p) = omega arith
+noted_commits c Flip = moved_commits c (own_records c Flip)
+noted_commits c Scan = moved_commits c (own_records c Scan)
+noted_commits c event = moved_commits c (barrier_records c event)
+
 done_commits : (c : Core) (event : Event) → on_disk c ≤ on_disk (model.done c event)
-done_commits c Force = forced_commits c
-done_commits c Flip = moved_commits c (own_records c Flip)
-done_commits c Scan = moved_commits c (own_records c Scan)
-done_commits c (Flush p) = flushed_commits (is_dirty c p) (is_ahead c p)
-  where
-    flushed_commits : (dirty ahead : Bool) → on_disk c ≤ on_disk (if dirty then page_stored (forced_if ahead c) p else c)
-    flushed_commits true true = forced_commits c
-    flushed_commits true false = omega arith
-    flushed_commits false ahead = omega arith
-done_commits c event = moved_commits c (barrier_records c event)
+done_commits c event =
+    all_made (λ d. on_disk c ≤ on_disk d) (λ d t few. omega (arith, few, made_commits d t)) (noted c event) (transfers c event) (noted_commits c event)
 
 refusal_commits : (o : Option Refusal) (c : Core) (event : Event) → on_disk c ≤ on_disk (after_refusal o c event)
 refusal_commits None c event = done_commits c event
@@ -129,6 +134,18 @@ run_lasting c d events from to run =
 keeps_lasting : (c : Core) (image : List ℕ) → IsCommitPrefix c image → HasAtLeast c (lasting c) image
 keeps_lasting c image keeps = record { count = keeps.0; stands = keeps.1.stands; enough = omega (arith, keeps.1.kept, keeps.1.forced); some = keeps.1.some }
 
+-- so it does at a moment of an event that may be cut short
+cut_lasting : (c : Core) (event : Event) (image : List ℕ) → IsCommitPrefix (cut c event) image → HasAtLeast (cut c event) (lasting c) image
+cut_lasting c event image keeps =
+    record { count = keeps.0; stands = keeps.1.stands; enough = omega (arith, acknowledged_cut c event, keeps.1.kept, cut_forced c event keeps.0 keeps.1.forced); some = keeps.1.some }
+  where
+    cut_forced : (c : Core) (event : Event) (k : ℕ) → commits_on_disk (cut c event) ≤ (cut c event).before + k → commits_on_disk c ≤ c.before + k
+    cut_forced c event k = by (nat_lt 0 (model.calls c event))
+      where
+        by : (some : Bool) → commits_on_disk (if some then with_entry c event (Refused Stopped) else c) ≤ (if some then with_entry c event (Refused Stopped) else c).before + k → commits_on_disk c ≤ c.before + k
+        by true forced = forced
+        by false forced = forced
+
 module _ {D : Type 0} (g : Ghosts D) (stop : Option ℕ) (start final : D) where
   -- Steps are a run of the core.
   pub steps_run : (c d : Core) (old new : D) (events : List Event) → AreSteps (Step g stop start) c old events d new → IsRun c events d
@@ -147,17 +164,15 @@ module _ {D : Type 0} (g : Ghosts D) (stop : Option ℕ) (start final : D) where
         let mid = steps.0 in
         let between = steps.1 in
         let step = steps.2 in
-        let run = steps_run c d old new (event ∷ events) steps in
         let one : IsRun c (event ∷ []) mid = (step.reply, mid, step.step, refl) in
         let at_mid = run_reached c mid (event ∷ []) reached (sessions.0, tt) one in
-        let at_end = run_reached c d (event ∷ events) reached sessions run in
         let more = run_lasting c mid (event ∷ []) reached.sound at_mid.sound one in
         let rest = steps_last mid d between new events at_mid sessions.1 step.kept steps.3 in
         let least = lasting c in
         weaker g.moment g.left_since old new _ (HasAtLeast d least)
-        (joined g.moment g.left_since old between new (IsLeftByStep c (g.bytes old)) (HasAtLeast d (lasting mid)) step.moments rest)
+        (joined g.moment g.left_since old between new (IsLeftByStep (cut c event) (g.bytes old)) (HasAtLeast d (lasting mid)) step.moments rest)
         (λ image either. ⊎_elim
-        (λ (left : IsLeftByStep c (g.bytes old) image). has_at_least_on c d (event ∷ events) least image reached.sound at_end.sound run (keeps_lasting c image left.commits))
+        (λ (left : IsLeftByStep (cut c event) (g.bytes old) image). has_at_least_on mid d events least image at_mid.sound (steps_run mid d between new events steps.3) (has_cut c mid event step.reply least image reached.sound step.step (cut_lasting c event image left.commits)))
         (λ (has : HasAtLeast d (lasting mid) image). has_fewer d (lasting mid) least image more has)
         either)
 

@@ -11,7 +11,7 @@ use Rattle.graph_model.specs.declared.reply.Reply.{Reply}
 use Rattle.graph_model.specs.declared.reply.Reply.TheVariants.{Refused}
 use Rattle.heap_core.specs.Causes.{reply_device}
 use Rattle.heap_core.specs.Refinement.{IsLeftByStep}
-use Rattle.heap_model.specs.Core.{Core, IsStep, calls}
+use Rattle.heap_model.specs.Core.{Core, IsStep, calls, cut}
 use Rattle.heap_model.specs.CoreCrash.{IsCommitPrefix}
 use Rattle.heap_program.specs.Causes.{DiskRose, Unharmed}
 
@@ -35,8 +35,9 @@ pub record Step {D : Type 0} (g : Ghosts D) (stop : Option ℕ) (start : D) (c :
   pub reply : Reply
   pub step : IsStep c event reply d
   pub cause : StepCause g stop start before after reply
-  -- at each moment of it a crash left a commit prefix with all that were acknowledged or forced before it, and each byte past the plan as it was
-  pub moments : LeavesOnly g.moment g.left_since before after (IsLeftByStep c (g.bytes before))
+  -- at each moment of it a crash left a commit prefix with all that were acknowledged or forced before it, where a seal that the disk may cut short is in
+  -- doubt, and each byte past the plan as it was
+  pub moments : LeavesOnly g.moment g.left_since before after (IsLeftByStep (cut c event) (g.bytes before))
   -- once it was answered, also those that its answer acknowledged, or that it forced
   pub kept : (image : List ℕ) → g.may_leave after image → IsCommitPrefix d image
   -- without a fault by then it made the writes and syncs of the core's step, or fewer if it was stopped

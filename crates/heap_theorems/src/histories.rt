@@ -1,5 +1,5 @@
 //! Histories of sessions side by side, and the core that their events lead to.
-ghost use Rattle.std.specs.Prelude.{Some, ◌≡◌, None, ℕ, ◌<◌, ◌≤◌, List, length, ◌*◌};
+ghost use Rattle.std.specs.Prelude.{Some, ◌≡◌, None, ℕ, ◌<◌, ◌≤◌, List, length, ◌+◌, ◌*◌, if◌then◌else◌};
 ghost use Rattle.commit_order.specs.SerialOrder.{SerialOrderTheorem, StrictTheorem};
 ghost use Rattle.core_laws.specs.Collects.{ScanTheorem, HoldsTheorem};
 ghost use Rattle.core_laws.specs.Conflicts.{GivesWay, IsHindered};
@@ -10,12 +10,13 @@ ghost use Rattle.core_laws.specs.Unseen.{UnseenTheorem};
 ghost use Rattle.core_laws.specs.Valid.{IsReached, IsValid};
 ghost use Rattle.graph_model.specs.Graph.{Graph};
 ghost use Rattle.graph_model.specs.History.{account, AreInSessions, Account};
+ghost use Rattle.graph_model.specs.Kinds.{Saves, kind_of};
 ghost use Rattle.graph_model.specs.Plain.{plain_reply, refusal, first_of_two, event_refusal};
 ghost use Rattle.graph_model.specs.declared.event.Event.{Event};
 ghost use Rattle.graph_model.specs.declared.event.Event.TheVariants.{Flush};
 ghost use Rattle.graph_model.specs.declared.reply.Refusal.{Refusal};
 ghost use Rattle.graph_model.specs.declared.reply.Refusal.TheVariants.{Busy, NoSuchPage};
-ghost use Rattle.heap_model.specs.Core.{Core, answer, next_number, core_refusal, log_refusal, words_refusal, calls, flush_calls, AsksDisk};
+ghost use Rattle.heap_model.specs.Core.{Core, answer, next_number, core_refusal, log_refusal, words_refusal, is_dirty, is_ahead, force_calls, store_calls, calls};
 ghost use Rattle.heap_model.specs.CoreRuns.{after_events, total_calls};
 ghost use Rattle.heap_model.specs.Ending.{ending};
 ghost use Rattle.page_redo.specs.Pages.{pages_in};
@@ -127,14 +128,14 @@ pub fn flush_is_refused()
     ensures { (c : Core) (p : ℕ) → IsValid c → pages_in c.pages ≤ p → core_refusal c (Flush p) ≡ Some NoSuchPage }
 {}
 
-/// A flush of a page that is there makes just these writes and syncs.
+/// A flush of a page that is there makes just the writes and syncs of a store, after those of a force where the page is ahead of the log on the disk.
 pub fn flush_calls()
-    ensures { (c : Core) (p : ℕ) → IsValid c → p < pages_in c.pages → calls c (Flush p) ≡ flush_calls c p }
+    ensures { (c : Core) (p : ℕ) → IsValid c → p < pages_in c.pages → calls c (Flush p) ≡ (if is_dirty c p then (if is_ahead c p then force_calls c.pending else 0) + store_calls (c.gates p) else 0) }
 {}
 
 /// No event but a force and a flush that are granted makes a write or sync.
 pub fn calls_are_asked_for()
-    ensures { (c : Core) (event : Event) → 0 < calls c event → AsksDisk event × (core_refusal c event ≡ None) }
+    ensures { (c : Core) (event : Event) → 0 < calls c event → (kind_of event ≡ Saves) × (core_refusal c event ≡ None) }
 {}
 
 /// n events make at most 10 * n writes and syncs.

@@ -15,3 +15,5 @@ mod reached_tests;
 mod session_tests;
 #[cfg(test)]
 mod stored_tests;
+#[cfg(test)]
+mod trial_tests;

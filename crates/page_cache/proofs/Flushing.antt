@@ -4,13 +4,13 @@ use Rattle.log_records.specs.declared.Record.{Record}
 use Rattle.disk_model.specs.declared.disk.DiskError.{DiskError}
 use Rattle.log_machine.specs.Origin.{Origin, records_below}
 use Rattle.page_redo.specs.Pages.{Pages, pages_in, page_words, lsn_of}
-use Rattle.page_redo.specs.Prefix.{HoldsPrefix, EachHoldsPrefix, IsPresent}
+use Rattle.page_redo.specs.Prefix.{HoldsPrefix, EachHoldsPrefix}
 use Rattle.page_redo.proofs.PrefixLaws.{HoldsPrefix-take}
 use Rattle.page_store.specs.Page.{HasPage, SamePage, SameButPage, IsStoring}
 use Rattle.page_cache.specs.Stored.{stored_pages}
 use Rattle.page_cache.proofs.StoredLaws.{EachHoldsPrefix-storing}
 
-module _ (o : Origin) (log_bytes forced : ℕ) (all : List Record) (at : Pages) (is : IsPresent o all at) (p : ℕ) (lt : p < pages_in o.state.pages) (logged : lsn_of at p ≤ forced) where
+module _ (o : Origin) (log_bytes forced : ℕ) (all : List Record) (at : Pages) (is : EachHoldsPrefix o all at) (p : ℕ) (lt : p < pages_in o.state.pages) (logged : lsn_of at p ≤ forced) where
   -- the records that are forced
   abbrev front : List Record
   front = records_below o (forced + 1) all
@@ -19,9 +19,9 @@ module _ (o : Origin) (log_bytes forced : ℕ) (all : List Record) (at : Pages) 
   abbrev Legal : List ℕ → Type 0
   Legal image = EachHoldsPrefix o front (stored_pages o.state.pages log_bytes image)
 
-  -- a present page holds as many of them as its LSN says
+  -- the page holds as many of them as its LSN says
   held : HoldsPrefix o front p (lsn_of at p) (page_words at.words p)
-  held = HoldsPrefix-take o all (forced + 1 - o.lsn) p (lsn_of at p) (page_words at.words p) (is.prefixes.each p lt) (omega (arith, logged))
+  held = HoldsPrefix-take o all (forced + 1 - o.lsn) p (lsn_of at p) (page_words at.words p) (is.each p lt) (omega (arith, logged))
 
   -- so a crash while it is stored leaves such pages
   pub still_legal : (lsn : ℕ) (page old new : List ℕ) → lsn ≡ lsn_of at p → page ≡ page_words at.words p → Legal old → IsStoring log_bytes p lsn page old new → Legal new

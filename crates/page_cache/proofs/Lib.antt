@@ -1,3 +1,4 @@
+pub mod ByPageLaws
 pub mod Flushing
 pub mod ImageLaws
 pub mod Opening

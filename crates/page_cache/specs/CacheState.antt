@@ -3,7 +3,7 @@ use Rattle.std.specs.Prelude.{◌≡◌, ℕ, ◌<◌, ◌≤◌, ◌==◌, Bool
 use Rattle.log_records.specs.declared.Record.{Record}
 use Rattle.log_machine.specs.Origin.{Origin}
 use Rattle.page_redo.specs.Pages.{Pages, page_words, lsn_of}
-use Rattle.page_redo.specs.Prefix.{EachHoldsPrefix, IsPresent}
+use Rattle.page_redo.specs.Prefix.{EachHoldsPrefix}
 use Rattle.page_store.specs.declared.store.PageStore.{PageStore}
 use Rattle.page_store.specs.StoreState.{store_log, store_pages, store_size, stored_lsn, has_failed}
 use Rattle.page_cache.specs.declared.cache.PageCache.{PageCache}
@@ -58,10 +58,6 @@ cache_failed cache = has_failed cache.store
 -- A log with this origin is one of a cache's heap: it begins with as many pages.
 abbrev pub IsOriginOf : Origin → PageCache → Type 0
 IsOriginOf o cache = o.state.pages ≡ cache.store.plan.pages
-
--- the pages in memory are the present ones of a log's records
-abbrev pub ArePresent : PageCache → Origin → List Record → Type 0
-ArePresent cache o records = IsPresent o records cache.pages
 
 -- the pages that are stored in an image may stand beside a log of these records: none of them is ahead of it
 abbrev pub MayStandBeside : PageCache → Origin → List Record → List ℕ → Type 0

@@ -1,3 +1,4 @@
+pub mod ByPage
 pub mod CacheState
 pub mod Stored
 pub mod Writing

@@ -76,8 +76,8 @@ pub(crate) fn apply_copy(words: &mut [u64], lsns: &mut [u64], lsn: u64, copy: &C
     raise_page(lsns, lsn, from / PAGE_WORDS);
 }
 
-// Puts words from an address on.
-fn put_words(words: &mut [u64], address: usize, new: &[u64])
+/// Puts words from an address on.
+pub(crate) fn put_words(words: &mut [u64], address: usize, new: &[u64])
     requires { AreBelow (length words.old) (enumerate_from address new.now) }
     ensures { words.new ≡ put_all words.old (enumerate_from address new.now) }
 {

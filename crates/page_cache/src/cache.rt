@@ -16,9 +16,12 @@ ghost use Rattle.page_store.specs.Frame.{spare};
 ghost use Rattle.page_store.specs.OpenCause.{open_device_result};
 ghost use Rattle.page_store.specs.Page.{HasPage, SamePage, SameButPage, IsStoring, store_calls};
 ghost use Rattle.page_store.specs.Gates.{open_gates};
+ghost use Rattle.page_redo.specs.Prefix.{EachHoldsPrefix};
+ghost use Rattle.page_cache.specs.ByPage.{put_page};
 ghost use Rattle.page_cache.specs.Stored.{stored_pages};
 
 use crate::cached::CachedPages;
+use crate::effect::Effect;
 use disk_model::{Disk, DiskError};
 use image_plan::Plan;
 use log_records::{CopyRef, Record};
@@ -37,7 +40,7 @@ pub struct PageCache {
 
 impl PageCache {
     ghost use Rattle.page_store.specs.StoreState.{store_plan, stored_frame, Knows};
-    ghost use Rattle.page_cache.specs.CacheState.{cached, cache_store, cache_pages, cache_size, cache_log, cached_page, cached_lsn, flushed_lsn, is_dirty, cache_failed, IsFirstPast, IsOriginOf, ArePresent, MayStandBeside};
+    ghost use Rattle.page_cache.specs.CacheState.{cached, cache_store, cache_pages, cache_size, cache_log, cached_page, cached_lsn, flushed_lsn, is_dirty, cache_failed, IsFirstPast, IsOriginOf, MayStandBeside};
     ghost use Rattle.log_machine.specs.Origin.{Origin, records_below};
 
     /// Reads the pages that are stored after the log of an image.
@@ -152,6 +155,17 @@ impl PageCache {
         self.pages.redo_all(first, records);
     }
 
+    /// Puts what the record of that LSN writes on page `p`, which lacks it and has it from then on. Its other pages stay as they were.
+    pub fn write<E: Effect>(&mut self, lsn: u64, p: u32, effect: &E)
+        requires page { p < cache_pages self.old }
+        requires lacks { cached_lsn self.old p < lsn }
+        requires inside { WritesBelow (length (cached self.old).words) (E.rec effect.now) }
+        ensures put { cached self.new ≡ put_page lsn p (cached self.old) (E.rec effect.now) }
+        ensures store { cache_store self.new ≡ cache_store self.old }
+    {
+        self.pages.write(lsn, p, effect);
+    }
+
     /// Puts a new record, of that LSN, on its pages: no page has it yet.
     pub fn apply(&mut self, lsn: u64, rec: &Record)
         requires new { EachLacks lsn (cached self.old) }
@@ -218,10 +232,10 @@ impl PageCache {
 
         // No page gets ahead of the log: pages that may stand beside the records on the disk do so after the flush, and a crash
         // at any moment of it leaves such pages.
-        ensures legal { IsTrue D.tells → Knows (cache_store self.old) (D.bytes disk.old) → (o : Origin) (all : List Record) → IsOriginOf o self.old → ArePresent self.old o all → MayStandBeside self.old o (records_below o (forced + 1) all) (D.bytes disk.old)
+        ensures legal { IsTrue D.tells → Knows (cache_store self.old) (D.bytes disk.old) → (o : Origin) (all : List Record) → IsOriginOf o self.old → EachHoldsPrefix o all (cached self.old) → MayStandBeside self.old o (records_below o (forced + 1) all) (D.bytes disk.old)
             → OnOk result (MayStandBeside self.old o (records_below o (forced + 1) all) (D.bytes disk.new)) }
         ensures legal_moments { IsTrue D.tells → Knows (cache_store self.old) (D.bytes disk.old) → Only (D.bytes disk.old) (D.may_leave disk.old)
-            → (o : Origin) (all : List Record) → IsOriginOf o self.old → ArePresent self.old o all → MayStandBeside self.old o (records_below o (forced + 1) all) (D.bytes disk.old)
+            → (o : Origin) (all : List Record) → IsOriginOf o self.old → EachHoldsPrefix o all (cached self.old) → MayStandBeside self.old o (records_below o (forced + 1) all) (D.bytes disk.old)
             → LeavesOnly D.moment D.left_since disk.old disk.new (MayStandBeside self.old o (records_below o (forced + 1) all)) }
 
         // A crash at any moment leaves the page as it was, or as it is now, and all else as it was.

@@ -4,8 +4,10 @@ ghost use Rattle.log_records.specs.Record.{copy_record};
 ghost use Rattle.log_machine.specs.Effect.{WritesBelow, EachWritesBelow};
 ghost use Rattle.page_redo.specs.Pages.{page_words, lsn_of};
 ghost use Rattle.page_redo.specs.Redo.{EachLacks, redo_record, redo_all};
+ghost use Rattle.page_cache.specs.ByPage.{put_page};
 
 use crate::applying::{apply_copy, apply_record};
+use crate::effect::Effect;
 use crate::putting::put_record;
 use crate::raising::raise_touched;
 use log_records::{CopyRef, Record};
@@ -109,6 +111,16 @@ impl CachedPages {
         for (i, rec) in records.iter().enumerate() {
             self.redo(first + i as u64, rec);
         }
+    }
+
+    /// Puts what the record of that LSN writes on page `p`, which has the record then.
+    pub fn write<E: Effect>(&mut self, lsn: u64, p: u32, effect: &E)
+        requires page { p < length self.old.lsns }
+        requires inside { WritesBelow (length self.old.words) (E.rec effect.now) }
+        ensures { self.new ≡ put_page lsn p self.old (E.rec effect.now) }
+    {
+        effect.put_on(p, &mut self.words);
+        self.lsns[p as usize] = lsn;
     }
 
     /// Puts a new record, of that LSN, on its pages, which all lack it, and raises the LSN of each page that it touches.

@@ -4,7 +4,9 @@
 mod applying;
 mod cache;
 mod cached;
+mod effect;
 mod putting;
 mod raising;
 
 pub use cache::PageCache;
+pub use effect::Effect;

@@ -22,7 +22,7 @@ use Rattle.heap_core.specs.Refinement.{DiskHolds, IsCore, IsHeap, IsLeftByStep}
 use Rattle.heap_core.specs.Steps.{HeapStep, AreSteps}
 use Rattle.heap_core.proofs.CausesLaws.{caused_once, caused_since, caused_until}
 use Rattle.heap_core.proofs.StepsLaws.{one_steps, steps_append, heap_leaves}
-use Rattle.heap_model.specs.Core.{Core, IsStep, IsRun, calls}
+use Rattle.heap_model.specs.Core.{Core, IsStep, IsRun, calls, cut}
 use Rattle.heap_model.specs.CoreCrash.{IsCommitPrefix}
 use Rattle.heap_model.proofs.Step.Calls.{run_step}
 use Rattle.core_laws.proofs.Run.Events.{run_reached}
@@ -69,7 +69,7 @@ module _ {D : Type 0} {g : Ghosts D} where
       (kept : KeepsDisk g (heap_disk old) (heap_disk new) (reply_device reply))
       (next : (c : Core) → IsCore c old → IsReached c → (d : Core) × IsStep c event reply d × IsCore d new)
       (holds : IsTrue g.tells → (s : Super) (c : Core) → IsHeap s c old → IsReached c → (d : Core) × IsStep c event reply d × IsHeap s d new)
-      (moments : IsTrue g.tells → (s : Super) (c : Core) → IsHeap s c old → IsReached c → LeavesOnly g.moment g.left_since (heap_disk old) (heap_disk new) (IsLeftByStep c (g.bytes (heap_disk old))))
+      (moments : IsTrue g.tells → (s : Super) (c : Core) → IsHeap s c old → IsReached c → LeavesOnly g.moment g.left_since (heap_disk old) (heap_disk new) (IsLeftByStep (cut c event) (g.bytes (heap_disk old))))
       (passes : IsTrue g.tells → (c : Core) → IsCore c old → IsReached c → Passes (calls c event) (g.passed (heap_disk old)) (g.passed (heap_disk new)) (reply_device reply))
       (f : Follows first old) where
     abbrev entry : Entry
@@ -147,7 +147,7 @@ module _ {D : Type 0} {g : Ghosts D} where
       → ((c : Core) → IsCore c old → OnErr result (IsCore c new))
       → OnErr result (heap_disk new ≡ heap_disk old)
       → (IsTrue g.tells → (s : Super) (c : Core) → IsHeap s c old → IsReached c → IfOk result (λ reply. (d : Core) × IsStep c event reply d × IsHeap s d new))
-      → (IsTrue g.tells → (s : Super) (c : Core) → IsHeap s c old → IsReached c → LeavesOnly g.moment g.left_since (heap_disk old) (heap_disk new) (IsLeftByStep c (g.bytes (heap_disk old))))
+      → (IsTrue g.tells → (s : Super) (c : Core) → IsHeap s c old → IsReached c → LeavesOnly g.moment g.left_since (heap_disk old) (heap_disk new) (IsLeftByStep (cut c event) (g.bytes (heap_disk old))))
       → (IsTrue g.tells → (c : Core) → IsCore c old → IsReached c → IfOk result (λ reply. Passes (calls c event) (g.passed (heap_disk old)) (g.passed (heap_disk new)) (reply_device reply)))
       → Follows first old → Follows first new
   follows_on first old new event session (Ok reply) kept recorded core same untouched holds moments passes f = follows_step first old new event session reply recorded kept core holds moments passes f

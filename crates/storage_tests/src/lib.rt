@@ -22,6 +22,8 @@ mod log_machine_tests;
 #[cfg(test)]
 mod log_records_tests;
 #[cfg(test)]
+mod logged_pages_tests;
+#[cfg(test)]
 mod page_cache_tests;
 #[cfg(test)]
 mod page_store_tests;

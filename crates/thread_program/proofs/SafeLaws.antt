@@ -1,5 +1,5 @@
 -- What a run of workers says of crashes in short.
-use Rattle.std.proofs.Common.{◌≡◌, inl, inr, ⊎_elim, ℕ, ◌+◌, Bool, List, [], length, take, Option, None, Some, refl, sym, ap, ◌∙◌, subst, arith}
+use Rattle.std.proofs.Common.{◌≡◌, inl, inr, ⊎_elim, ℕ, ◌+◌, Bool, List, [], length, take, Option, None, Some, refl, sym, ◌∙◌, subst, arith}
 use Rattle.std.specs.Prelude.{IfSome}
 use Rattle.std.specs.List.{AllByRecursion}
 use Rattle.std.proofs.lemmas.List.{append-nil, take_all}
@@ -16,7 +16,7 @@ use Rattle.heap_model.proofs.Step.Grow.{keeps_at_least, has_fewer}
 use Rattle.core_laws.specs.Ended.{IsUnfailed}
 use Rattle.core_laws.specs.Valid.{IsReached}
 use Rattle.core_laws.proofs.Crash.Grow.{has_at_least_on}
-use Rattle.core_laws.proofs.Crash.Image.{commits-sealed}
+use Rattle.core_laws.proofs.Crash.Image.{sealed-first}
 use Rattle.core_laws.proofs.Run.Events.{run_reached}
 use Rattle.command_words.specs.Limits.{IsPages}
 use Rattle.script_text.specs.declared.line.Line.{Line}
@@ -34,16 +34,15 @@ use Rattle.thread_program.proofs.MadeLaws.{of_sent, done_made}
 use Rattle.thread_program.specs.Together.{MakesTogether, IsPlayedTogether, PlaysTogether, RunsTogether, IsSafeTogether, RunsTogetherSafely}
 
 -- Each image that a crash leaves of a core on which nothing is pending stands for all that is sealed.
-whole_image : (c : Core) (image : List ℕ) → IsReached c → c.pending ≡ [] → IsCommitPrefix c image → StandsFor (serial c.g0 (sealed c.history)) (c.before + length (sealed c.history)) image
-whole_image c image reached none prefix =
+whole_image : (c : Core) (image : List ℕ) → IsReached c → IsUnfailed c → c.pending ≡ [] → IsCommitPrefix c image → StandsFor (serial c.g0 (sealed c.history)) (c.before + length (sealed c.history)) image
+whole_image c image reached unfailed none prefix =
     let all = length (sealed c.history) in
-    let same = commits-sealed c reached.sound in
-    let first : take all (commits c.history) ≡ sealed c.history = ap (take all) same ∙ take_all all (sealed c.history) (omega arith) in
-    subst (λ (ts : List Transaction). StandsFor (serial c.g0 ts) (c.before + all) image) first (whole_prefix c image reached none prefix)
+    let first : take all (commits c.history) ≡ sealed c.history = sealed-first all c.history (omega arith) ∙ take_all all (sealed c.history) (omega arith) in
+    subst (λ (ts : List Transaction). StandsFor (serial c.g0 ts) (c.before + all) image) first (whole_prefix c image reached unfailed none prefix)
 
 -- a run that is done leaves nothing pending
 pub done_settled : (tries : ℕ) (lines : List Line) (c : Core) (made : List Event) (d : Core) (result : Status) → IsReached c → IsUnfailed c → AllByRecursion IsOfSession made → (together : MakesTogether tries lines c made d result)
-    → result ≡ status.Done → d.pending ≡ []
+    → result ≡ status.Done → (d.pending ≡ []) × IsUnfailed d
 done_settled tries lines c made d result reached unfailed of together done =
     let parts = sym (done_made tries lines c made d result reached unfailed of together done) ∙ sym (append-nil made) in
     ended_core c d made [] together.sent reached unfailed (of_sent tries lines c made d result reached unfailed of together) parts refl (together.done done).2
@@ -69,7 +68,7 @@ module _ {D : Type 0} (g : Ghosts D) (now : (disk : D) (image : List ℕ) → g.
         each = weaker g.moment g.left_since start final _ (HasAtLeast core least)
             (joined g.moment g.left_since start disk.opened final (IsCommitPrefix c) (HasAtLeast core (lasting c)) disk.opening since)
             (λ image either. ⊎_elim
-            (λ (kept : IsCommitPrefix c image). has_at_least_on c core made least image reached.sound at_end.sound run (keeps_at_least c image kept))
+            (λ (kept : IsCommitPrefix c image). has_at_least_on c core made least image reached.sound run (keeps_at_least c image kept))
             (λ (has : HasAtLeast core (lasting c) image). has_fewer core (lasting c) least image (omega arith) has)
             either);
         opened = disk.opened;
@@ -79,8 +78,8 @@ module _ {D : Type 0} (g : Ghosts D) (now : (disk : D) (image : List ℕ) → g.
         replies = played.replies;
         front = λ t. (played.runs.written t).front;
         printed = λ done t.
-            let none = done_settled tries script c made core result reached unfailed of played.runs.together done in
-            (played.least, (played.runs.written t).whole done, λ image leaves. whole_image core image at_end none (disk.kept image leaves));
+            let settled = done_settled tries script c made core result reached unfailed of played.runs.together done in
+            (played.least, (played.runs.written t).whole done, λ image leaves. whole_image core image at_end settled.1 settled.0 (disk.kept image leaves));
       }
 
   script_together : (start final : D) (tries : ℕ) (is_script : List Line → Type 0) (at_opening : ℕ) (c : Core) (result : Status) (told : Bool) (before after : List ℕ) → IsReached c → IsUnfailed c

@@ -14,6 +14,7 @@ use Rattle.turn_lock.specs.declared.view.View.{View}
 use Rattle.turn_lock.specs.declared.view.Stage.{Stage}
 use Rattle.turn_lock.specs.declared.view.Stage.TheVariants.{Resting, Waiting, Turn, Raised}
 use Rattle.turn_lock.specs.Turning.{one, times, total, EachOnce, IsBeginning, greatest, places, StandIn, added, numbers_from, IsOneTurn}
+use Rattle.turn_lock.proofs.Acts.{AllowsAs, IsLook, as_allows}
 use Rattle.turn_lock.specs.Rule.{is_queued, is_held, ahead, tickets, tickets_of, times_at, Kept, Shared, Fits, AtHome, IsOut, HasTurns, newcomer}
 use Rattle.turn_lock.specs.Steps.{waiting, in_turn, raising, resting, left_to_deal, dealt, joined, spent, queued, raised, passed, read, GoesBack, looked}
 use Rattle.std.specs.List.{AllByRecursion}
@@ -118,8 +119,8 @@ module _ {T E : Type 0} (entries : T → List E) (stood : T → ℕ) (front : E 
       inr record { seat = o.seat; view = o.view; seat_is = set_else views id o.seat w n ∙ o.seat_is; held = o.held; home_is = o.home_is; seen_is = o.seen_is; front_is = o.front_is; turns_are = o.turns_are }
 
   -- step 1
-  pub takes_ticket : (slots id : ℕ) (me : M) → me.0.stage ≡ Resting → me.0.numbers ≢ [] → Allows Rule slots id me 0 (λ n. (n + 1) % W) (queued me)
-  takes_ticket slots id me rest some_number s r wide at small =
+  pub takes_ticket_as : (slots id : ℕ) (me : M) → me.0.stage ≡ Resting → me.0.numbers ≢ [] → AllowsAs (λ a. a ≡ keeps) Rule slots id me 0 (λ n. (n + 1) % W) (queued me)
+  takes_ticket_as slots id me rest some_number s r wide at small =
       let v : V = me.0 in let w : V = waiting v r.taken in let k = r.knows in
       let qv : is_queued v.stage ≡ false = ap is_queued rest in let hv : is_held v.stage ≡ false = ap is_held rest in
       let of_v : (t : ℕ) → tickets_of t v ≡ 0 = λ t. ap (λ b. cond b (one t v.ticket) 0) qv in
@@ -127,6 +128,7 @@ module _ {T E : Type 0} (entries : T → List E) (stood : T → ℕ) (front : E 
       let fit = k.each id v at in (
         w,
         keeps,
+        refl,
         tt,
         record {
           taken = r.taken + 1;
@@ -151,6 +153,9 @@ module _ {T E : Type 0} (entries : T → List E) (stood : T → ℕ) (front : E 
         },
         (r.taken, ap (λ ws. get_or ws 0 0) r.words_are, refl),
       )
+
+  pub takes_ticket : (slots id : ℕ) (me : M) → me.0.stage ≡ Resting → me.0.numbers ≢ [] → Allows Rule slots id me 0 (λ n. (n + 1) % W) (queued me)
+  takes_ticket slots id me a b = as_allows (λ a. a ≡ keeps) Rule slots id me 0 (λ n. (n + 1) % W) (queued me) (takes_ticket_as slots id me a b)
 
   unchanged : (s : St) → Rule s → (ws : List ℕ) (vs : List V) → ws ≡ s.words → vs ≡ s.views → Rule record { words = ws; homes = s.homes; views = vs }
   unchanged s r ws vs a b = subst (λ (x : List ℕ × List V). Rule record { words = x.0; homes = s.homes; views = x.1 }) (λ i. (sym a i, sym b i)) r
@@ -181,7 +186,7 @@ module _ {T E : Type 0} (entries : T → List E) (stood : T → ℕ) (front : E 
       sym (one_turn r.served v.ticket W within.0 near (sym (ap (λ ws. get_or ws 1 0) r.words_are) ∙ hit))
 
   gets : (s : St) (r : Rule s) (slots id : ℕ) (me : M) → get_elem? s.views id ≡ some me.0 → me.0.stage ≡ Waiting → get_or s.words 1 0 ≡ me.0.ticket % W → Home r.served r.log r.home s.views
-      → (w : V) × (a : Act (Option T)) × Rattle.atomic_table.specs.Table.Valid s.homes me.1 a × Rule (stepped s 1 (get_or s.words 1 0) id me.1 w a) × looked entries stood front empty_turns follows me (get_or s.words 1 0) (w, Rattle.atomic_table.specs.Table.carried_after me.1 a)
+      → (w : V) × (a : Act (Option T)) × IsLook a × Rattle.atomic_table.specs.Table.Valid s.homes me.1 a × Rule (stepped s 1 (get_or s.words 1 0) id me.1 w a) × looked entries stood front empty_turns follows me (get_or s.words 1 0) (w, Rattle.atomic_table.specs.Table.carried_after me.1 a)
   gets s r slots id me at st hit h =
       let v : V = me.0 in let x : T = h.value in let k = r.knows in let fit = k.each id v at in
       let qv : is_queued v.stage ≡ true = ap is_queued st in
@@ -190,6 +195,7 @@ module _ {T E : Type 0} (entries : T → List E) (stood : T → ℕ) (front : E 
       let mine = served_is s r id v at qv hit in (
         w,
         takes 0 (Some x),
+        inr (x, refl),
         ap (λ hs. get_elem? hs 0) r.homes_are ∙ ap some h.home_is,
         record {
           taken = r.taken;
@@ -248,8 +254,8 @@ module _ {T E : Type 0} (entries : T → List E) (stood : T → ℕ) (front : E 
       )
 
   -- steps 2 and 3
-  pub looks : (slots id : ℕ) (me : M) → me.0.stage ≡ Waiting → Allows Rule slots id me 1 (λ n. n) (looked entries stood front empty_turns follows me)
-  looks slots id me st s r wide at small = let v : V = me.0 in
+  pub looks_as : (slots id : ℕ) (me : M) → me.0.stage ≡ Waiting → AllowsAs IsLook Rule slots id me 1 (λ n. n) (looked entries stood front empty_turns follows me)
+  looks_as slots id me st s r wide at small = let v : V = me.0 in
       dite (ℕ_discrete (get_or s.words 1 0) (v.ticket % W))
       (λ hit. ⊎_elim (gets s r slots id me at st hit)
       (λ o. let k = r.knows in let mine = served_is s r id v at (ap is_queued st) hit in let its = (k.each o.seat o.view o.seat_is).turn_is o.held in
@@ -257,7 +263,10 @@ module _ {T E : Type 0} (entries : T → List E) (stood : T → ℕ) (front : E 
       let same : o.view ≡ v = some-injective o.view v (sym o.seat_is ∙ (ap (get_elem? s.views) e ∙ at)) in
       absurd (no_bool (is_held v.stage) (ap (λ (u : V). is_held u.stage) (sym same) ∙ o.held) (ap is_held st)))
       r.slot)
-      (λ miss. (v, keeps, tt, unchanged s r (set s.words 1 (get_or s.words 1 0)) (set s.views id v) (set-get_or s.words 1 0) (set_again s.views id v at), ((λ hit. absurd (miss hit)), λ _. refl)))
+      (λ miss. (v, keeps, inl refl, tt, unchanged s r (set s.words 1 (get_or s.words 1 0)) (set s.views id v) (set-get_or s.words 1 0) (set_again s.views id v at), ((λ hit. absurd (miss hit)), λ _. refl)))
+
+  pub looks : (slots id : ℕ) (me : M) → me.0.stage ≡ Waiting → Allows Rule slots id me 1 (λ n. n) (looked entries stood front empty_turns follows me)
+  looks slots id me a = as_allows IsLook Rule slots id me 1 (λ n. n) (looked entries stood front empty_turns follows me) (looks_as slots id me a)
 
   grown : (log log' more : List E) (e : log' ≡ log ++ more) → fr log ≤ fr log' → (served : ℕ) (u : V) → Fit served log u → Fit served log' u
   grown log log' more e up served u f = record {
@@ -275,7 +284,7 @@ module _ {T E : Type 0} (entries : T → List E) (stood : T → ℕ) (front : E 
       → max (fr r.log) k ≡ fr log' → added me.0.seen log' ≡ added r.log log' → StandIn log' (added r.log log')
       → EachOnce (λ n. total (times_at n) s.views + times n (places (added r.log log'))) (stood first) (length log')
       → HasTurns entries stood front empty_turns follows first passes log' empty' (r.served + 1)
-      → (w : V) × (a : Act (Option T)) × Rattle.atomic_table.specs.Table.Valid s.homes me.1 a × Rule (stepped s 2 (max (get_or s.words 2 0) k) id me.1 w a) × raised stood front log' empty' me (w, Rattle.atomic_table.specs.Table.carried_after me.1 a)
+      → (w : V) × (a : Act (Option T)) × (a ≡ keeps) × Rattle.atomic_table.specs.Table.Valid s.homes me.1 a × Rule (stepped s 2 (max (get_or s.words 2 0) k) id me.1 w a) × raised stood front log' empty' me (w, Rattle.atomic_table.specs.Table.carried_after me.1 a)
   raises_with s r id me log' more empty' k at st first_is is top fresh stand once turns =
       let v : V = me.0 in let sh = r.knows in let fit = sh.each id v at in
       let held : is_held v.stage ≡ true = ap is_held st in let qv : is_queued v.stage ≡ true = ap is_queued st in
@@ -286,6 +295,7 @@ module _ {T E : Type 0} (entries : T → List E) (stood : T → ℕ) (front : E 
       let mine : w.mine ≡ v.mine ++ new = ap (λ l. v.mine ++ l) fresh in (
         w,
         keeps,
+        refl,
         tt,
         record {
           taken = r.taken;
@@ -330,9 +340,9 @@ module _ {T E : Type 0} (entries : T → List E) (stood : T → ℕ) (front : E 
       )
 
   -- step 4
-  pub raises : (slots id : ℕ) (me : M) (log' : List E) (empty' k : ℕ) → me.0.stage ≡ Turn → me.0.first ≡ Some first → IsOneTurn front me.0.seen me.0.empty log' empty' k
-      → Allows Rule slots id me 2 (λ n. max n k) (λ _. raised stood front log' empty' me)
-  raises slots id me log' empty' k st first_is turn s r wide at small =
+  pub raises_as : (slots id : ℕ) (me : M) (log' : List E) (empty' k : ℕ) → me.0.stage ≡ Turn → me.0.first ≡ Some first → IsOneTurn front me.0.seen me.0.empty log' empty' k
+      → AllowsAs (λ a. a ≡ keeps) Rule slots id me 2 (λ n. max n k) (λ _. raised stood front log' empty' me)
+  raises_as slots id me log' empty' k st first_is turn s r wide at small =
       let v : V = me.0 in let out = holder s r id v at (ap is_held st) in
       let seen : v.seen ≡ r.log = ap (λ (u : V). u.seen) (sym out.2) ∙ out.0.seen_is in
       let turns : HasTurns entries stood front empty_turns follows first passes r.log v.empty (r.served + 0) = subst (λ (u : V). HasTurns entries stood front empty_turns follows first passes r.log u.empty (r.served + ahead u.stage)) out.2 out.0.turns_are ∙ ap (λ (z : Stage). (r.served + ahead z) % W) st in
@@ -361,10 +371,14 @@ module _ {T E : Type 0} (entries : T → List E) (stood : T → ℕ) (front : E 
       (ap (λ (z : ℕ). (length log' - stood first + z) % W) t.1 ∙ (add-mod-mod (length log' - stood first) (v.empty + 1) W ∙ (ap (λ (z : ℕ). z % W) (let a : length log' - stood first + (v.empty + 1) ≡ length r.log - stood first + v.empty + 1 = omega (arith, ap length is) in a) ∙ next_mod (length r.log - stood first + v.empty) r.served old))))
       turn
 
+  pub raises : (slots id : ℕ) (me : M) (log' : List E) (empty' k : ℕ) → me.0.stage ≡ Turn → me.0.first ≡ Some first → IsOneTurn front me.0.seen me.0.empty log' empty' k
+      → Allows Rule slots id me 2 (λ n. max n k) (λ _. raised stood front log' empty' me)
+  raises slots id me log' empty' k a b c = as_allows (λ a. a ≡ keeps) Rule slots id me 2 (λ n. max n k) (λ _. raised stood front log' empty' me) (raises_as slots id me log' empty' k a b c)
+
   -- steps 5 and 6
-  pub passes_on : (slots id : ℕ) (me : M) (value : T) → me.0.stage ≡ Raised → me.1 ≡ (0, Some value) ∷ [] → GoesBack entries stood empty_turns follows first me.0 value
-      → Allows Rule slots id me 1 (λ n. (n + 1) % W) (λ _. passed me)
-  passes_on slots id me value st slot back s r wide at small =
+  pub passes_on_as : (slots id : ℕ) (me : M) (value : T) → me.0.stage ≡ Raised → me.1 ≡ (0, Some value) ∷ [] → GoesBack entries stood empty_turns follows first me.0 value
+      → AllowsAs (λ a. a ≡ gives) Rule slots id me 1 (λ n. (n + 1) % W) (λ _. passed me)
+  passes_on_as slots id me value st slot back s r wide at small =
       let v : V = me.0 in let w : V = resting v in let sh = r.knows in let fit = sh.each id v at in
       let held : is_held v.stage ≡ true = ap is_held st in let qv : is_queued v.stage ≡ true = ap is_queued st in
       let out = holder s r id v at held in let o = out.0 in
@@ -377,6 +391,7 @@ module _ {T E : Type 0} (entries : T → List E) (stood : T → ℕ) (front : E 
       n (alone r.taken r.served r.log s.views sh id j v u at is qv (queued_held u.stage h) (mine ∙ sym ((sh.each j u is).turn_is h)))) in (
         w,
         gives,
+        refl,
         tt,
         record {
           taken = r.taken;
@@ -411,13 +426,18 @@ module _ {T E : Type 0} (entries : T → List E) (stood : T → ℕ) (front : E 
         refl,
       )
 
+  pub passes_on : (slots id : ℕ) (me : M) (value : T) → me.0.stage ≡ Raised → me.1 ≡ (0, Some value) ∷ [] → GoesBack entries stood empty_turns follows first me.0 value
+      → Allows Rule slots id me 1 (λ n. (n + 1) % W) (λ _. passed me)
+  passes_on slots id me value a b c = as_allows (λ a. a ≡ gives) Rule slots id me 1 (λ n. (n + 1) % W) (λ _. passed me) (passes_on_as slots id me value a b c)
+
   -- step 7
-  pub reads_front : (slots id : ℕ) (me : M) → Allows Rule slots id me 2 (λ n. n) (read me)
-  reads_front slots id me s r wide at small =
+  pub reads_front_as : (slots id : ℕ) (me : M) → AllowsAs (λ a. a ≡ keeps) Rule slots id me 2 (λ n. n) (read me)
+  reads_front_as slots id me s r wide at small =
       let v : V = me.0 in let n : ℕ = get_or s.words 2 0 in let w : V = record v { front = n } in let sh = r.knows in let fit = sh.each id v at in
       let is : n ≡ fr r.log = ap (λ ws. get_or ws 2 0) r.words_are in (
         w,
         keeps,
+        refl,
         tt,
         record {
           taken = r.taken;
@@ -464,6 +484,9 @@ module _ {T E : Type 0} (entries : T → List E) (stood : T → ℕ) (front : E 
         },
         (refl, omega (arith, is, fit.front_in)),
       )
+
+  pub reads_front : (slots id : ℕ) (me : M) → Allows Rule slots id me 2 (λ n. n) (read me)
+  reads_front slots id me = as_allows (λ a. a ≡ keeps) Rule slots id me 2 (λ n. n) (read me) (reads_front_as slots id me)
 
   slot_more : (served : ℕ) (log : List E) (home : maybe.Option (Option T)) (views : List V) (w : V) → is_held w.stage ≡ false
       → Home served log home views ⊎ Out served log home views → Home served log home (views ++ w ∷ []) ⊎ Out served log home (views ++ w ∷ [])
@@ -639,22 +662,22 @@ module _ {T E : Type 0} (entries : T → List E) (stood : T → ℕ) (front : E 
     pub turns_are : (length (entries value) - stood first + empty_turns value) % W ≡ v.turns % W
     pub front_in : v.front ≤ fr (entries value)
 
-  numbers_none : (s : St) (r : Rule s) (id : ℕ) (v : V) → get_elem? s.views id ≡ some v → ((n : ℕ) → n < passes → 0 < times n v.numbers) → (j : ℕ) (u : V) → j ≢ id → get_elem? s.views j ≡ some u → u.numbers ≡ []
+  pub numbers_none : (s : St) (r : Rule s) (id : ℕ) (v : V) → get_elem? s.views id ≡ some v → ((n : ℕ) → n < passes → 0 < times n v.numbers) → (j : ℕ) (u : V) → j ≢ id → get_elem? s.views j ≡ some u → u.numbers ≡ []
   numbers_none s r id v at all j u apart is = no_number u.numbers (λ n has.
       let f : V → ℕ = λ x. times n x.numbers in let c : ℕ → ℕ = λ k. total (λ (x : V). times k x.numbers) s.views in let sh = r.knows in
       let in_all = once_inside c c 0 passes sh.numbers_once n (omega (arith, term_le f s.views j u is, has)) in
       absurd (omega (arith, terms_le f s.views id j v u apart at is, has, all n in_all.1, once_bound c c 0 passes sh.numbers_once n)))
 
-  pub ends : (ws : List ℕ) (xs : List (Option T)) (id : ℕ) (v : V) → v.stage ≡ Resting → ((n : ℕ) → n < passes → 0 < times n v.numbers) → Final (Seen Rule id v) ws xs → (value : T) × (get_elem? xs 0 ≡ some (Some value)) × Ends v value
-  ends ws xs id v st all f =
-      let s : St = f.0 in let r : Rule s = f.1.0 in let at = f.1.1 in let sh = r.knows in let fit = sh.each id v at in
+  pub ends_at : (s : St) → Rule s → (id : ℕ) (v : V) → get_elem? s.views id ≡ some v → v.stage ≡ Resting → ((n : ℕ) → n < passes → 0 < times n v.numbers) → (value : T) × (get_elem? s.homes 0 ≡ some (some (Some value))) × Ends v value
+  ends_at s r id v at st all =
+      let sh = r.knows in let fit = sh.each id v at in
       let others : (j : ℕ) (u : V) → j ≢ id → get_elem? s.views j ≡ some u → (u.stage ≡ Resting) × (u.mine ≡ []) × (u.turns ≡ 0) = λ j u n is. (sh.each j u is).idle (numbers_none s r id v at all j u n is) in
       let alone_at : (k : ℕ) → total (times_at k) s.views ≡ times_at k v = λ k. total_alone (times_at k) s.views id v at (λ j u n is. ap (λ (m : List (ℕ × E)). times k (places m)) (others j u n is).1) in
       let turns_alone : total (λ (u : V). u.turns) s.views ≡ v.turns = total_alone (λ (u : V). u.turns) s.views id v at (λ j u n is. (others j u n is).2) in
       ⊎_elim
       (λ h. let es = h.entries_are in (
         h.value,
-        f.4 0 (Some h.value) (ap (λ hs. get_elem? hs 0) r.homes_are ∙ ap some h.home_is),
+        ap (λ hs. get_elem? hs 0) r.homes_are ∙ ap some h.home_is,
         record {
           stood_is = h.stood_is;
           follows_is = h.follows_is;
@@ -670,6 +693,9 @@ module _ {T E : Type 0} (entries : T → List E) (stood : T → ℕ) (front : E 
       (λ e. no_bool (is_held o.view.stage) o.held (ap (λ (x : V). is_held x.stage) (some-injective o.view v (sym o.seat_is ∙ (ap (get_elem? s.views) e ∙ at))) ∙ ap is_held st))
       (λ n. no_bool (is_held o.view.stage) o.held (ap is_held (others o.seat o.view n o.seat_is).0))))
       r.slot
+
+  pub ends : (ws : List ℕ) (xs : List (Option T)) (id : ℕ) (v : V) → v.stage ≡ Resting → ((n : ℕ) → n < passes → 0 < times n v.numbers) → Final (Seen Rule id v) ws xs → (value : T) × (get_elem? xs 0 ≡ some (Some value)) × Ends v value
+  ends ws xs id v st all f = let e = ends_at f.0 f.1.0 id v f.1.1 st all in (e.0, f.4 0 (Some e.0) e.1, e.2)
 
   -- the first seat once the passes below k have their numbers
   abbrev pub dealing : ℕ → V

@@ -1,5 +1,13 @@
 pub mod TurnLaws
 pub mod Lists
 pub mod Counts
+pub mod Acts
 pub mod Keeps
 pub mod Deals
+pub mod TwinActs
+pub mod TwinParts
+pub mod TwinTies
+pub mod TwinKeeps
+pub mod TwinEnds
+pub mod TwinLaws
+pub mod TwinDeals

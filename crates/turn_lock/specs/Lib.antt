@@ -3,3 +3,7 @@ pub mod Rule
 pub mod Steps
 pub mod Passes
 pub mod Merging
+pub mod Twin
+pub mod Tied
+pub mod TwinSteps
+pub mod TwinPasses

@@ -167,7 +167,7 @@ few_alone own none = let same = ap (λ (l : List CopiedObject). length l) none i
 pub pause_law : PauseTheorem
 pause_law c event reached other = by event other
   where
-    h : Agrees (record (account c.history) { failed = None }) c
+    h : Agrees (record (account c.history) { failed = None; in_doubt = None }) c
     h = reached_agrees c reached
 
     by_call : (e : Event) (hd i : ℕ) → own_records c e ≡ call_records (ground (behind_barrier c e)) c.g0 (account c.history) ((account c.history).active (session_of e)) e
@@ -175,11 +175,11 @@ pause_law c event reached other = by event other
     by_call e hd i own barrier =
         let a = account c.history in
         let o = a.active (session_of e) in
-        few_with (barrier_records c e) (own_records c e) (subst AreFew (sym barrier) (barrier_few (record a { failed = None }) c h o hd i)) (ap copied_in own ∙ call_none (ground (behind_barrier c e)) c.g0 a o e)
+        few_with (barrier_records c e) (own_records c e) (subst AreFew (sym barrier) (barrier_few (record a { failed = None; in_doubt = None }) c h o hd i)) (ap copied_in own ∙ call_none (ground (behind_barrier c e)) c.g0 a o e)
 
     by : (e : Event) → e ≢ Flip → AreFew (event_records c e)
     by Flip other = absurd (other refl)
-    by Scan other = subst (λ (s : Option State). AreFew (scan_event_records s (all_words c))) (sym h.told.reached) (scan_few (record (account c.history) { failed = None }) c h h.behind.collection (next_page h.behind.collection))
+    by Scan other = subst (λ (s : Option State). AreFew (scan_event_records s (all_words c))) (sym h.told.reached) (scan_few (record (account c.history) { failed = None; in_doubt = None }) c h h.behind.collection (next_page h.behind.collection))
     by (Begin s) other = omega arith
     by Force other = omega arith
     by (Flush p) other = omega arith

@@ -94,4 +94,4 @@ scan_law c s k page valid is run next =
 
 -- What a transaction's handles hold is current, or its own.
 pub holds_law : HoldsTheorem
-holds_law c s t reached active = (writing_of (record (account c.history) { failed = None }) c s t active (reached_agrees c reached)).handles
+holds_law c s t reached active = (writing_of (record (account c.history) { failed = None; in_doubt = None }) c s t active (reached_agrees c reached)).handles

@@ -1,12 +1,13 @@
 -- What a crash leaves of a reached core: the graph of the first k commits since its opening, with all that were acknowledged among them.
-use Rattle.std.proofs.Common.{◌≡◌, inl, inr, ℕ, ◌+◌, ◌≤◌, List, ◌++◌, length, take, Option, None, sym, ap, ◌∙◌, subst, arith}
+use Rattle.std.proofs.Common.{◌≡◌, ◌⊎◌, inl, inr, ℕ, ◌+◌, ◌≤◌, List, ◌++◌, length, take, Option, None, sym, ap, ◌∙◌, subst, arith}
 use Rattle.std.specs.Prelude.{IsTrue}
 use Rattle.std.specs.Option.{option_to_list}
-use Rattle.std.proofs.lemmas.List.{append-nil}
+use Rattle.std.proofs.lemmas.List.{append-nil, length-append, take-append-le}
+use Rattle.graph_model.specs.declared.reply.Entry.{Entry}
 use Rattle.graph_model.specs.Transaction.{Transaction, serial}
 use Rattle.graph_model.specs.History.{Account, account, sealed, commits, acknowledged}
 use Rattle.log_records.specs.declared.Record.{Record}
-use Rattle.gated_log.specs.Log.{batches_bytes, records_of}
+use Rattle.gated_log.specs.Log.{batches_bytes, records_of, with_batch}
 use Rattle.log_machine.specs.Machine.{State, start, reserve}
 use Rattle.log_machine.specs.Origin.{Origin, words_from, commits_in}
 use Rattle.page_redo.specs.Pages.{Pages}
@@ -19,6 +20,7 @@ use Rattle.heap_model.specs.CoreTold.{IsTold}
 use Rattle.heap_model.proofs.Step.Goes.{told_sound}
 use Rattle.heap_model.proofs.Opening.Legal.{told_says}
 use Rattle.heap_model.proofs.Step.Logged.{super_origin, all_logged}
+use Rattle.heap_model.proofs.Step.Transfers.{stage_is}
 use Rattle.heap_model.proofs.Step.Room.{records_of-with_batch, length-with_batch}
 use Rattle.heap_model.specs.Image.{StoredHeap, origin_of, Says, records_in}
 use Rattle.heap_model.specs.Opening.{next_of, next_in}
@@ -27,7 +29,7 @@ use Rattle.core_laws.proofs.Step.GrantedEnds.{all_on_disk}
 use Rattle.core_laws.proofs.Step.Reserved.{reserve_reserved}
 use Rattle.core_laws.proofs.Step.Sound.{sound_agrees}
 use Rattle.core_laws.specs.Theorems.{CrashTheorem}
-use Rattle.core_laws.specs.Valid.{Agrees, IsSound}
+use Rattle.core_laws.specs.Valid.{Agrees, IsValid, IsSound}
 
 -- Records encode the first k commits of a core since its opening, and all that was acknowledged or forced is among them; the log has room
 -- to take back what else they hold.
@@ -44,30 +46,34 @@ pub record TellFirst (c : Core) (k : ℕ) (batches : List (List Record)) : Type 
   pub forced : commits_on_disk c ≤ c.before + k
   pub some : k ≤ length (commits c.history)
 
--- a seal makes no device call, so the commits are the sealed transactions
-pub commits-sealed : (c : Core) → IsSound c → commits c.history ≡ sealed c.history
-commits-sealed c h =
-    let b = sound_agrees c h in
-    ap (λ (o : Option Transaction). sealed c.history ++ option_to_list o) b.certain ∙ append-nil (sealed c.history)
+-- until the disk fails no seal is in doubt, and the commits are the sealed transactions
+pub commits-sealed : (c : Core) → IsValid c → commits c.history ≡ sealed c.history
+commits-sealed c h = ap (λ (o : Option Transaction). sealed c.history ++ option_to_list o) h.certain ∙ append-nil (sealed c.history)
 
-tell_sealed : (c : Core) (k : ℕ) (batches : List (List Record)) (places remaining : Places) (now : List ℕ) (state : State) → IsSound c
+-- in any case the sealed ones are the first of the commits
+pub sealed-first : (k : ℕ) (history : List Entry) → k ≤ length (sealed history) → take k (commits history) ≡ take k (sealed history)
+sealed-first k history few = take-append-le k (sealed history) (option_to_list (account history).in_doubt) few
+
+pub sealed-few : (history : List Entry) → length (sealed history) ≤ length (commits history)
+sealed-few history = omega (arith, length-append (sealed history) (option_to_list (account history).in_doubt))
+
+tell_sealed : (c : Core) (k : ℕ) (batches : List (List Record)) (places remaining : Places) (now : List ℕ) (state : State)
     → IsTold (log_start c) c.born places remaining (serial c.g0 (take k (sealed c.history))) (c.before + k) (records_of batches) now state → now ≡ words_from (log_origin c) (records_of batches)
     → length (batches_bytes batches) + 1 + reserve state ≤ c.room → c.first ≤ state.next → acknowledged c.history ≤ k → commits_on_disk c ≤ c.before + k
     → k ≤ length (sealed c.history) → TellFirst c k batches
-tell_sealed c k batches places remaining now state h told logged room next kept forced some =
-    let same = commits-sealed c h in
+tell_sealed c k batches places remaining now state told logged room next kept forced some =
     record {
       state = state;
       places = places;
       remaining = remaining;
       words = now;
-      told = subst (λ (ts : List Transaction). IsTold (log_start c) c.born places remaining (serial c.g0 (take k ts)) (c.before + k) (records_of batches) now state) (sym same) told;
+      told = subst (λ (ts : List Transaction). IsTold (log_start c) c.born places remaining (serial c.g0 ts) (c.before + k) (records_of batches) now state) (sym (sealed-first k c.history some)) told;
       logged = logged;
       room = room;
       next = next;
       kept = kept;
       forced = forced;
-      some = subst (λ (ts : List Transaction). k ≤ length ts) (sym same) some;
+      some = omega (arith, some, sealed-few c.history);
     }
 
 -- the commits of the log on the disk are those before the opening and those since then
@@ -76,21 +82,24 @@ forced_commits a c b = ap commits_in b.disk.told.reached ∙ b.disk.told.count
 
 -- pages that may stand beside the forced records may stand beside these batches
 pub prefixes_on : (c : Core) (batches : List (List Record)) (stored : Pages) → IsLogged c stored → IsOnDisk c batches → EachHoldsPrefix (log_origin c) (records_of batches) stored
-prefixes_on c batches stored logged (inl is) = subst (λ (bs : List (List Record)). EachHoldsPrefix (log_origin c) (records_of bs) stored) (sym is) logged.prefixes
-prefixes_on c batches stored logged (inr is) =
-    subst (λ (rs : List Record). EachHoldsPrefix (log_origin c) rs stored) (sym (ap records_of is ∙ records_of-with_batch c.batches c.pending))
-    (EachHoldsPrefix-append (log_origin c) (records_of c.batches) c.pending stored logged.prefixes)
+prefixes_on c batches stored logged on = prefixes_at (stage_is c batches on)
+  where
+    prefixes_at : (batches ≡ c.batches) ⊎ (batches ≡ with_batch c.batches c.pending) → EachHoldsPrefix (log_origin c) (records_of batches) stored
+    prefixes_at (inl is) = subst (λ (bs : List (List Record)). EachHoldsPrefix (log_origin c) (records_of bs) stored) (sym is) logged.prefixes
+    prefixes_at (inr is) =
+        subst (λ (rs : List Record). EachHoldsPrefix (log_origin c) rs stored) (sym (ap records_of is ∙ records_of-with_batch c.batches c.pending))
+        (EachHoldsPrefix-append (log_origin c) (records_of c.batches) c.pending stored logged.prefixes)
 
 -- the batches on the disk encode a commit prefix
-pub tell_first : (c : Core) (batches : List (List Record)) → IsSound c → HasLogWords c → IsOnDisk c batches → (k : ℕ) × TellFirst c k batches
-tell_first c batches h logged (inl is) =
+tell_at : (c : Core) (batches : List (List Record)) → IsSound c → HasLogWords c → (batches ≡ c.batches) ⊎ (batches ≡ with_batch c.batches c.pending) → (k : ℕ) × TellFirst c k batches
+tell_at c batches h logged (inl is) =
     let b = sound_agrees c h in
-    let forced = forced_commits (record (account c.history) { failed = None }) c b in
+    let forced = forced_commits (record (account c.history) { failed = None; in_doubt = None }) c b in
     let P : List (List Record) → Type 0 = λ bs. TellFirst c b.disk.commits bs in
-    (b.disk.commits, subst P (sym is) (tell_sealed c b.disk.commits c.batches b.disk.places b.disk.remaining c.words b.disk.state h b.disk.told logged b.disk.has_room b.disk.first_known b.disk.acknowledged_last (omega arith) b.disk.sealed_first))
-tell_first c batches h logged (inr is) =
+    (b.disk.commits, subst P (sym is) (tell_sealed c b.disk.commits c.batches b.disk.places b.disk.remaining c.words b.disk.state b.disk.told logged b.disk.has_room b.disk.first_known b.disk.acknowledged_last (omega arith) b.disk.sealed_first))
+tell_at c batches h logged (inr is) =
     let b = sound_agrees c h in
-    let a = record (account c.history) { failed = None } in
+    let a = record (account c.history) { failed = None; in_doubt = None } in
     let all = length (sealed c.history) in
     let last = b.disk.acknowledged_last in
     let first = b.disk.sealed_first in
@@ -103,7 +112,10 @@ tell_first c batches h logged (inr is) =
     let room = b.room in
     let known = known_on a c b in
     let forced = forced_commits a c b in
-    (all, tell_sealed c all batches c.places c.remaining (all_words c) b.behind h told words (omega arith) known (omega arith) (omega arith) (omega arith))
+    (all, tell_sealed c all batches c.places c.remaining (all_words c) b.behind told words (omega arith) known (omega arith) (omega arith) (omega arith))
+
+pub tell_first : (c : Core) (batches : List (List Record)) → IsSound c → HasLogWords c → IsOnDisk c batches → (k : ℕ) × TellFirst c k batches
+tell_first c batches h logged on = tell_at c batches h logged (stage_is c batches on)
 
 module _ (c : Core) (stored : StoredHeap) (h : IsSound c) (logged : HasLogWords c) (beside : EachHoldsPrefix (log_origin c) (records_in stored) stored.pages) (on : IsOnDisk c stored.batches) (of : IsSuperOf stored.super c) where
   first : (k : ℕ) × TellFirst c k stored.batches

@@ -1,8 +1,8 @@
 -- What is reached by the steps of sessions side by side.
-use Rattle.std.proofs.Common.{◌≡◌, inl, inr, ℕ, ◌+◌, List, [], ◌∷◌, ◌++◌, Option, Some, None, refl, sym, ap, ◌∙◌, subst}
+use Rattle.std.proofs.Common.{◌≡◌, arith, inl, inr, ℕ, ◌+◌, List, [], ◌∷◌, ◌++◌, Option, Some, None, refl, sym, ap, ◌∙◌, subst}
 use Rattle.std.specs.List.{AllByRecursion}
 use Rattle.graph_model.specs.declared.event.Event.{Event}
-use Rattle.graph_model.specs.declared.event.Event.TheVariants.{Force, Flush}
+use Rattle.graph_model.specs.declared.event.Event.TheVariants.{Seal, Force}
 use Rattle.graph_model.specs.declared.reply.Refusal.{Refusal}
 use Rattle.graph_model.specs.declared.reply.Refusal.TheVariants.{Failed, DiskFault, Stopped}
 use Rattle.graph_model.specs.declared.reply.Reply.{Reply}
@@ -13,10 +13,10 @@ use Rattle.graph_model.proofs.Runs.History.{account-append}
 use Rattle.graph_model.specs.Plain.{call_conflict, first_of_two}
 use Rattle.graph_model.proofs.Refusals.Plain.{account_after-refused}
 use Rattle.graph_model.specs.Transaction.{Transaction}
-use Rattle.heap_model.specs.Core.{Core, Ground, ground, room_refusal, words_refusal, log_refusal, core_refusal, with_entry, after, force_calls, AsksDisk, calls_if, calls, IsCutShort, IsStep, IsRun}
-use Rattle.heap_model.proofs.Run.Calls.{calls-asks, calls-unfailed, failed_after}
+use Rattle.heap_model.specs.Core.{Core, Ground, ground, room_refusal, words_refusal, log_refusal, core_refusal, with_entry, after, force_calls, calls_if, calls, IsCutShort, IsStep, IsRun}
+use Rattle.heap_model.proofs.Run.Calls.{calls-unfailed, failed_after}
 use Rattle.core_laws.proofs.Step.Goes.{agrees_history}
-use Rattle.core_laws.proofs.Step.Sound.{agrees_entry, sound_agrees}
+use Rattle.core_laws.proofs.Step.Sound.{agrees_certain, agrees_entry, sound_agrees}
 use Rattle.core_laws.proofs.Step.Events.{unfailed_refusal, log_force, valid_after}
 use Rattle.core_laws.proofs.Step.TwoPhase.{step_locked}
 use Rattle.core_laws.specs.Valid.{Agrees, IsValid, HasFailed, IsSound, IsReached}
@@ -27,7 +27,7 @@ failed_history : (a : Account) (c : Core) (event : Event) (reply : Reply) → Ha
 failed_history a c event reply h = record {
   entry = h.entry;
   failed = h.failed;
-  before = agrees_history (record a { failed = None }) c (c.history ++ record { event = event; reply = reply } ∷ []) h.before;
+  before = agrees_history (record a { failed = None; in_doubt = None }) c (c.history ++ record { event = event; reply = reply } ∷ []) h.before;
 }
 
 failed_entry : (c : Core) (event : Event) (reply : Reply) → HasFailed (account_after (account c.history) (record { event = event; reply = reply })) c → HasFailed (account (with_entry c event reply).history) (with_entry c event reply)
@@ -41,7 +41,7 @@ still_failed a c event entry h =
     subst P (sym (account_after-refused a event (Failed entry) tt)) (record {
       entry = h.entry;
       failed = h.failed;
-      before = agrees_entry (record a { failed = None }) c (a.entries + 1) h.before;
+      before = agrees_entry (record a { failed = None; in_doubt = None }) c (a.entries + 1) h.before;
     })
 
 -- a core that has failed stays so
@@ -50,25 +50,24 @@ failed_stays c event h =
     let P : Core → Type 0 = λ d. HasFailed (account d.history) d in
     subst P (sym (failed_after c event h.entry h.failed)) (failed_entry c event (Refused (Failed h.entry)) (still_failed (account c.history) c event h.entry h))
 
-told_failure : (a : Account) (c : Core) (n : ℕ) → Agrees a c → HasFailed (record a { failed = first_failure a.failed n; entries = n }) c
-told_failure a c n h = record {
+told_failure : (a : Account) (c : Core) (n : ℕ) (doubt : Option Transaction) → Agrees a c → HasFailed (record a { in_doubt = doubt; failed = first_failure a.failed n; entries = n }) c
+told_failure a c n doubt h = record {
   entry = n;
   failed = ap (λ (o : Option ℕ). first_failure o n) h.unfailed;
-  before = agrees_entry a c n h;
+  before = agrees_certain (record a { failed = None; entries = n }) c (agrees_entry a c n h);
 }
 
--- a fault and a stop in an event that calls the disk
-cut_agrees : (a : Account) (c : Core) (event : Event) → AsksDisk event → Agrees a c
+-- a fault and a stop in an event: a seal is in doubt then
+cut_agrees : (a : Account) (c : Core) (event : Event) → Agrees a c
     → HasFailed (account_after a (record { event = event; reply = Refused DiskFault })) c × HasFailed (account_after a (record { event = event; reply = Refused Stopped })) c
-cut_agrees a c Force asks h = (told_failure a c (a.entries + 1) h, told_failure a c (a.entries + 1) h)
-cut_agrees a c (Flush p) asks h = (told_failure a c (a.entries + 1) h, told_failure a c (a.entries + 1) h)
-cut_agrees a c event asks h = absurd asks
+cut_agrees a c (Seal s) h = (told_failure a c (a.entries + 1) (a.active s) h, told_failure a c (a.entries + 1) (a.active s) h)
+cut_agrees a c event h = (told_failure a c (a.entries + 1) a.in_doubt h, told_failure a c (a.entries + 1) a.in_doubt h)
 
 -- an event that is cut short leaves all but the history
 pub cut_fails : (c : Core) (event : Event) (reply : Reply) → IsValid c → IsCutShort c event reply
     → HasFailed (account (with_entry c event reply).history) (with_entry c event reply)
 cut_fails c event reply valid cut =
-    let fails = cut_agrees (account c.history) c event (calls-asks c event cut.some).0 valid in
+    let fails = cut_agrees (account c.history) c event valid in
     let P : Reply → Type 0 = λ r. HasFailed (account_after (account c.history) (record { event = event; reply = r })) c in
     failed_entry c event reply (elim cut.told [
       | inl is ↦ subst P (sym is) fails.0
@@ -105,7 +104,7 @@ run_reached c d (event ∷ events) h sessions run = run_reached run.1 d events (
 -- A force.
 
 force_made : (c : Core) (why : Option Refusal) → why ≡ None → calls_if why c Force ≡ force_calls c.pending
-force_made c why none = ap (λ o. calls_if o c Force) none
+force_made c why none = ap (λ o. calls_if o c Force) none ∙ omega arith
 
 force_room : (g : Ground) (g0 : Graph) (a : Account) (o : Option Transaction) → room_refusal g g0 a o Force ≡ None
 force_room g g0 a None = refl

@@ -36,7 +36,8 @@ use Rattle.heap_model.proofs.Step.Goes.{need_nothing}
 use Rattle.heap_model.proofs.Step.Handles.{ReadsVisible, held_at_hand}
 use Rattle.heap_model.proofs.Step.Moved.{behind_none, moved_is}
 use Rattle.heap_model.proofs.Step.Room.{full_log-none, full_log-room}
-use Rattle.heap_model.proofs.Step.Step.{core_refusal-HasNoFault, done_history}
+use Rattle.heap_model.proofs.Step.Step.{core_refusal-HasNoFault}
+use Rattle.heap_model.proofs.Step.Transfers.{done_history}
 use Rattle.core_laws.proofs.Step.Forms.{is_write, has_barrier, no_barrier, quiet_records, call_places, is_new, quiet_call, done_records, two_tests, not_active, has_transaction, area_fits, put_bounds, reference_visible, link_field}
 use Rattle.core_laws.proofs.Collecting.Behind.{behind, behind_both, black_call, call_behind, roomy}
 use Rattle.core_laws.proofs.Collecting.Events.{barrier_kept, done_flip, done_scan}

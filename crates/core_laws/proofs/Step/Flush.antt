@@ -1,6 +1,6 @@
 -- When a flush of a valid core is refused, and what it calls.
-use Rattle.std.proofs.Common.{◌≡◌, ℕ, ◌<◌, ◌≤◌, Bool, true, false, cond, Option, Some, None, refl, ap, ◌∙◌}
-use Rattle.std.specs.Prelude.{nat_lt}
+use Rattle.std.proofs.Common.{◌≡◌, ℕ, ◌+◌, ◌<◌, ◌≤◌, Bool, true, false, cond, Option, Some, None, refl, ap, ◌∙◌}
+use Rattle.std.specs.Prelude.{nat_lt, if◌then◌else◌}
 use Rattle.std.proofs.lemmas.Bool.{lt-ltb, le-ltb}
 use Rattle.graph_model.specs.declared.event.Event.TheVariants.{Flush}
 use Rattle.graph_model.specs.declared.reply.Refusal.{Refusal}
@@ -10,7 +10,9 @@ use Rattle.graph_model.specs.History.{Account, account}
 use Rattle.graph_model.specs.Plain.{call_conflict, first_of_two}
 use Rattle.graph_model.specs.Transaction.{Transaction}
 use Rattle.page_redo.specs.Pages.{pages_in}
-use Rattle.heap_model.specs.Core.{Core, Ground, ground, room_refusal, words_refusal, log_refusal, core_refusal, flush_calls, calls_if, calls}
+use Rattle.heap_model.specs.Core.{Core, Ground, ground, room_refusal, words_refusal, log_refusal, core_refusal, present_lsn, is_dirty, is_ahead, force_calls, store_calls, calls}
+use Rattle.heap_model.proofs.Run.Calls.{calls-granted}
+use Rattle.heap_model.proofs.Step.Transfers.{calls_storing}
 use Rattle.core_laws.proofs.Step.Events.{unfailed_refusal, log_flush}
 use Rattle.core_laws.specs.Valid.{IsValid}
 
@@ -52,6 +54,8 @@ flush_granted c p valid there = flush_found c p true valid (lt-ltb p (pages_in c
 pub flush_refused : (c : Core) (p : ℕ) → IsValid c → pages_in c.pages ≤ p → core_refusal c (Flush p) ≡ Some NoSuchPage
 flush_refused c p valid beyond = flush_found c p false valid (le-ltb p (pages_in c.pages) beyond)
 
--- it calls the disk where the page has changed since it was stored
-pub calls-flushed : (c : Core) (p : ℕ) → IsValid c → p < pages_in c.pages → calls c (Flush p) ≡ flush_calls c p
-calls-flushed c p valid there = ap (λ (o : Option Refusal). calls_if o c (Flush p)) (flush_granted c p valid there)
+-- it calls the disk where the page has changed since it was stored, and forces what waits first where the page is ahead of the log there
+pub calls-flushed : (c : Core) (p : ℕ) → IsValid c → p < pages_in c.pages
+    → calls c (Flush p) ≡ (if is_dirty c p then (if is_ahead c p then force_calls c.pending else 0) + store_calls (c.gates p) else 0)
+calls-flushed c p valid there =
+    calls-granted c (Flush p) (flush_granted c p valid there) ∙ calls_storing c (is_dirty c p) (is_ahead c p) p (present_lsn c p)

@@ -13,7 +13,7 @@ use Rattle.graph_model.specs.Transaction.{View, Transaction, Registers, IsCall, 
 use Rattle.graph_model.specs.History.{Account, account, session_of}
 use Rattle.graph_model.specs.Plain.{no_int, field_refusal, put_refusal, link_refusal, call_refusal, granted}
 use Rattle.core_laws.specs.Theorems.{IsOfTransactions}
-use Rattle.heap_model.specs.Core.{Core, Ground, ground, next_number, call_records, kind_records, records_for, field_barrier, barrier_records, behind_barrier, own_records, event_places, area_refusal, page_refusal, granted_by, done, AsksDisk}
+use Rattle.heap_model.specs.Core.{Core, Ground, ground, next_number, call_records, kind_records, records_for, field_barrier, barrier_records, behind_barrier, own_records, event_places, area_refusal, page_refusal, granted_by, done}
 use Rattle.graph_words.specs.Places.{Places, IsVisible, area_used}
 use Rattle.heap_model.proofs.Step.Granted.{IsQuiet}
 use Rattle.heap_model.proofs.Step.Handles.{HoldAllAtHand, held_at_hand}
@@ -92,13 +92,7 @@ done_records c Scan is = absurd is
 done_records c (Flush p) is = absurd is
 done_records c event is = refl
 
--- a call makes no device call
-pub no_call : (event : Event) → IsCall event → AsksDisk event → ⊥
-no_call Force is asks = is
-no_call (Flush p) is asks = is
-no_call event is asks = asks
-
--- nor does it ask for a page
+-- it asks for no page
 pub call_no_page : (pages : ℕ) (event : Event) → IsCall event → page_refusal pages event ≡ None
 call_no_page pages (Flush p) is = absurd is
 call_no_page pages event is = refl

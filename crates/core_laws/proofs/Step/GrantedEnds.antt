@@ -1,6 +1,5 @@
 -- An abort of one session, a force and a flush that are granted leave a core that agrees with its history.
-use Rattle.std.specs.Prelude.{if◌then◌else◌}
-use Rattle.std.proofs.Common.{◌≡◌, ◌≢◌, ℕ, ◌+◌, ◌≤◌, Bool, true, false, max, List, [], ◌++◌, length, take, Option, Some, None, refl, sym, ◌∙◌, subst, arith}
+use Rattle.std.proofs.Common.{◌≡◌, ◌≢◌, ℕ, ◌+◌, ◌≤◌, max, List, [], ◌++◌, length, take, Option, Some, None, refl, sym, ◌∙◌, subst, arith}
 use Rattle.std.proofs.lemmas.List.{append-nil}
 use Rattle.std.proofs.Math.Seq.{take-length}
 use Rattle.graph_model.specs.declared.event.Event.TheVariants.{Abort, Force, Flush}
@@ -17,8 +16,9 @@ use Rattle.log_machine.proofs.MapLaws.{each_other}
 use Rattle.log_machine.proofs.StateLaws.{each_at}
 use Rattle.collection_words.specs.Writes.{AreBacked}
 use Rattle.gated_log.specs.Log.{records_of, batches_bytes, pending_batch, with_batch}
-use Rattle.heap_model.specs.Core.{Core, log_start, all_records, all_words, used, is_dirty, is_ahead, forced, forced_if, page_stored, flushed}
+use Rattle.heap_model.specs.Core.{Core, log_start, all_records, all_words, used, Transfer, Lands, Stores, made, transfers, done}
 use Rattle.heap_model.proofs.Step.Goes.{told_sound}
+use Rattle.heap_model.proofs.Step.Transfers.{all_made}
 use Rattle.heap_model.proofs.Step.Room.{need-abort_records, forced-with_batch, records_of-with_batch, length-with_batch}
 use Rattle.heap_model.specs.CoreTold.{IsTold, IsNumbered}
 use Rattle.core_laws.proofs.Sessions.Apart.{own_apart}
@@ -157,20 +157,20 @@ force_all a c bs acknowledged entries h same size last =
     }
 
 force_waiting : (a : Account) (c : Core) (acknowledged entries : ℕ) → Agrees a c → acknowledged ≤ length a.sealed
-    → Agrees (record a { acknowledged = acknowledged; entries = entries }) (forced c c.pending)
+    → Agrees (record a { acknowledged = acknowledged; entries = entries }) (made c Lands)
 force_waiting a c acknowledged entries h last =
     subst (Agrees (record a { acknowledged = acknowledged; entries = entries })) (sym (forced-with_batch c))
     (force_all a c (with_batch c.batches c.pending) acknowledged entries h (records_of-with_batch c.batches c.pending) (length-with_batch c.batches c.pending) last)
 
 -- all pending records are forced to the disk, and nothing is answered yet
-pub forced_agrees : (a : Account) (c : Core) → Agrees a c → Agrees a (forced c c.pending)
-forced_agrees a c h =
+landed_agrees : (a : Account) (c : Core) → Agrees a c → Agrees a (made c Lands)
+landed_agrees a c h =
     let first = h.disk.sealed_first in
     let last = h.disk.acknowledged_last in
     force_waiting a c a.acknowledged a.entries h (omega arith)
 
 -- all pending records are forced to the disk
-pub force_agrees : (a : Account) (c : Core) → Agrees a c → Agrees (account_after a (record { event = Force; reply = Durable (length a.sealed) })) (forced c c.pending)
+pub force_agrees : (a : Account) (c : Core) → Agrees a c → Agrees (account_after a (record { event = Force; reply = Durable (length a.sealed) })) (done c Force)
 force_agrees a c h =
     let first = h.disk.sealed_first in
     let last = h.disk.acknowledged_last in
@@ -179,8 +179,8 @@ force_agrees a c h =
 -- A flush.
 
 -- storing a page changes nothing that the history says
-pub agrees_stored : (a : Account) (c : Core) (p : ℕ) → Agrees a c → Agrees a (page_stored c p)
-agrees_stored a c p h = record {
+stored_agrees : (a : Account) (c : Core) (p lsn : ℕ) → Agrees a c → Agrees a (made c (Stores p lsn))
+stored_agrees a c p lsn h = record {
   unfailed = h.unfailed;
   certain = h.certain;
   in_sessions = h.in_sessions;
@@ -196,13 +196,13 @@ agrees_stored a c p h = record {
   room = h.room;
 }
 
-flush_if : (a : Account) (c : Core) (p : ℕ) (dirty ahead : Bool) → Agrees a c → Agrees a (if dirty then page_stored (forced_if ahead c) p else c)
-flush_if a c p true true h = agrees_stored a (forced c c.pending) p (forced_agrees a c h)
-flush_if a c p true false h = agrees_stored a c p h
-flush_if a c p false ahead h = h
+-- no transfer does
+pub made_agrees : (a : Account) (c : Core) (t : Transfer) → Agrees a c → Agrees a (made c t)
+made_agrees a c Lands h = landed_agrees a c h
+made_agrees a c (Stores p lsn) h = stored_agrees a c p lsn h
 
 -- a page is flushed
-pub flush_agrees : (a : Account) (c : Core) (p : ℕ) → Agrees a c → Agrees (account_after a (record { event = Flush p; reply = Flushed p })) (flushed c p)
+pub flush_agrees : (a : Account) (c : Core) (p : ℕ) → Agrees a c → Agrees (account_after a (record { event = Flush p; reply = Flushed p })) (done c (Flush p))
 flush_agrees a c p h =
-    let left = flush_if a c p (is_dirty c p) (is_ahead c p) h in
-    subst (λ (o : Option ℕ). Agrees (record a { failed = o; entries = a.entries + 1 }) (flushed c p)) (sym h.unfailed) (agrees_entry a (flushed c p) (a.entries + 1) left)
+    let left = all_made (Agrees a) (made_agrees a) c (transfers c (Flush p)) h in
+    subst (λ (o : Option ℕ). Agrees (record a { failed = o; entries = a.entries + 1 }) (done c (Flush p))) (sym h.unfailed) (agrees_entry a (done c (Flush p)) (a.entries + 1) left)

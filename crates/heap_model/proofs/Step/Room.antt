@@ -13,7 +13,7 @@ use Rattle.log_machine.specs.Machine.{put_record, abort_records, undo_bytes}
 use Rattle.log_machine.proofs.AbortLaws.{abort_length}
 use Rattle.log_records.specs.Record.{spelling, spellings}
 use Rattle.gated_log.specs.Log.{framed, batch, batches_bytes, records_of, pending_batch, with_batch}
-use Rattle.heap_model.specs.Core.{Core, all_words, need, full_log, forced}
+use Rattle.heap_model.specs.Core.{Core, Lands, all_words, batch_of, need, full_log, landed, made}
 
 -- the records of batches with one more
 pub records_of-append : (bs : List (List Record)) (b : List Record) → records_of (bs ++ b ∷ []) ≡ records_of bs ++ b
@@ -83,12 +83,12 @@ need-abort_records [] t (u ∷ us) = omega (arith, abort_length t (u ∷ us))
 need-abort_records (p ∷ ps) t [] = omega (arith, abort_length t [])
 need-abort_records (p ∷ ps) t (u ∷ us) = omega (arith, abort_length t (u ∷ us))
 
-force_batch : (c : Core) (p : List Record) → c.pending ≡ p → forced c p ≡ record c { batches = with_batch c.batches p; words = fold put_record c.words p; pending = [] }
+force_batch : (c : Core) (p : List Record) → c.pending ≡ p → landed c (batch_of p) ≡ record c { batches = with_batch c.batches p; words = fold put_record c.words p; pending = [] }
 force_batch c [] e = ap (λ (q : List Record). record c { pending = q }) e
 force_batch c (r ∷ rs) e = refl
 
 -- what a force leaves
-pub forced-with_batch : (c : Core) → forced c c.pending ≡ record c { batches = with_batch c.batches c.pending; words = all_words c; pending = [] }
+pub forced-with_batch : (c : Core) → made c Lands ≡ record c { batches = with_batch c.batches c.pending; words = all_words c; pending = [] }
 forced-with_batch c = force_batch c c.pending refl
 
 -- the records of batches with the pending ones

@@ -1,7 +1,7 @@
--- Why a core refuses an event is no fault of the disk, and an event says nothing to the history until it is answered.
-use Rattle.std.proofs.Common.{◌≡◌, ℕ, ◌-◌, ◌*◌, Bool, true, false, cond, List, [], ◌∷◌, Option, Some, None, refl}
+-- Why a core refuses an event is no fault of the disk.
+use Rattle.std.proofs.Common.{ℕ, ◌-◌, ◌*◌, Bool, true, false, cond, Option, Some, None}
 use Rattle.graph_model.specs.declared.event.Event.{Event}
-use Rattle.graph_model.specs.declared.event.Event.TheVariants.{New, Seal, Force, Flip, Scan, Flush}
+use Rattle.graph_model.specs.declared.event.Event.TheVariants.{New, Seal, Flush}
 use Rattle.graph_model.specs.declared.reply.Refusal.{Refusal}
 use Rattle.graph_model.specs.declared.reply.Refusal.TheVariants.{NoSuchPage, VolatileFull, Exhausted, LogFull}
 use Rattle.graph_model.specs.Graph.{Graph}
@@ -9,11 +9,8 @@ use Rattle.graph_model.specs.Transaction.{Transaction}
 use Rattle.graph_model.specs.History.{Account, account, session_of}
 use Rattle.graph_model.specs.Plain.{view, model_refusal, first_of_two, refusal_of}
 use Rattle.graph_model.proofs.Refusals.Plain.{HasNoFault, model_no_fault}
-use Rattle.log_records.specs.declared.Record.{Record}
 use Rattle.log_machine.specs.Machine.{owed, State}
-use Rattle.std.specs.Prelude.{if◌then◌else◌}
-use Rattle.heap_model.specs.Core.{Core, Ground, ground, next_number, used, need, space_refusal, seal_need, page_refusal, room_refusal, words_refusal, log_refusal, core_refusal, is_dirty, is_ahead, forced, forced_if, page_stored, own_records, barrier_records, done}
-use Rattle.heap_model.proofs.Step.Moved.{moved_history}
+use Rattle.heap_model.specs.Core.{Core, Ground, ground, next_number, used, need, space_refusal, seal_need, page_refusal, room_refusal, words_refusal, log_refusal, core_refusal}
 
 full_no_fault : (b : Bool) (used more kept : ℕ) → HasNoFault (cond b (Some (LogFull used more kept)) None)
 full_no_fault true used more kept = tt
@@ -60,20 +57,3 @@ core_refusal-HasNoFault c event =
     failed_no_fault a.failed plain (first_of_two (words_refusal c event) (log_refusal c event))
     (model_no_fault (next_number c) c.g0 a event)
     (first_no_fault (words_refusal c event) (log_refusal c event) (first_no_fault (page_refusal c.pages event) (room_refusal (ground c) c.g0 a (a.active (session_of event)) event) (pages_no_fault c.pages event) (room_no_fault (ground c) c.g0 a (a.active (session_of event)) event)) (full_no_fault _ _ _ _))
-
-forced_history : (c : Core) (p : List Record) → (forced c p).history ≡ c.history
-forced_history c [] = refl
-forced_history c (r ∷ rs) = refl
-
--- an event says nothing to the history until it is answered
-pub done_history : (c : Core) (event : Event) → (done c event).history ≡ c.history
-done_history c Force = forced_history c c.pending
-done_history c (Flush p) = flushed_history (is_dirty c p) (is_ahead c p)
-  where
-    flushed_history : (dirty ahead : Bool) → (if dirty then page_stored (forced_if ahead c) p else c).history ≡ c.history
-    flushed_history true true = forced_history c c.pending
-    flushed_history true false = refl
-    flushed_history false ahead = refl
-done_history c Flip = moved_history c (own_records c Flip)
-done_history c Scan = moved_history c (own_records c Scan)
-done_history c event = moved_history c (barrier_records c event)

@@ -28,6 +28,7 @@ use Rattle.collection_words.proofs.Copy.Named.{named, own_front}
 use Rattle.flip_laws.specs.Flip.{AreEntriesOf, IsEntryOf, copies_of}
 use Rattle.flip_laws.proofs.Heap.{root_goes}
 use Rattle.flip_laws.proofs.Roots.{entry_rooted}
+use Rattle.heap_model.proofs.Run.Calls.{same_done}
 use Rattle.heap_model.specs.Core.{Core, all_words, done, event_records, placing}
 use Rattle.core_laws.proofs.Collecting.Entries.{own_entries}
 use Rattle.core_laws.proofs.Collecting.Flip as flip
@@ -35,7 +36,6 @@ use Rattle.core_laws.specs.Valid.{IsValid, RunsLocked}
 use Rattle.limit_laws.proofs.Copies.Edges.{StandApart}
 use Rattle.limit_laws.proofs.Copies.Flips.{flip_is}
 use Rattle.limit_laws.proofs.Copies.Granted.{said_of}
-use Rattle.limit_laws.proofs.Copies.Moves.{none_graph}
 use Rattle.limit_laws.proofs.Copies.Overwritten.{IsEntryPast, KeepsPast}
 use Rattle.limit_laws.proofs.Copies.Own.{own_all}
 use Rattle.limit_laws.proofs.Copies.Past.{IsPast}
@@ -80,7 +80,7 @@ module _ (c : Core) (valid : IsValid c) (runs : RunsLocked c.g0 c.first c.histor
       ∙ ap (λ (p : Placing). p.places) (flip.placed a c valid none)
 
   graph : serial (done c Flip).g0 (said_of c Flip).sealed ≡ serial c.g0 (account c.history).sealed
-  graph = ap (λ (x : Graph). serial x (said_of c Flip).sealed) (none_graph c Flip tt) ∙ ap (serial c.g0) (still_granted c Flip tt).sealed
+  graph = ap (λ (x : Graph). serial x (said_of c Flip).sealed) (same_done c Flip).g0 ∙ ap (serial c.g0) (still_granted c Flip tt).sealed
 
   abbrev Behind : ℕ → UndoEntry → Type 0
   Behind q u = IsEntryPast (said_of c Flip) (serial (done c Flip).g0 (said_of c Flip).sealed) (done c Flip).places q u

@@ -1,6 +1,6 @@
 -- What each granted event but a seal leaves.
-use Rattle.std.proofs.Common.{◌≡◌, ◌≢◌, inl, ℕ, Bool, true, false, List, [], ◌∷◌, ◌++◌, Option, None, Some, is_some, refl, sym, ap, ◌∙◌, subst}
-use Rattle.std.specs.Prelude.{Contains, if◌then◌else◌}
+use Rattle.std.proofs.Common.{◌≡◌, ◌≢◌, inl, ℕ, List, [], ◌∷◌, ◌++◌, Option, None, Some, is_some, refl, sym, ap, ◌∙◌, subst}
+use Rattle.std.specs.Prelude.{Contains}
 use Rattle.std.specs.List.{AllByRecursion}
 use Rattle.std.proofs.lemmas.List.{append-nil}
 use Rattle.std.proofs.lemmas.Option.{same_Some}
@@ -20,7 +20,8 @@ use Rattle.log_machine.proofs.ListLaws.{AllByRecursion-map}
 use Rattle.graph_words.specs.Places.{Places, address_of}
 use Rattle.collection_words.specs.Placing.{Placing, moved_by_all}
 use Rattle.heap_model.specs.Collecting.{flip_reply, next_page, scan_event_records, scan_records_in}
-use Rattle.heap_model.specs.Core.{Core, all_words, barrier_records, done, event_records, forced, forced_if, granted_by, is_ahead, is_dirty, own_records, page_stored, placing}
+use Rattle.heap_model.specs.Core.{Core, all_words, barrier_records, done, event_records, granted_by, own_records, placing}
+use Rattle.heap_model.proofs.Run.Calls.{same_done}
 use Rattle.heap_model.proofs.Step.Moved.{moved_is}
 use Rattle.core_laws.proofs.Sessions.Actives.{called, each_session}
 use Rattle.core_laws.specs.Valid.{Agrees, IsValid}
@@ -141,22 +142,6 @@ pub none_plain : (e : Core) (event : Event) → IsOfNone event → BeginsNone (g
 none_plain e Flip is begins = plain_none (own_records e Flip) begins
 none_plain e event is begins = no_flips e event (λ never. cc never)
 
-forced_graph : (e : Core) (p : List Record) → (forced e p).g0 ≡ e.g0
-forced_graph e [] = refl
-forced_graph e (r ∷ rs) = refl
-
-flushed_graph : (e : Core) (p : ℕ) (dirty ahead : Bool) → (if dirty then page_stored (forced_if ahead e) p else e).g0 ≡ e.g0
-flushed_graph e p true true = forced_graph e e.pending
-flushed_graph e p true false = refl
-flushed_graph e p false ahead = refl
-
-pub none_graph : (e : Core) (event : Event) → IsOfNone event → (done e event).g0 ≡ e.g0
-none_graph e Force is = forced_graph e e.pending
-none_graph e (Flush p) is = flushed_graph e p (is_dirty e p) (is_ahead e p)
-none_graph e Flip is = ap (λ (x : Core). x.g0) (moved_is e (own_records e Flip))
-none_graph e Scan is = ap (λ (x : Core). x.g0) (moved_is e (own_records e Scan))
-none_graph e event is = absurd is
-
 pub none_next : (K : Id → Type 0) (g : Graph) (e : Core) (valid : IsValid e) (n : State) (event : Event) (b : Account) → IsOfNone event → BeginsNone (granted_by e event) → IsStill (account e.history) b → HasLed K g (account e.history) e valid
     → after_all valid.behind (event_records e event) ≡ Some n → IsNext K (account e.history) b e (done e event) valid.behind n
 none_next K g e valid n event b is begins still led follows =
@@ -164,7 +149,7 @@ none_next K g e valid n event b is begins still led follows =
     let placed = place_done e event is in
     let plain = none_plain e event is begins in
     record {
-      graph = ap (λ (x : Graph). serial x b.sealed) (none_graph e event is) ∙ ap (serial e.g0) still.sealed;
+      graph = ap (λ (x : Graph). serial x b.sealed) (same_done e event).g0 ∙ ap (serial e.g0) still.sealed;
       records = event_records e event;
       follows = follows;
       plain = plain;

@@ -38,6 +38,7 @@ use Rattle.collection_words.specs.LaidOut.{LeadsHere}
 use Rattle.collection_words.specs.Placing.{Placing, moved_by_all}
 use Rattle.collection_words.specs.Writes.{IsHereWrite}
 use Rattle.collection_words.proofs.Copy.Named.{named, own_front}
+use Rattle.heap_model.proofs.Run.Calls.{same_done}
 use Rattle.heap_model.specs.Core.{Core, all_words, area_in, barrier_records, behind_barrier, call_records, done, event_records, ground, next_number, next_word, own_records, placing, room_refusal, undo_with, update, view_records, write_records}
 use Rattle.heap_model.proofs.Step.Moved.{moved_is}
 use Rattle.core_laws.proofs.Sessions.Actives.{called, each_session}
@@ -51,7 +52,7 @@ use Rattle.limit_laws.proofs.Copies.Entries.{EachEntry, OfUpdate, each_after}
 use Rattle.limit_laws.proofs.Copies.Followed.{parted}
 use Rattle.limit_laws.proofs.Copies.Granted.{said_of}
 use Rattle.limit_laws.proofs.Copies.Led.{both_hold}
-use Rattle.limit_laws.proofs.Copies.Moves.{core_call, none_graph}
+use Rattle.limit_laws.proofs.Copies.Moves.{core_call}
 use Rattle.limit_laws.proofs.Copies.Own.{own_all}
 use Rattle.limit_laws.proofs.Copies.Past.{IsPast, past_locked, past_more, past_sealed, with_one}
 use Rattle.limit_laws.proofs.Copies.Quiet.{place_done, still_granted}
@@ -161,7 +162,7 @@ module _ (e : Core) (valid : IsValid e) (runs : RunsLocked e.g0 e.first e.histor
       let b = said_of e event in
       let f = done e event in
       let still = still_granted e event is in
-      let graph : serial f.g0 b.sealed ≡ serial e.g0 a.sealed = ap (λ (x : Graph). serial x b.sealed) (none_graph e event is) ∙ ap (serial e.g0) still.sealed in
+      let graph : serial f.g0 b.sealed ≡ serial e.g0 a.sealed = ap (λ (x : Graph). serial x b.sealed) (same_done e event).g0 ∙ ap (serial e.g0) still.sealed in
       past_next a b e f valid n (event_records e event) plain follows apart
       (λ id at there. ap (λ (p : Placing). address_of p.places id) (place_done e event is) ∙ ap (λ (ps : Places). address_of ps id) (sym (append-nil (moved_by_all (placing e) (event_records e event)).places)) ∙ moved_keeps e (event_records e event) plain [] id at there)
       (λ q active r t now number y old. subst (λ (x : Graph). IsPast x t y) (sym graph) (old r t (ap (λ x. x r) (sym still.active) ∙ now) number))

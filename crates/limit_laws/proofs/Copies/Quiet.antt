@@ -13,7 +13,8 @@ use Rattle.log_records.specs.declared.Record.{Record}
 use Rattle.log_machine.specs.Machine.{State}
 use Rattle.collection_words.specs.Placing.{moved_by_all}
 use Rattle.heap_model.specs.Collecting.{flip_reply, next_page, scan_reply, scan_reply_in}
-use Rattle.heap_model.specs.Core.{Core, done, event_records, forced, forced_if, granted_by, ground, is_ahead, is_dirty, moved, own_records, page_stored, placing}
+use Rattle.heap_model.specs.Core.{Core, done, event_records, granted_by, ground, is_dirty, moved, own_records, placing, transfers}
+use Rattle.heap_model.proofs.Step.Transfers.{placing_made}
 use Rattle.heap_model.proofs.Step.Moved.{moved_is}
 use Rattle.limit_laws.specs.Copies.{IsOfNone}
 
@@ -59,22 +60,13 @@ still_granted c event is = absurd is
 
 -- The placing.
 
-place_forced : (c : Core) (p : List Record) → placing (forced c p) ≡ placing c
-place_forced c [] = refl
-place_forced c (r ∷ rs) = refl
-
-place_flushed : (c : Core) (p : ℕ) (dirty ahead : Bool) → placing (if dirty then page_stored (forced_if ahead c) p else c) ≡ placing c
-place_flushed c p true true = place_forced c c.pending
-place_flushed c p true false = refl
-place_flushed c p false ahead = refl
-
 place_moved : (c : Core) (rs : List Record) → placing (moved c rs) ≡ moved_by_all (placing c) rs
 place_moved c rs = ap placing (moved_is c rs)
 
 -- an event of no session leaves objects where its records move them
 pub place_done : (c : Core) (event : Event) → IsOfNone event → placing (done c event) ≡ moved_by_all (placing c) (event_records c event)
-place_done c Force is = place_forced c c.pending
-place_done c (Flush p) is = place_flushed c p (is_dirty c p) (is_ahead c p)
+place_done c Force is = placing_made c (transfers c Force)
+place_done c (Flush p) is = placing_made c (transfers c (Flush p))
 place_done c Flip is = place_moved c (own_records c Flip)
 place_done c Scan is = place_moved c (own_records c Scan)
 place_done c event is = absurd is

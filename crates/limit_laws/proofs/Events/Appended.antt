@@ -1,23 +1,13 @@
 -- What an event adds to the records of a core: those that it appends, whether they are pending or forced.
-use Rattle.std.proofs.Common.{◌≡◌, ℕ, Bool, true, false, List, [], ◌∷◌, ◌++◌, refl, sym, ap, ◌∙◌, append_assoc}
-use Rattle.std.specs.Prelude.{if◌then◌else◌}
+use Rattle.std.proofs.Common.{◌≡◌, List, ◌++◌, sym, ap, ◌∙◌, append_assoc}
 use Rattle.std.proofs.lemmas.List.{append-nil}
 use Rattle.graph_model.specs.declared.event.Event.{Event}
 use Rattle.graph_model.specs.declared.event.Event.TheVariants.{Force, Flip, Scan, Flush}
 use Rattle.log_records.specs.declared.Record.{Record}
 use Rattle.gated_log.specs.Log.{records_of}
-use Rattle.heap_model.specs.Core.{Core, all_records, barrier_records, done, event_records, forced, forced_if, is_ahead, is_dirty, moved, own_records, page_stored}
+use Rattle.heap_model.specs.Core.{Core, all_records, barrier_records, done, event_records, moved, noted, own_records, transfers}
 use Rattle.heap_model.proofs.Step.Moved.{moved_is}
-use Rattle.heap_model.proofs.Step.Room.{records_of-append}
-
-all_forced : (c : Core) (p : List Record) → c.pending ≡ p → all_records (forced c p) ≡ all_records c
-all_forced c [] is = refl
-all_forced c (r ∷ rs) is = append-nil (records_of (c.batches ++ (r ∷ rs) ∷ [])) ∙ records_of-append c.batches (r ∷ rs) ∙ ap (λ (l : List Record). records_of c.batches ++ l) (sym is)
-
-all_flushed : (c : Core) (p : ℕ) (dirty ahead : Bool) → all_records (if dirty then page_stored (forced_if ahead c) p else c) ≡ all_records c
-all_flushed c p true true = all_forced c c.pending refl
-all_flushed c p true false = refl
-all_flushed c p false ahead = refl
+use Rattle.heap_model.proofs.Step.Transfers.{records_made}
 
 all_moved : (c : Core) (rs : List Record) → all_records (moved c rs) ≡ all_records c ++ rs
 all_moved c rs = ap all_records (moved_is c rs) ∙ sym (append_assoc (records_of c.batches) c.pending rs)
@@ -29,10 +19,13 @@ more_moved c rs own =
     ∙ ap (λ (l : List Record). l ++ own) (sym (append_assoc (records_of c.batches) c.pending rs))
     ∙ append_assoc (all_records c) rs own
 
+all_noted : (c : Core) (event : Event) → all_records (noted c event) ≡ all_records c ++ event_records c event
+all_noted c Force = sym (append-nil (all_records c))
+all_noted c (Flush p) = sym (append-nil (all_records c))
+all_noted c Flip = all_moved c (own_records c Flip)
+all_noted c Scan = all_moved c (own_records c Scan)
+all_noted c event = more_moved c (barrier_records c event) (own_records c event)
+
 -- an event that is granted leaves the records that it appends after the others
 pub all_done : (c : Core) (event : Event) → all_records (done c event) ≡ all_records c ++ event_records c event
-all_done c Force = all_forced c c.pending refl ∙ sym (append-nil (all_records c))
-all_done c (Flush p) = all_flushed c p (is_dirty c p) (is_ahead c p) ∙ sym (append-nil (all_records c))
-all_done c Flip = all_moved c (own_records c Flip)
-all_done c Scan = all_moved c (own_records c Scan)
-all_done c event = more_moved c (barrier_records c event) (own_records c event)
+all_done c event = records_made (noted c event) (transfers c event) ∙ all_noted c event

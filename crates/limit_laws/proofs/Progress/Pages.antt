@@ -269,7 +269,7 @@ all_rise c d events reached sessions run none =
     let pages = first_pages h.behind h.told.heap.spaced.first in
     let same = since_run c d events run in
     let all = run_through c d events run reached sessions pages.0 pages.0 (pages.0 + h.behind.pages) (subst (AllByRecursion (λ (entry : Entry). BeginsNone entry.reply)) same none) pages.1 (omega arith)
-    (gray_first (record (account c.history) { failed = None }) c h pages.0 (pages.0 + h.behind.pages) pages.1) in (
+    (gray_first (record (account c.history) { failed = None; in_doubt = None }) c h pages.0 (pages.0 + h.behind.pages) pages.1) in (
       pages.0,
       subst (λ (n : ℕ). Rises pages.0 (scanned_pages (since c d)) (pages.0 + n)) (behind_pages c reached)
           (subst (λ (es : List Entry). Rises pages.0 (scanned_pages es) (pages.0 + h.behind.pages)) (sym same) all),

@@ -10,7 +10,8 @@ use Rattle.graph_model.proofs.Runs.History.{account-append}
 use Rattle.graph_model.specs.Plain.{reply_of}
 use Rattle.graph_model.proofs.Refusals.Plain.{IsNoFault, HasNoFault, account_after-refused}
 use Rattle.heap_model.specs.Core.{Core, core_refusal, granted_by, answer, with_entry, done, after_refusal, after}
-use Rattle.heap_model.proofs.Step.Step.{core_refusal-HasNoFault, done_history}
+use Rattle.heap_model.proofs.Step.Step.{core_refusal-HasNoFault}
+use Rattle.heap_model.proofs.Step.Transfers.{done_history}
 use Rattle.heap_memory.specs.Leaves.{IsAsItWas}
 use Rattle.heap_memory.specs.Memory.{Memory}
 use Rattle.memory_laws.specs.CoreMemory.{IsMemory}

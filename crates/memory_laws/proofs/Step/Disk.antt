@@ -1,6 +1,6 @@
 -- What a force and the store of a page leave in memory.
 use Rattle.std.proofs.Common.{◌≡◌, ◌≢◌, ℕ, ◌<◌, max, Bool, true, false, cond, List, [], ◌++◌, length, get_or, refl, sym, ap, ◌∙◌, subst, arith}
-use Rattle.std.specs.Prelude.{◌==◌, slice_index, IsFalse}
+use Rattle.std.specs.Prelude.{◌==◌, IsFalse}
 use Rattle.std.proofs.lemmas.Bool.{eqb-true, eqb-false}
 use Rattle.std.proofs.lemmas.List.{append-nil}
 use Rattle.gated_log.specs.Log.{records_of, with_batch}
@@ -12,7 +12,7 @@ use Rattle.page_redo.specs.Pages.{pages_in}
 use Rattle.page_redo.specs.Redo.{last_lsn}
 use Rattle.page_store.specs.StoreState.{store_plan, stored_lsn, has_failed}
 use Rattle.heap_memory.specs.Memory.{Memory}
-use Rattle.heap_model.specs.Core.{Core, Ground, ground, all_records, all_words, present_lsn, state_behind, forced, page_stored}
+use Rattle.heap_model.specs.Core.{Core, Ground, ground, all_records, all_words, present_lsn, state_behind, Lands, Stores, made}
 use Rattle.heap_model.proofs.Step.Room.{forced-with_batch, records_of-with_batch}
 use Rattle.memory_laws.proofs.Kept.Same.{same_pages, same_sessions}
 use Rattle.memory_laws.specs.CoreMemory.{ArePages, AreSessions, IsMemory}
@@ -33,7 +33,7 @@ records_forced bs p = append-nil (records_of (with_batch bs p)) ∙ records_of-w
 
 -- what was pending is on the disk
 pub forced_memory : (m n : Memory) (a : Account) (c : Core) → IsMemory m a c → Keeps n.log (with_batch c.batches c.pending) [] → log_place n.log ≡ log_place m.log → log_room n.log ≡ log_room m.log
-    → HasSameWork m n → n.store ≡ m.store → IsMemory n a (forced c c.pending)
+    → HasSameWork m n → n.store ≡ m.store → IsMemory n a (made c Lands)
 forced_memory m n a c is keeps at room same store =
     let records = records_forced c.batches c.pending in
     let d = record c { batches = with_batch c.batches c.pending; words = all_words c; pending = [] } in
@@ -50,30 +50,28 @@ forced_memory m n a c is keeps at room same store =
     })
 
 -- a page that is stored has the LSN that it had
-still_present : (c : Core) (q : ℕ) (stored : Bool) → present_lsn c q ≡ max (cond stored (present_lsn c q) (c.stored_lsns q)) (last_lsn q 1 (all_records c))
-still_present c q true = omega arith
-still_present c q false = refl
+still_present : (c : Core) (p lsn q : ℕ) → lsn ≡ present_lsn c p → (b : Bool) → (q == p) ≡ b → present_lsn c q ≡ max (cond b lsn (c.stored_lsns q)) (last_lsn q 1 (all_records c))
+still_present c p lsn q is true e = let here = ap (present_lsn c) (eqb-true q p e) in omega (arith, is, here)
+still_present c p lsn q is false e = refl
 
 -- it is known to be stored with that one, and each other page with the one that it was stored with
-known_stored : (m n : Memory) (a : Account) (c : Core) (p : ℕ) → IsMemory m a c → p < pages_in c.pages → stored_lsn n.store p ≡ slice_index m.lsns p
-    → ((q : ℕ) → q ≢ p → stored_lsn n.store q ≡ stored_lsn m.store q) → (q : ℕ) → q < pages_in c.pages → (b : Bool) → (q == p) ≡ b → stored_lsn n.store q ≡ cond b (present_lsn c q) (c.stored_lsns q)
-known_stored m n a c p is lt stored others q within true e =
-    let same = eqb-true q p e in
-    ap (stored_lsn n.store) same ∙ stored ∙ is.pages.now p lt ∙ ap (present_lsn c) (sym same)
-known_stored m n a c p is lt stored others q within false e = others q (eqb-false q p e) ∙ is.pages.flushed q within
+known_stored : (m n : Memory) (a : Account) (c : Core) (p lsn : ℕ) → IsMemory m a c → stored_lsn n.store p ≡ lsn
+    → ((q : ℕ) → q ≢ p → stored_lsn n.store q ≡ stored_lsn m.store q) → (q : ℕ) → q < pages_in c.pages → (b : Bool) → (q == p) ≡ b → stored_lsn n.store q ≡ cond b lsn (c.stored_lsns q)
+known_stored m n a c p lsn is stored others q within true e = ap (stored_lsn n.store) (eqb-true q p e) ∙ stored
+known_stored m n a c p lsn is stored others q within false e = others q (eqb-false q p e) ∙ is.pages.flushed q within
 
 -- a page was stored as it is
-pub stored_memory : (m n : Memory) (a : Account) (c : Core) (p : ℕ) → IsMemory m a c → n.log ≡ m.log → HasSameWork m n → store_plan n.store ≡ store_plan m.store → IsFalse (has_failed n.store)
-    → stored_lsn n.store p ≡ slice_index m.lsns p → ((q : ℕ) → q ≢ p → stored_lsn n.store q ≡ stored_lsn m.store q) → p < pages_in c.pages → IsMemory n a (page_stored c p)
-stored_memory m n a c p is log same plan unfailed stored others lt = record {
+pub stored_memory : (m n : Memory) (a : Account) (c : Core) (p lsn : ℕ) → IsMemory m a c → n.log ≡ m.log → HasSameWork m n → store_plan n.store ≡ store_plan m.store → IsFalse (has_failed n.store)
+    → lsn ≡ present_lsn c p → stored_lsn n.store p ≡ lsn → ((q : ℕ) → q ≢ p → stored_lsn n.store q ≡ stored_lsn m.store q) → IsMemory n a (made c (Stores p lsn))
+stored_memory m n a c p lsn is log same plan unfailed present stored others = record {
   log = subst (λ (l : Log). Keeps l c.batches c.pending) (sym log) is.log;
   place = ap log_place log ∙ is.place;
   room = ap log_room log ∙ is.room;
   words = same.words ∙ is.words;
   pages = record {
     number = ap (λ (l : List ℕ). length l) same.lsns ∙ is.pages.number;
-    now = λ q within. ap (λ (l : List ℕ). get_or l q 0) same.lsns ∙ is.pages.now q within ∙ still_present c q (q == p);
-    flushed = λ q within. known_stored m n a c p is lt stored others q within (q == p) refl;
+    now = λ q within. ap (λ (l : List ℕ). get_or l q 0) same.lsns ∙ is.pages.now q within ∙ still_present c p lsn q present (q == p) refl;
+    flushed = λ q within. known_stored m n a c p lsn is stored others q within (q == p) refl;
     plan = plan ∙ is.pages.plan;
     unfailed = unfailed;
   };

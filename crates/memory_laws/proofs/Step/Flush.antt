@@ -1,12 +1,13 @@
 -- A flush is answered as the core answers it, and leaves memory as the core is then.
 use Rattle.std.proofs.Common.{◌≡◌, ℕ, ◌+◌, ◌<◌, ◌≤◌, Bool, true, false, cond, None, Some, refl, sym, ap, ◌∙◌, subst}
+use Rattle.std.specs.Prelude.{fold}
 use Rattle.graph_model.specs.declared.event.Event.TheVariants.{Flush}
 use Rattle.graph_model.specs.declared.reply.Refusal.TheVariants.{NoSuchPage}
 use Rattle.graph_model.specs.declared.reply.Reply.{Reply}
 use Rattle.graph_model.specs.declared.reply.Reply.TheVariants.{Flushed, Clean, Refused}
 use Rattle.graph_model.specs.History.{Account, account, account_after}
 use Rattle.page_redo.specs.Pages.{pages_in}
-use Rattle.heap_model.specs.Core.{Core, granted_by, is_dirty, is_ahead, forced_if, page_stored, flushed}
+use Rattle.heap_model.specs.Core.{Core, granted_by, present_lsn, is_dirty, is_ahead, made, storing, done}
 use Rattle.core_laws.proofs.Step.Flush.{flush_granted, flush_refused}
 use Rattle.core_laws.specs.Valid.{IsValid}
 use Rattle.heap_memory.specs.Memory.{Memory}
@@ -20,10 +21,10 @@ flush_adds a p true = refl
 flush_adds a p false = refl
 
 -- so memory in which the page is stored is that of the core then
-flush_goes : (new : Memory) (c : Core) (p : ℕ) → IsMemory new (account c.history) (flushed c p) → Goes new c (Flush p)
+flush_goes : (new : Memory) (c : Core) (p : ℕ) → IsMemory new (account c.history) (done c (Flush p)) → Goes new c (Flush p)
 flush_goes new c p is =
     let a = account c.history in
-    subst (λ (b : Account). IsMemory new b (flushed c p)) (sym (flush_adds a p (is_dirty c p))) (memory_told new a (flushed c p) a.acknowledged (a.entries + 1) is)
+    subst (λ (b : Account). IsMemory new b (done c (Flush p))) (sym (flush_adds a p (is_dirty c p))) (memory_told new a (done c (Flush p)) a.acknowledged (a.entries + 1) is)
 
 -- a flush of no page of the heap is refused
 pub flush_no_page : (new : Memory) (c : Core) (p : ℕ) (reply : Reply) → IsValid c → pages_in c.pages ≤ p → IsMemory new (account c.history) c → reply ≡ Refused NoSuchPage → Does c (Flush p) reply new
@@ -34,12 +35,12 @@ flush_no_page new c p reply valid past is replied =
 pub flush_clean : (new : Memory) (c : Core) (p : ℕ) (reply : Reply) → IsValid c → p < pages_in c.pages → is_dirty c p ≡ false → IsMemory new (account c.history) c → reply ≡ Clean p
     → Does c (Flush p) reply new
 flush_clean new c p reply valid lt clean is replied =
-    let same : flushed c p ≡ c = ap (λ (b : Bool). cond b (page_stored (forced_if (is_ahead c p) c) p) c) clean in
+    let same : done c (Flush p) ≡ c = ap (λ (b : Bool). fold made c (storing b (is_ahead c p) p (present_lsn c p))) clean in
     does c (Flush p) None (Clean p) reply new (flush_granted c p valid lt) replied (λ e. ap (λ (b : Bool). cond b (Flushed p) (Clean p)) clean)
     (λ e clean_it. flush_goes new c p (subst (IsMemory new (account c.history)) (sym same) is)) (λ why e. is)
 
 -- and one of a page that has changed stores it
-pub flush_done : (new : Memory) (c : Core) (p : ℕ) (reply : Reply) → IsValid c → p < pages_in c.pages → is_dirty c p ≡ true → IsMemory new (account c.history) (flushed c p) → reply ≡ Flushed p
+pub flush_done : (new : Memory) (c : Core) (p : ℕ) (reply : Reply) → IsValid c → p < pages_in c.pages → is_dirty c p ≡ true → IsMemory new (account c.history) (done c (Flush p)) → reply ≡ Flushed p
     → Does c (Flush p) reply new
 flush_done new c p reply valid lt dirty is replied =
     does c (Flush p) None (Flushed p) reply new (flush_granted c p valid lt) replied (λ e. ap (λ (b : Bool). cond b (Flushed p) (Clean p)) dirty)

@@ -9,7 +9,7 @@ use Rattle.graph_model.specs.declared.reply.Entry.{Entry}
 use Rattle.graph_model.specs.declared.reply.Refusal.TheVariants.{Failed}
 use Rattle.graph_model.specs.declared.reply.Reply.{Reply}
 use Rattle.graph_model.specs.declared.reply.Reply.TheVariants.{Refused}
-use Rattle.heap_model.specs.Core.{calls}
+use Rattle.heap_model.specs.Core.{calls, cut}
 use Rattle.heap_model.proofs.Run.Calls.{same_step}
 use Rattle.memory_laws.proofs.Kept.Log.{some_waits}
 use Rattle.heap_core.proofs.Collects.{collects_as_told}
@@ -21,6 +21,7 @@ use Rattle.heap_engine.specs.declared.step_error.StepError.{StepError}
 use Rattle.heap_engine.specs.Refinement.{IsLeftByStep, CameTo}
 use Rattle.heap_engine.specs.StepResult.{engine_device, StepPasses}
 use Rattle.heap_engine.proofs.DeviceCalls.{stays}
+use Rattle.heap_engine.proofs.EventCore.{left_cut}
 use Rattle.heap_core.proofs.KeptEntries.{room_one, room_left, room_lacking}
 use Rattle.heap_core.proofs.in_memory.HeapCore.step_on.Goals as goal
 
@@ -28,7 +29,8 @@ pub returns-in_err-make_room-clause-moments : goal.returns-in_err-make_room-clau
 returns-in_err-make_room-clause-moments g c tells s core heap reached =
     let d = g.E.Disk in
     let disk = c.args.disk.now in
-    stays d.moment d.left_since disk (d.may_leave disk) (IsLeftByStep core (d.bytes disk)) (g.met.E.Disk.only_now tells disk) (heap_left s core _ _ heap.disk reached.sound)
+    stays d.moment d.left_since disk (d.may_leave disk) (IsLeftByStep (cut core c.args.event) (d.bytes disk)) (g.met.E.Disk.only_now tells disk)
+    (λ image left. left_cut core c.args.event _ image reached.sound (heap_left s core _ _ heap.disk reached.sound image left))
 
 -- The heap had failed.
 
@@ -77,7 +79,8 @@ pub returns-in-Some-clause-moments : goal.returns-in-Some-clause-moments
 returns-in-Some-clause-moments g c tells s core heap reached =
     let d = g.E.Disk in
     let disk = c.args.disk.now in
-    stays d.moment d.left_since disk (d.may_leave disk) (IsLeftByStep core (d.bytes disk)) (g.met.E.Disk.only_now tells disk) (heap_left s core _ _ heap.disk reached.sound)
+    stays d.moment d.left_since disk (d.may_leave disk) (IsLeftByStep (cut core c.args.event) (d.bytes disk)) (g.met.E.Disk.only_now tells disk)
+    (λ image left. left_cut core c.args.event _ image reached.sound (heap_left s core _ _ heap.disk reached.sound image left))
 
 pub returns-in-Some-clause-passes : goal.returns-in-Some-clause-passes
 returns-in-Some-clause-passes g c tells core heap reached =
@@ -180,9 +183,9 @@ returns-in-Err-Disk-clause-core g c core heap reached =
     let engine = heap.engine c.in_default.is in
     let err = c.in-Err-Disk.is ∙ ap Err c.in-Err-Disk.field-0-is in
     let P : Result Reply StepError → Type 0 = λ r. CameTo g.E.Disk core c.args.event c.step_on.new.self c.step_on.new.disk r in
-    let cut = subst P err (c.step_on.ensures.core.core core engine reached) in
+    let came = subst P err (c.step_on.ensures.core.core core engine reached) in
     let known = some_waits _ core.batches core.pending engine.memory.log in
-    let steps = cut_steps g.E.Disk core c.args.event c.cut_short.result c.step_on.new.self c.step_on.new.disk c.len.result c.pending-pending.result _ engine.unfailed cut c.cut_short.ensures.told
+    let steps = cut_steps g.E.Disk core c.args.event c.cut_short.result c.step_on.new.self c.step_on.new.disk c.len.result c.pending-pending.result _ engine.unfailed came c.cut_short.ensures.told
     (c.len.ensures.value ∙ ap (λ (l : List Entry). length l) (c.make_room.ensures.same ∙ heap.history)) refl (λ yes. known.0 (sym c.pending-pending.ensures ∙ yes), λ some. c.pending-pending.ensures ∙ known.1 some) in
     rw c.entered-in-Err-Disk.ensures.reply (
       steps.next,
@@ -210,9 +213,9 @@ returns-in-Err-Disk-clause-holds g c tells s core heap reached =
     let engine = heap.core.engine c.in_default.is in
     let err = c.in-Err-Disk.is ∙ ap Err c.in-Err-Disk.field-0-is in
     let P : Result Reply StepError → Type 0 = λ r. CameTo g.E.Disk core c.args.event c.step_on.new.self c.step_on.new.disk r in
-    let cut = subst P err (c.step_on.ensures.core.core core engine reached) in
+    let came = subst P err (c.step_on.ensures.core.core core engine reached) in
     let known = some_waits _ core.batches core.pending engine.memory.log in
-    let steps = cut_steps g.E.Disk core c.args.event c.cut_short.result c.step_on.new.self c.step_on.new.disk c.len.result c.pending-pending.result _ engine.unfailed cut c.cut_short.ensures.told
+    let steps = cut_steps g.E.Disk core c.args.event c.cut_short.result c.step_on.new.self c.step_on.new.disk c.len.result c.pending-pending.result _ engine.unfailed came c.cut_short.ensures.told
     (c.len.ensures.value ∙ ap (λ (l : List Entry). length l) (c.make_room.ensures.same ∙ heap.core.history)) refl (λ yes. known.0 (sym c.pending-pending.ensures ∙ yes), λ some. c.pending-pending.ensures ∙ known.1 some) in
     rw c.entered-in-Err-Disk.ensures.reply (
       steps.next,
@@ -226,7 +229,7 @@ returns-in-Err-Disk-clause-holds g c tells s core heap reached =
         };
         disk =
             let run = (c.step_on.ensures.holds tells).moments s core engine reached (heap.disk.unfailed engine.unfailed) in
-            cut_on s core c.args.event c.cut_short.result _ _ _ (c.len.result + 1) heap.disk.born cut.some c.cut_short.ensures.told steps.memory.failure
+            cut_on s core c.args.event c.cut_short.result _ _ _ (c.len.result + 1) heap.disk.born came.some c.cut_short.ensures.told steps.memory.failure
             (g.met.E.Disk.reads_an_image tells c.step_on.new.disk) (λ image left. run.each image (g.met.E.Disk.counts_now tells c.step_on.new.disk _ image run.later left));
       },
     )

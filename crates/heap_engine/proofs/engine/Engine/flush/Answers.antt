@@ -4,15 +4,17 @@ use Rattle.graph_model.specs.declared.event.Event.TheVariants.{Flush}
 use Rattle.graph_model.specs.History.{account}
 use Rattle.graph_model.specs.declared.reply.Reply.TheVariants.{Flushed}
 use Rattle.core_laws.specs.Valid.{IsReached}
-use Rattle.heap_model.specs.Core.{Core}
+use Rattle.heap_model.specs.Core.{Core, cut}
 use Rattle.memory_laws.specs.CoreMemory.{IsMemory}
-use Rattle.core_laws.proofs.Step.Flush.{calls-flushed}
+use Rattle.core_laws.proofs.Step.Flush.{flush_granted}
+use Rattle.heap_model.proofs.Run.Calls.{calls-granted}
 use Rattle.core_laws.proofs.Step.Events.{valid_after}
 use Rattle.memory_laws.proofs.Step.Flush.{flush_no_page, flush_clean, flush_done}
 use Rattle.heap_engine.specs.declared.step_error.StepError.TheVariants.{Disk}
 use Rattle.heap_engine.specs.EngineState.{memory}
-use Rattle.heap_engine.specs.Refinement.{IsEngine}
-use Rattle.heap_engine.proofs.EventCore.{engine_valid, engine_after, knows_as, cut_short}
+use Rattle.heap_engine.specs.Refinement.{IsEngine, IsLeftByStep}
+use Rattle.disk_model.proofs.MomentLaws.{weaker}
+use Rattle.heap_engine.proofs.EventCore.{engine_valid, engine_after, knows_as, left_cut, cut_short}
 use Rattle.heap_engine.proofs.FlushCore.{past, is_there, left_refused, left_flushed, left_clean, refused_calls, clean_calls, dirty_calls, knows_left, disk_left, idle_steps, idle_on}
 use Rattle.heap_engine.proofs.StoreCore.{within, dirty_is}
 use Rattle.heap_engine.proofs.engine.Engine.flush.Goals as goal
@@ -87,10 +89,12 @@ returns-clause-holds g c tells =
           let valid = engine_valid d core e c.args.disk.now is reached in
           disk_left core _ p (left_flushed core p valid (within core e p is.memory page)) s _ _ (c.in_ok-store.ensures.holds tells s core is.memory (knows_as core (memory e) _ _ refl (is.pages tells)) disk);
       moments = λ s core is reached disk.
-          c.store.ensures.moments tells s core is.memory (knows_as core (memory e) _ _ refl (is.pages tells)) disk reached.sound;
+          weaker d.moment d.left_since c.args.disk.now c.store.new.disk (IsLeftByStep core (d.bytes c.args.disk.now)) (IsLeftByStep (cut core (Flush p)) (d.bytes c.args.disk.now))
+          (c.store.ensures.moments tells s core is.memory (knows_as core (memory e) _ _ refl (is.pages tells)) disk reached.sound)
+          (λ image left. left_cut core (Flush p) _ image reached.sound left);
       passes = λ core is reached.
           let valid = engine_valid d core e c.args.disk.now is reached in
-          subst (λ (n : ℕ). Passes n (d.passed c.args.disk.now) (d.passed c.store.new.disk) (Ok tt)) (sym (calls-flushed core p valid (within core e p is.memory page)))
+          subst (λ (n : ℕ). Passes n (d.passed c.args.disk.now) (d.passed c.store.new.disk) (Ok tt)) (sym (calls-granted core (Flush p) (flush_granted core p valid (within core e p is.memory page))))
           (c.in_ok-store.ensures.passes tells core is.memory (knows_as core (memory e) _ _ refl (is.pages tells)));
     }
 
@@ -124,9 +128,11 @@ returns-in_err-store-clause-holds g c tells =
     rw err (record {
       holds = λ s core is reached disk. tt;
       moments = λ s core is reached disk.
-          c.store.ensures.moments tells s core is.memory (knows_as core (memory old) _ _ refl (is.pages tells)) disk reached.sound;
+          weaker d.moment d.left_since c.args.disk.now c.store.new.disk (IsLeftByStep core (d.bytes c.args.disk.now)) (IsLeftByStep (cut core (Flush p)) (d.bytes c.args.disk.now))
+          (c.store.ensures.moments tells s core is.memory (knows_as core (memory old) _ _ refl (is.pages tells)) disk reached.sound)
+          (λ image left. left_cut core (Flush p) _ image reached.sound left);
       passes = λ core is reached.
           let valid = engine_valid d core old c.args.disk.now is reached in
-          subst (λ (n : ℕ). Passes n (d.passed c.args.disk.now) (d.passed c.store.new.disk) (Err e)) (sym (calls-flushed core p valid (within core old p is.memory page)))
+          subst (λ (n : ℕ). Passes n (d.passed c.args.disk.now) (d.passed c.store.new.disk) (Err e)) (sym (calls-granted core (Flush p) (flush_granted core p valid (within core old p is.memory page))))
           (c.in_err-store.ensures.passes tells core is.memory (knows_as core (memory old) _ _ refl (is.pages tells)));
     })

@@ -7,7 +7,8 @@ use Rattle.heap_engine.specs.declared.step_error.StepError.TheVariants.{Disk}
 use Rattle.heap_engine.specs.EngineState.{memory}
 use Rattle.heap_engine.specs.Refinement.{IsLeftByStep}
 use Rattle.heap_engine.proofs.DeviceCalls.{force_passes, no_calls_empty}
-use Rattle.heap_engine.proofs.EventCore.{engine_valid, engine_after}
+use Rattle.heap_model.specs.Core.{cut}
+use Rattle.heap_engine.proofs.EventCore.{left_cut, engine_valid, engine_after}
 use Rattle.heap_engine.proofs.ForceCore.{same_log, keeps, holds, knows_forced, force_does, forced_on, force_leaves, force_cut_short}
 use Rattle.heap_engine.proofs.Spare.{spare_forced}
 use Rattle.heap_engine.proofs.engine.Engine.force.Goals as goal
@@ -46,9 +47,9 @@ returns-clause-holds g c tells =
           forced_on core old log is.memory same s _ _ disk _ _ valid both.1 (c.in_ok-force.ensures.outside tells) (c.in_ok-force.ensures.durable tells disk.only);
       moments = λ s core is reached disk.
           let same = same_log old.log in
-          weaker d.moment d.left_since c.args.disk.now c.force.new.disk _ (IsLeftByStep core (d.bytes c.args.disk.now))
+          weaker d.moment d.left_since c.args.disk.now c.force.new.disk _ (IsLeftByStep (cut core Force) (d.bytes c.args.disk.now))
           (c.force.ensures.moments tells disk.only core.batches core.pending (keeps core old log is.memory same) (holds core old log is.memory same s _ _ disk))
-          (λ image. force_leaves core old log is.memory same s _ _ disk image reached.sound);
+          (λ image found. left_cut core Force _ image reached.sound (force_leaves core old log is.memory same s _ _ disk image reached.sound found));
       passes = λ core is reached.
           force_passes core log _ _ (Ok tt) (engine_valid d core old c.args.disk.now is reached) (keeps core old log is.memory (same_log old.log)) (c.in_ok-force.ensures.passes tells);
     }
@@ -81,9 +82,9 @@ returns-in_err-force-clause-holds g c tells =
       holds = λ s core is reached disk. tt;
       moments = λ s core is reached disk.
           let same = same_log old.log in
-          weaker d.moment d.left_since c.args.disk.now c.force.new.disk _ (IsLeftByStep core (d.bytes c.args.disk.now))
+          weaker d.moment d.left_since c.args.disk.now c.force.new.disk _ (IsLeftByStep (cut core Force) (d.bytes c.args.disk.now))
           (c.force.ensures.moments tells disk.only core.batches core.pending (keeps core old log is.memory same) (holds core old log is.memory same s _ _ disk))
-          (λ image. force_leaves core old log is.memory same s _ _ disk image reached.sound);
+          (λ image found. left_cut core Force _ image reached.sound (force_leaves core old log is.memory same s _ _ disk image reached.sound found));
       passes = λ core is reached.
           force_passes core log _ _ (Err e) (engine_valid d core old c.args.disk.now is reached) (keeps core old log is.memory (same_log old.log)) (c.in_err-force.ensures.passes tells);
     })

@@ -1,5 +1,6 @@
 use Rattle.std.proofs.Common.{rules, ◌≡◌, ℕ, ◌+◌, Bool, Err, refl, sym, ap, ◌∙◌, subst, arith, ⊎_elim}
-use Rattle.std.specs.Prelude.{is_err}
+use Rattle.std.specs.Prelude.{fold, is_err}
+use Rattle.graph_model.specs.declared.event.Event.TheVariants.{Flush}
 use Rattle.disk_model.specs.Disk.{part}
 use Rattle.disk_model.proofs.MomentLaws.{joined, weaker}
 use Rattle.gate_slot.specs.Passing.{Passes}
@@ -7,7 +8,7 @@ use Rattle.gated_log.specs.Log.{HoldsBatches}
 use Rattle.gated_log.specs.LogState.{log_place, log_room, log_count, Keeps}
 use Rattle.page_cache.specs.CacheState.{cached}
 use Rattle.page_redo.specs.Redo.{EachLacks}
-use Rattle.heap_model.specs.Core.{forced_if, flush_calls}
+use Rattle.heap_model.specs.Core.{made, landing, transfers, calls_of}
 use Rattle.page_redo.specs.Pages.{Pages}
 use Rattle.heap_engine.specs.Refinement.{IsLeftByStep}
 use Rattle.heap_engine.proofs.ForceCore.{force_leaves}
@@ -27,7 +28,7 @@ pub returns-clause-memory : goal.returns-clause-memory
 returns-clause-memory g c core works =
     let w = c.args.self.now in
     let log = c.force_up_to.new.log in
-    let keeps = subst (λ (b : Bool). Keeps log (forced_if b core).batches (forced_if b core).pending) (ahead_is core w c.args.p works c.requires.page c.lsn.result c.lsn.ensures.value) (c.in_ok-force_up_to.ensures.kept core works.log) in
+    let keeps = subst (λ (b : Bool). Keeps log (fold made core (landing b)).batches (fold made core (landing b)).pending) (ahead_is core w c.args.p works c.requires.page c.lsn.result c.lsn.ensures.value) (c.in_ok-force_up_to.ensures.kept core works.log) in
     when_ok c.flush.result (λ x is.
     flushed_memory core w c.args.p works c.requires.page _ c.requires.dirty keeps c.force_up_to.ensures.at c.force_up_to.ensures.same_room
     (record { words = ap (λ (x : Pages). x.words) c.flush.ensures.pages; lsns = ap (λ (x : Pages). x.lsns) c.flush.ensures.pages; table = refl; locks = refl; spaces = refl; collection = refl; sealed = refl })
@@ -54,8 +55,8 @@ returns-clause-holds g c tells s core works pages disk =
     let old = g.D.Disk.bytes c.args.disk.now in
     let mid = g.D.Disk.bytes c.force_up_to.new.disk in
     let knows = knows_mid core w p works c.requires.page old mid old pages outside in
-    let keeps = subst (λ (b : Bool). Keeps log (forced_if b core).batches (forced_if b core).pending) ahead (c.in_ok-force_up_to.ensures.kept core works.log) in
-    let stands = subst (λ (b : Bool). HoldsBatches (part mid (log_place w.log) (log_room w.log)) (forced_if b core).batches) ahead
+    let keeps = subst (λ (b : Bool). Keeps log (fold made core (landing b)).batches (fold made core (landing b)).pending) ahead (c.in_ok-force_up_to.ensures.kept core works.log) in
+    let stands = subst (λ (b : Bool). HoldsBatches (part mid (log_place w.log) (log_room w.log)) (fold made core (landing b)).batches) ahead
     (c.in_ok-force_up_to.ensures.held tells core works.log (log_held s core w old _ works disk)) in
     let behind = not_ahead core w p works c.requires.page log c.lsn.result c.lsn.ensures.value c.in_ok-force_up_to.ensures.forced keeps in
     when_ok c.flush.result (λ x is.
@@ -74,8 +75,8 @@ returns-clause-moments g c tells s core works pages disk sound =
     let mid = d.bytes c.force_up_to.new.disk in
     let knows = knows_mid core w p works c.requires.page old mid old pages outside in
     let held = log_held s core w old _ works disk in
-    let keeps = subst (λ (b : Bool). Keeps log (forced_if b core).batches (forced_if b core).pending) ahead (c.in_ok-force_up_to.ensures.kept core works.log) in
-    let stands = subst (λ (b : Bool). HoldsBatches (part mid (log_place w.log) (log_room w.log)) (forced_if b core).batches) ahead (c.in_ok-force_up_to.ensures.held tells core works.log held) in
+    let keeps = subst (λ (b : Bool). Keeps log (fold made core (landing b)).batches (fold made core (landing b)).pending) ahead (c.in_ok-force_up_to.ensures.kept core works.log) in
+    let stands = subst (λ (b : Bool). HoldsBatches (part mid (log_place w.log) (log_room w.log)) (fold made core (landing b)).batches) ahead (c.in_ok-force_up_to.ensures.held tells core works.log held) in
     let behind = not_ahead core w p works c.requires.page log c.lsn.result c.lsn.ensures.value c.in_ok-force_up_to.ensures.forced keeps in
     let first = weaker d.moment d.left_since c.args.disk.now c.force_up_to.new.disk _ (IsLeftByStep core (d.bytes c.args.disk.now)) (c.force_up_to.ensures.moments tells disk.only core works.log held)
     (λ image. force_leaves core w w.log works (same_log w.log) s _ _ disk image sound) in
@@ -89,7 +90,7 @@ pub returns-in_err-force_up_to-clause-passes : goal.returns-in_err-force_up_to-c
 returns-in_err-force_up_to-clause-passes g c tells core works pages =
     let d = g.D.Disk in
     let err : c.from_residual.result ≡ Err c.in_err-force_up_to.field-0.0 = search rules in
-    subst (Passes (flush_calls core c.args.p) (d.passed c.args.disk.now) (d.passed c.force_up_to.new.disk)) (sym err)
+    subst (Passes (calls_of core (transfers core (Flush c.args.p))) (d.passed c.args.disk.now) (d.passed c.force_up_to.new.disk)) (sym err)
     (cut_passes core c.args.self.now c.args.p works c.requires.page c.lsn.result _ _ _ c.lsn.ensures.value c.requires.dirty (c.in_err-force_up_to.ensures.passes tells))
 
 pub returns-clause-passes : goal.returns-clause-passes

@@ -1,0 +1,74 @@
+-- What a host is answered, and what becomes of the heap inside.
+use Rattle.std.specs.Prelude.{◌≡◌, ◌≢◌, ℕ, List, ◌<◌, ◌≤◌, [], length, slice_index_or, Option, Some, None, Result, Ok, Err, ⊤}
+use Rattle.std.specs.declared.alloc.AllocError.{AllocError}
+use Rattle.disk_model.specs.declared.disk.Disk.{Ghosts}
+use Rattle.disk_model.specs.Memory.{Memory, Write, Sync, changes_of, now_of, begun_anew}
+use Rattle.graph_model.specs.declared.event.Event.{Event}
+use Rattle.graph_model.specs.declared.reply.Reply.{Reply}
+use Rattle.graph_model.specs.History.{IsOfSession}
+use Rattle.heap_embed.specs.declared.answer.Answer.{Answer}
+use Rattle.heap_embed.specs.declared.answer.Answer.TheVariants as answer
+use Rattle.heap_embed.specs.declared.ask.Ask.{Ask}
+use Rattle.heap_embed.specs.declared.ask.Ask.TheVariants as ask
+use Rattle.heap_embed.specs.declared.open_heap.OpenHeap.{OpenHeap}
+use Rattle.heap_embed.specs.declared.state.State.{State}
+use Rattle.heap_embed.specs.declared.state.State.TheVariants.{Image, Closed, Open}
+use Rattle.heap_embed.specs.Host.{begins_with}
+use Rattle.heap_embed.specs.OpenHeaps.{MakesStep, StaysHeap, WasOpened}
+use Rattle.heap_embed.specs.Told.{change_answer, word_of}
+
+-- the disk that tells, if there is one
+abbrev pub disk_of : State → Option Memory
+disk_of (Image bytes) = None
+disk_of (Closed disk) = Some disk.disk
+disk_of (Open heap) = Some heap.disk
+
+-- the disk on which a heap is opened: one that begins with the bytes that were handed in, or that of a heap that was closed
+abbrev pub Hands : State → Memory → Type 0
+Hands (Image bytes) disk = begins_with bytes.items disk
+Hands (Closed closed) disk = disk ≡ closed.disk
+Hands (Open heap) disk = ⊥
+
+-- the answer to an event, by its reply
+abbrev pub event_answer : Result Reply AllocError → Answer
+event_answer (Ok reply) = answer.Reply reply
+event_answer (Err e) = answer.NoMemory
+
+module _ (g : Ghosts Memory) where
+  -- An open heap makes the event on its disk, and that is answered.
+  pub record MakesEvent (event : Event) (answered : Answer) (new : State) (heap : OpenHeap) : Type 0 where
+    pub result : Result Reply AllocError
+    pub says : answered ≡ event_answer result
+    pub next : OpenHeap
+    pub still_open : new ≡ Open next
+    pub steps : MakesStep g heap.core heap.disk event result next.core next.disk
+
+  -- What was told is forgotten, of which all is synced: the disk begins anew, and an open heap is the same one.
+  pub record Forgets (old new : State) (disk : Memory) : Type 0 where
+    pub synced : (now_of disk).pending ≡ []
+    pub anew : disk_of new ≡ Some (begun_anew disk)
+    pub heap : (heap : OpenHeap) → old ≡ Open heap → (next : OpenHeap) × (new ≡ Open next) × StaysHeap g heap.core heap.disk next.core next.disk
+
+  -- The heap was opened.
+  pub record Opens (old new : State) : Type 0 where
+    pub disk : Memory
+    pub handed : Hands old disk
+    pub heap : OpenHeap
+    pub now_open : new ≡ Open heap
+    pub opened : WasOpened g disk heap.core heap.disk
+
+  -- What is answered, and what there is of the heap then. Of what is handed in, and of a format, nothing is said.
+  abbrev pub Answers : State → Ask → Answer → State → Type 0
+  Answers old (ask.Event event) answered new = (heap : OpenHeap) → old ≡ Open heap → IsOfSession event → MakesEvent event answered new heap
+  Answers old ask.Open answered new = answered ≡ answer.Done → Opens old new
+  Answers old ask.Done answered new = (answered ≡ answer.Done → (disk : Memory) → disk_of old ≡ Some disk → Forgets old new disk) × (answered ≢ answer.Done → new ≡ old)
+  Answers old ask.Told answered new = (new ≡ old) × ((disk : Memory) → disk_of old ≡ Some disk → answered ≡ answer.Number (changes_of disk))
+  Answers old (ask.Item k) answered new = (new ≡ old) × ((disk : Memory) → disk_of old ≡ Some disk → (k < changes_of disk → answered ≡ change_answer (slice_index_or disk.changes k Sync)) × (changes_of disk ≤ k → answered ≡ answer.NoItem))
+  Answers old ask.Close answered new = (heap : OpenHeap) → old ≡ Open heap → disk_of new ≡ Some heap.disk
+  Answers old (ask.More word count) answered new = ⊤
+  Answers old (ask.Zeros count) answered new = ⊤
+  Answers old (ask.Format pages log_bytes first) answered new = ⊤
+  Answers old (ask.Bytes k from) answered new = (new ≡ old) × ((disk : Memory) (at : ℕ) (bytes : List ℕ) → disk_of old ≡ Some disk → k < changes_of disk → slice_index_or disk.changes k Sync ≡ Write at bytes → from < length bytes → answered ≡ answer.Number (word_of bytes from))
+  Answers old (ask.Figure i) answered new = new ≡ old
+  Answers old (ask.Last i) answered new = new ≡ old
+  Answers old ask.Fail answered new = new ≡ old

@@ -1,0 +1,271 @@
+//! What there is of the heap.
+ghost use Rattle.std.specs.Prelude.{◌≡◌, ◌≢◌, ◌<◌, ◌≤◌, Some, IfSome, IsSome, IfOk, IfErr, slice_index_or, ℕ, List, length};
+ghost use Rattle.disk_model.specs.Memory.{Write, Sync, changes_of};
+ghost use Rattle.graph_model.specs.History.{IsOfSession};
+ghost use Rattle.heap_embed.specs.Told.{change_answer, word_of};
+ghost use Rattle.image_plan.specs.Super.{IsSuper};
+
+use crate::answer::Answer;
+use crate::ask::Ask;
+use crate::host_disk::{HostDisk, item, word};
+use crate::open_heap::OpenHeap;
+use disk_model::{Disk, MemoryDisk};
+use graph_model::{Event, FIRST_SESSION, LAST_SESSION};
+use heap_core::HeapCore;
+use image_plan::Super;
+use std::alloc::{AllocError, Global};
+use std::mem;
+
+/// The heap, so far.
+#[derive(Drop)]
+pub enum State {
+    /// The bytes that were handed in.
+    Image(Vec<u8>),
+    /// The disk of a heap that is not open.
+    Closed(HostDisk),
+    /// The open heap on it.
+    Open(OpenHeap),
+}
+
+impl State {
+    ghost use Rattle.heap_embed.specs.Embedding.{disk_of, Answers, MakesEvent, Opens, Forgets, Hands};
+
+    /// Answers what is asked of the heap.
+    pub fn answer(&mut self, alloc: Global, ask: Ask) -> Answer
+        ensures { Answers ⟦<MemoryDisk as Disk>⟧ self.old ask result self.new }
+    {
+        match ask {
+            Ask::More { word, count } => self.take_bytes(word, count),
+            Ask::Zeros { count } => self.take_zeros(count),
+            Ask::Format {
+                pages,
+                log_bytes,
+                first,
+            } => self.format(alloc, pages, log_bytes, first),
+            Ask::Open => self.open(alloc),
+            Ask::Told => Answer::Number { n: self.told() },
+            Ask::Item { k } => self.item(k),
+            Ask::Bytes { k, from } => Answer::Number {
+                n: self.word(k, from),
+            },
+            Ask::Done => self.forget(),
+            Ask::Figure { i } => Answer::Number { n: self.figure(i) },
+            Ask::Close => self.close(alloc),
+            Ask::Event { event } => self.step(event),
+            Ask::Last { .. } | Ask::Fail => Answer::NotAnAsk,
+        }
+    }
+
+    /// Makes an event on the open heap. One that has no reply has changed nothing.
+    fn step(&mut self, event: Event) -> Answer
+        ensures { (heap : _) → self.old ≡ State.Open heap → IsOfSession event → MakesEvent ⟦<MemoryDisk as Disk>⟧ event result self.new heap }
+    {
+        if !event.is_of_session() {
+            return Answer::NotAnAsk;
+        }
+        match self {
+            State::Open(heap) => match heap.step(event) {
+                Ok(reply) => Answer::Reply { reply },
+                Err(_) => Answer::NoMemory,
+            },
+            _ => Answer::NotNow,
+        }
+    }
+
+    fn take_bytes(&mut self, word: u64, count: u64) -> Answer {
+        let State::Image(bytes) = self else {
+            return Answer::NotNow;
+        };
+        let more = word.to_le_bytes();
+        match more.get(..count as usize) {
+            Some(more) => done(bytes.extend_from_slice(more)),
+            None => Answer::NotAnAsk,
+        }
+    }
+
+    fn take_zeros(&mut self, count: u64) -> Answer {
+        let State::Image(bytes) = self else {
+            return Answer::NotNow;
+        };
+        match bytes.len().checked_add(count as usize) {
+            Some(size) => done(bytes.resize(size, 0)),
+            None => Answer::NoMemory,
+        }
+    }
+
+    /// The disk of what was handed in, or of the closed heap, which is taken out.
+    fn take_disk(&mut self, alloc: Global) -> Result<HostDisk, Answer>
+        ensures hands { IfOk result (λ taken. Hands self.old taken.disk) }
+        ensures error { IfErr result (λ answer. answer ≢ Answer.Done) }
+    {
+        match mem::replace(self, State::Image(Vec::new(alloc))) {
+            State::Image(bytes) => HostDisk::of(alloc, bytes).map_err(|_| Answer::NoMemory),
+            State::Closed(disk) => Ok(disk),
+            State::Open(heap) => {
+                *self = State::Open(heap);
+                Err(Answer::NotNow)
+            }
+        }
+    }
+
+    /// Makes an empty heap in what was handed in.
+    fn format(&mut self, alloc: Global, pages: u64, log_bytes: u64, first: u64) -> Answer {
+        let Some(of) = read_numbers(pages, log_bytes, first) else {
+            return Answer::PastLimits;
+        };
+        match self.take_disk(alloc) {
+            Ok(disk) => {
+                let (answer, disk) = disk.format(&of);
+                *self = State::Closed(disk);
+                answer
+            }
+            Err(answer) => answer,
+        }
+    }
+
+    fn open(&mut self, alloc: Global) -> Answer
+        ensures { result ≡ Answer.Done → Opens ⟦<MemoryDisk as Disk>⟧ self.old self.new }
+    {
+        let disk = match self.take_disk(alloc) {
+            Ok(disk) => disk,
+            Err(answer) => return answer,
+        };
+        match OpenHeap::open(alloc, disk) {
+            Ok(heap) => {
+                *self = State::Open(heap);
+                Answer::Done
+            }
+            Err((e, disk)) => {
+                *self = State::Closed(disk);
+                Answer::from(e)
+            }
+        }
+    }
+
+    /// The open heap is closed as it is.
+    fn close(&mut self, alloc: Global) -> Answer
+        ensures { (heap : _) → self.old ≡ State.Open heap → disk_of self.new ≡ Some heap.disk }
+    {
+        match mem::replace(self, State::Image(Vec::new(alloc))) {
+            State::Open(heap) => {
+                *self = State::Closed(heap.close());
+                Answer::Done
+            }
+            other => {
+                *self = other;
+                Answer::NotNow
+            }
+        }
+    }
+
+    /// What was told is forgotten, where nothing is pending.
+    fn forget(&mut self) -> Answer
+        ensures forgets { result ≡ Answer.Done → (disk : _) → disk_of self.old ≡ Some disk → Forgets ⟦<MemoryDisk as Disk>⟧ self.old self.new disk }
+        ensures kept { result ≢ Answer.Done → self.new ≡ self.old }
+    {
+        let forgotten = match self {
+            State::Image(_) => return Answer::NotNow,
+            State::Closed(disk) => disk.forget(),
+            State::Open(heap) => heap.forget(),
+        };
+        if forgotten {
+            Answer::Done
+        } else {
+            Answer::Unsynced
+        }
+    }
+
+    /// The disk that tells, if there is one.
+    fn disk(&self) -> Option<&MemoryDisk>
+        ensures some { (disk : _) → disk_of self.now ≡ Some disk → IfSome result (λ it. it.now ≡ disk) × IsSome result }
+    {
+        match self {
+            State::Image(_) => None,
+            State::Closed(disk) => Some(&disk.disk),
+            State::Open(heap) => Some(heap.disk()),
+        }
+    }
+
+    /// How many changes are told.
+    fn told(&self) -> u64
+        ensures { (disk : _) → disk_of self.now ≡ Some disk → result ≡ changes_of disk }
+    {
+        match self.disk() {
+            Some(disk) => disk.told() as u64,
+            None => 0,
+        }
+    }
+
+    fn item(&self, k: u64) -> Answer
+        ensures told { (disk : _) → disk_of self.now ≡ Some disk → k < changes_of disk → result ≡ change_answer (slice_index_or disk.changes k Sync) }
+        ensures none { (disk : _) → disk_of self.now ≡ Some disk → changes_of disk ≤ k → result ≡ Answer.NoItem }
+    {
+        match self.disk() {
+            Some(disk) => item(disk, k),
+            None => Answer::NoItem,
+        }
+    }
+
+    fn word(&self, k: u64, from: u64) -> u64
+        ensures { (disk : _) (at : ℕ) (bytes : List ℕ) → disk_of self.now ≡ Some disk → k < changes_of disk → slice_index_or disk.changes k Sync ≡ Write at bytes → from < length bytes → result ≡ word_of bytes from }
+    {
+        match self.disk() {
+            Some(disk) => word(disk, k, from),
+            None => 0,
+        }
+    }
+
+    /// Figure `i` of the open heap.
+    pub fn figure(&self, i: u64) -> u64 {
+        match self {
+            State::Open(heap) => figure(heap.core(), i),
+            _ => 0,
+        }
+    }
+}
+
+/// Whether memory sufficed.
+fn done(made: Result<(), AllocError>) -> Answer {
+    match made {
+        Ok(()) => Answer::Done,
+        Err(_) => Answer::NoMemory,
+    }
+}
+
+/// The numbers of a heap, if they are within their limits.
+fn read_numbers(pages: u64, log_bytes: u64, first: u64) -> Option<Super>
+    ensures { IfSome result IsSuper }
+{
+    let of = Super {
+        pages: u32::try_from(pages).ok()?,
+        log_bytes: u32::try_from(log_bytes).ok()?,
+        first: u32::try_from(first).ok()?,
+    };
+    if of.is_within_limits() {
+        Some(of)
+    } else {
+        None
+    }
+}
+
+/// The figures of an open heap, by their numbers: the entries of its history, the commits since it was made, whether records are pending, at which
+/// entry it failed, and how many sessions have a transaction.
+fn figure(core: &HeapCore, i: u64) -> u64 {
+    match i {
+        0 => core.history().len() as u64,
+        1 => core.commits(),
+        2 => u64::from(core.pending()),
+        3 => core.failed().unwrap_or(0),
+        4 => active(core),
+        _ => 0,
+    }
+}
+
+/// How many sessions have a transaction.
+fn active(core: &HeapCore) -> u64 {
+    let mut count: u64 = 0;
+    for s in FIRST_SESSION..=LAST_SESSION {
+        count = count.saturating_add(u64::from(core.active(s)));
+    }
+    count
+}

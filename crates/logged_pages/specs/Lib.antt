@@ -1,0 +1,4 @@
+pub mod Appended
+pub mod Carried
+pub mod OnDisk
+pub mod State

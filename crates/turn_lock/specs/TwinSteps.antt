@@ -1,0 +1,110 @@
+-- What each kind of step on a table with two turns changes in what the pass knows, and what it returns.
+use Rattle.std.specs.Prelude.{◌≡◌, ◌≢◌, ℕ, ◌+◌, ◌%◌, ◌^◌, ◌≤◌, List, ◌∷◌, drop, Option, Some, None}
+use Rattle.atomic_table.specs.Table.{Me, rest}
+use Rattle.turn_lock.specs.declared.twin_view.Cell.{Cell}
+use Rattle.turn_lock.specs.declared.twin_view.Cell.TheVariants.{OfValue, OfDevice}
+use Rattle.turn_lock.specs.declared.twin_view.TwinView.{TwinView}
+use Rattle.turn_lock.specs.declared.twin_view.More.{More}
+use Rattle.turn_lock.specs.Turning.{greatest}
+use Rattle.turn_lock.specs.Steps.{waiting, in_turn, raising, resting, left_to_deal, dealt, joined, spent, Suits}
+use Rattle.turn_lock.specs.Tied.{Seen}
+
+abbrev Knows : Type 0 → Type 0 → Type 0 → Type 0 → Type 0
+Knows T E D F = Me (Cell (Option T) (Option D)) (Seen T E D F)
+
+module _ {V W X : Type 0} where
+  -- with another view of the value's turn, and more
+  abbrev pub with_value : TwinView V W X → V → X → TwinView V W X
+  with_value v w m = record v { value = w; more = m }
+
+  -- with another view of the device's turn, and more
+  abbrev pub with_device : TwinView V W X → W → X → TwinView V W X
+  with_device v w m = record v { device = w; more = m }
+
+module _ {D : Type 0} where
+  -- the first of two that there is
+  abbrev pub either_saw : Option D → Option D → Option D
+  either_saw (Some d) other = Some d
+  either_saw None other = other
+
+module _ {T D : Type 0} where
+  -- with this value to put back, and this much to tell
+  abbrev pub raises_value : More T D → T → ℕ → More T D
+  raises_value m value owes = record m { own = Some value; owes = owes }
+
+  -- with this value and this device to put back, and this much to tell
+  abbrev pub raises_both : T → D → ℕ → More T D
+  raises_both value device owes = record { own = Some value; down = Some device; saw = Some device; owes = owes }
+
+  -- with this device put back, and this much to tell
+  abbrev pub gave_device : More T D → D → ℕ → More T D
+  gave_device m device owes = record m { saw = Some device; owes = owes }
+
+  -- what two passes know together
+  abbrev pub more_joined : More T D → More T D → More T D
+  more_joined m n = record m { saw = either_saw m.saw n.saw; owes = m.owes + n.owes }
+
+  abbrev pub more_spent : More T D
+  more_spent = record { own = None; down = None; saw = None; owes = 0 }
+
+module _ {T E D F : Type 0} where
+  -- a ticket of the value's turn was taken, and the word has its remainder
+  abbrev pub value_queued : Knows T E D F → ℕ → Knows T E D F → Type 0
+  value_queued m r n = (t : ℕ) × (r ≡ t % 2 ^ 64) × (n ≡ (with_value m.0 (waiting m.0.value t) m.0.more, m.1))
+
+  -- a ticket of the device's turn was taken, and the word has its remainder
+  abbrev pub device_queued : Knows T E D F → ℕ → Knows T E D F → Type 0
+  device_queued m r n = (t : ℕ) × (r ≡ t % 2 ^ 64) × (n ≡ (with_device m.0 (waiting m.0.device t) m.0.more, m.1))
+
+  -- the value's turn was passed, and its slot was put back
+  abbrev pub value_passed : Knows T E D F → Knows T E D F → Type 0
+  value_passed m n = n ≡ (with_value m.0 (resting m.0.value) m.0.more, rest m.1)
+
+  -- the device's turn was an empty one and was passed, its slot was put back, and this is known of both
+  abbrev pub device_passed : ℕ → More T D → Knows T E D F → Knows T E D F → Type 0
+  device_passed empty more m n = (known : ℕ) × (n ≡ (with_device m.0 (resting (raising m.0.device m.0.device.seen empty known)) more, rest m.1))
+
+  -- the front was read, which is at least any that the pass knew
+  abbrev pub value_read : Knows T E D F → ℕ → Knows T E D F → Type 0
+  value_read m r n = (n ≡ (with_value m.0 (record m.0.value { front = r }) m.0.more, m.1)) × (m.0.value.front ≤ r)
+
+  -- what is left of the first seat's numbers after one more pass
+  abbrev pub twin_left : Seen T E D F → Seen T E D F
+  twin_left v = record v { value = left_to_deal v.value; device = left_to_deal v.device }
+
+  -- what one more pass knows
+  abbrev pub twin_dealt : Seen T E D F → Seen T E D F
+  twin_dealt v = record v { value = dealt v.value; device = dealt v.device }
+
+  -- what two passes know together
+  abbrev pub twin_joined : Seen T E D F → Seen T E D F → Seen T E D F
+  twin_joined v w = record { value = joined v.value w.value; device = joined v.device w.device; more = more_joined v.more w.more }
+
+  -- the view of a pass that was joined into another one
+  abbrev pub twin_spent : Seen T E D F
+  twin_spent = record { value = spent; device = spent; more = more_spent }
+
+-- the front was raised to that of a value with this history and these empty turns, and this is known of what goes back
+abbrev pub twin_raised : {T E D F : Type 0} → (T → ℕ) → (E → ℕ) → List E → ℕ → More T D → Knows T E D F → Knows T E D F → Type 0
+twin_raised stood front log empty more m n = (known : ℕ) × (n ≡ (with_value m.0 (raising m.0.value log empty known) more, m.1))
+    × ((first : _) → m.0.value.first ≡ Some first → known ≡ greatest front (drop (stood first) log)) × (m.0.value.front ≤ known)
+
+module _ {T E D F : Type 0} (entries : T → List E) (stood : T → ℕ) (front : E → ℕ) (empty_turns : T → ℕ) (follows : T → T → Type 0) where
+  -- the ticket was served, and the value is taken
+  abbrev pub GetsValue : Knows T E D F → Knows T E D F → Type 0
+  GetsValue m n = (value : T) × (known : ℕ) × (n ≡ (with_value m.0 (in_turn m.0.value (entries value) (empty_turns value) known) (record m.0.more { own = Some value }), (0, OfValue (Some value)) ∷ m.1))
+      × Suits entries stood front empty_turns follows m.0.value value known
+
+  -- the value's turn was checked, and begins if the ticket is served
+  abbrev pub value_looked : Knows T E D F → ℕ → Knows T E D F → Type 0
+  value_looked m r n = (r ≡ m.0.value.ticket % 2 ^ 64 → GetsValue m n) × (r ≢ m.0.value.ticket % 2 ^ 64 → n ≡ m)
+
+module _ {T E D F : Type 0} (entries : D → List F) (empty_turns : D → ℕ) (later : D → D → Type 0) where
+  -- the ticket was served, and the device is taken, which is later than the one that the pass saw
+  abbrev pub GetsDevice : Knows T E D F → Knows T E D F → Type 0
+  GetsDevice m n = (device : D) × (known : ℕ) × (n ≡ (with_device m.0 (in_turn m.0.device (entries device) (empty_turns device) known) (record m.0.more { down = Some device; saw = Some device }), (1, OfDevice (Some device)) ∷ m.1))
+      × ((d : D) → m.0.more.saw ≡ Some d → later d device)
+
+  -- the device's turn was checked, and begins if the ticket is served
+  abbrev pub device_looked : Knows T E D F → ℕ → Knows T E D F → Type 0
+  device_looked m r n = (r ≡ m.0.device.ticket % 2 ^ 64 → GetsDevice m n) × (r ≢ m.0.device.ticket % 2 ^ 64 → n ≡ m)

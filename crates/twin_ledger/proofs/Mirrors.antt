@@ -1,0 +1,127 @@
+-- What turns with a journal and with its mirror keep.
+use Rattle.std.proofs.Common.{◌≡◌, ℕ, zero, suc, ◌-◌, ◌≤◌, ◌<◌, ◌⊎◌, Bool, true, false, List, [], ◌∷◌, ◌++◌, length, drop, get_or, sym, refl, ap, ◌∙◌, subst, ⊎_elim, arith, Option, Some}
+use Rattle.turn_lock.specs.Turning.{IsBeginning, times}
+use Rattle.turn_lock.specs.Tied.{MayRaise, MayRaiseBoth, MayPut}
+use Rattle.turn_lock.proofs.TurnLaws.{begins_itself, begins_more}
+use Rattle.turn_lock.proofs.TwinTies.{no_bool}
+use Rattle.twin_ledger.specs.declared.ledger.Journal.{Journal}
+use Rattle.twin_ledger.specs.declared.ledger.Mirror.{Mirror}
+use Rattle.twin_ledger.specs.Mirrored.{Mirrors, IsGrown, flag}
+use Rattle.twin_ledger.specs.Ready.{Lock, Pass, IsReady}
+use Rattle.turn_lock.specs.TwinPasses.{IsNew}
+
+abbrev pub Beside : Journal → Mirror → Type 0
+Beside j m = Mirrors j.posts.items j.told m.copied.items m.failed
+
+abbrev pub Later : Mirror → Mirror → Type 0
+Later a b = IsGrown a.copied.items a.failed b.copied.items b.failed
+
+abbrev pub Owed : Journal → Mirror → ℕ
+Owed j m = flag m.failed - j.told
+
+flag_le : (b : Bool) → flag b ≤ 1
+flag_le true = omega arith
+flag_le false = omega arith
+
+-- the shorter of two beginnings of one list begins the longer
+common : (a b r s : List ℕ) → a ++ r ≡ b ++ s → length a ≤ length b → IsBeginning a b
+common [] b r s e h = (b, refl)
+common (x ∷ a) [] r s e h = absurd (omega (arith, h))
+common (x ∷ a) (y ∷ b) r s e h =
+    let t = common a b r s (ap (drop 1) e) (omega (arith, h)) in let same : y ≡ x = sym (ap (λ (l : List ℕ). get_or l 0 0) e) in
+    (t.0, λ i. same i ∷ t.1 i)
+
+begins_both : (a b c : List ℕ) → IsBeginning a c → IsBeginning b c → length a ≤ length b → IsBeginning a b
+begins_both a b c x y h = common a b x.0 y.0 (sym x.1 ∙ y.1) h
+
+-- a turn that posts, or posts nothing
+pub posting : (saw : Option Mirror) (old new : Journal) (more : List ℕ) (owes owes' : ℕ) → new.posts.items ≡ old.posts.items ++ more → new.told ≡ old.told → owes ≡ owes' → MayRaise Beside Later Owed saw old owes new owes'
+posting saw old new more owes owes' posts told same m known b = (
+  record { first = subst (IsBeginning m.copied.items) (sym posts) (begins_more m.copied.items old.posts.items more b.first); told_of = (let n = b.told_of in omega (arith, told, n)) },
+  λ others h. omega (arith, told, same, h),
+)
+
+-- the turn of a pass that tells of a failure that it saw
+pub telling : (saw : Option Mirror) (mirror : Mirror) (old new : Journal) (owes : ℕ) → saw ≡ Some mirror → mirror.failed ≡ true → new.posts.items ≡ old.posts.items → 1 ≤ new.told → (new.told ≡ old.told) ⊎ (new.told ≡ 1)
+    → MayRaise Beside Later Owed saw old owes new 0
+telling saw mirror old new owes is fails posts some_told told m known b =
+    let failed : flag m.failed ≡ 1 = ap flag ((known mirror is).still fails) in let before = b.told_of in (
+      record {
+        first = subst (IsBeginning m.copied.items) (sym posts) b.first;
+        told_of = ⊎_elim (λ e. omega (arith, e, before)) (λ e. omega (arith, e, failed)) told;
+      },
+      λ others h. omega (arith, failed, some_told),
+    )
+
+-- the mirror goes back with what was shown, or as it was
+pub copied_on : (seen shown : List ℕ) (first : Journal) (old new : Mirror) (owes : ℕ) → shown ≡ seen → new.failed ≡ false → old.failed ≡ false → ((new.copied.items ≡ shown) × (length old.copied.items ≤ length shown)) ⊎ (new.copied.items ≡ old.copied.items)
+    → MayPut Beside Later Owed (λ v. IsBeginning seen v.posts.items × (v.name ≡ first.name)) old owes new 0
+copied_on seen shown first old new owes same works worked copied v possible b =
+    let in_posts : IsBeginning shown v.posts.items = subst (λ l. IsBeginning l v.posts.items) (sym same) possible.0 in
+    let off : flag new.failed ≡ 0 = ap flag works in let was_off : flag old.failed ≡ 0 = ap flag worked in let before = b.told_of in (
+      record {
+        first = ⊎_elim (λ t. subst (λ l. IsBeginning l v.posts.items) (sym t.0) in_posts) (λ e. subst (λ l. IsBeginning l v.posts.items) (sym e) b.first) copied;
+        told_of = omega (arith, off, was_off, before);
+      },
+      record {
+        more = ⊎_elim (λ t. subst (IsBeginning old.copied.items) (sym t.0) (begins_both old.copied.items shown v.posts.items b.first in_posts t.1)) (λ e. subst (IsBeginning old.copied.items) (sym e) (begins_itself old.copied.items)) copied;
+        still = λ h. absurd (no_bool old.failed h worked);
+      },
+      λ others h. omega (arith, off),
+    )
+
+-- the mirror goes back after a failure
+pub failed_on : (possible : Journal → Type 0) (old new : Mirror) (owes : ℕ) → new.copied.items ≡ old.copied.items → new.failed ≡ true → MayPut Beside Later Owed possible old owes new 1
+failed_on possible old new owes copied fails v may b =
+    let on : flag new.failed ≡ 1 = ap flag fails in let before = b.told_of in let low = flag_le old.failed in (
+      record { first = subst (λ l. IsBeginning l v.posts.items) (sym copied) b.first; told_of = omega (arith, on, before, low) },
+      record { more = subst (IsBeginning old.copied.items) (sym copied) (begins_itself old.copied.items); still = λ _. fails },
+      λ others h. omega (arith, on),
+    )
+
+drop_begun : (a r : List ℕ) → drop (length a) (a ++ r) ≡ r
+drop_begun [] r = refl
+drop_begun (x ∷ a) r = drop_begun a r
+
+-- a turn with both, in which the mirror follows or fails
+pub following : (old new : Journal) (down device : Mirror) (more shown : List ℕ) (owes owes' : ℕ) → shown ≡ new.posts.items → new.posts.items ≡ old.posts.items ++ more → new.told ≡ old.told
+    → ((owes' ≡ 0) × (device.failed ≡ false) × (down.failed ≡ false) × (device.copied.items ≡ down.copied.items ++ drop (length down.copied.items) shown)) ⊎ ((owes' ≡ 1) × (device.failed ≡ true) × (device.copied.items ≡ down.copied.items))
+    → MayRaiseBoth Beside Later Owed old down owes new device owes'
+following old new down device more shown owes owes' same posts told does b =
+    let longer : IsBeginning down.copied.items new.posts.items = subst (IsBeginning down.copied.items) (sym posts) (begins_more down.copied.items old.posts.items more b.first) in
+    let before = b.told_of in let low = flag_le down.failed in ⊎_elim
+    (λ w. let off : flag device.failed ≡ 0 = ap flag w.1 in let was_off : flag down.failed ≡ 0 = ap flag w.2 in
+    let all : device.copied.items ≡ new.posts.items = w.3 ∙ (ap (λ l. down.copied.items ++ drop (length down.copied.items) l) (same ∙ longer.1) ∙ (ap (λ l. down.copied.items ++ l) (drop_begun down.copied.items longer.0) ∙ sym longer.1)) in (
+      record { first = subst (λ l. IsBeginning l new.posts.items) (sym all) (begins_itself new.posts.items); told_of = omega (arith, off, was_off, before, told) },
+      record { more = subst (IsBeginning down.copied.items) (sym all) longer; still = λ h. absurd (no_bool down.failed h w.2) },
+      λ others h. omega (arith, off),
+    ))
+    (λ f. let on : flag device.failed ≡ 1 = ap flag f.1 in (
+      record { first = subst (λ l. IsBeginning l new.posts.items) (sym f.2) longer; told_of = omega (arith, on, before, low, told) },
+      record { more = subst (IsBeginning down.copied.items) (sym f.2) (begins_itself down.copied.items); still = λ _. f.1 },
+      λ others h. omega (arith, on, f.0),
+    ))
+    does
+
+-- the mirror goes back as it was raised
+pub as_raised : (possible : Journal → Type 0) (m : Mirror) (owes owes' : ℕ) → owes ≡ owes' → MayPut Beside Later Owed possible m owes m owes'
+as_raised possible m owes owes' same v may b = (b, record { more = begins_itself m.copied.items; still = λ e. e }, λ others h. omega (arith, h, same))
+
+pub ready : {lock : Lock} {pass : Pass} {number label : ℕ} {log : List ℕ} → IsNew lock number label log pass → IsReady lock pass
+ready new = record { of_lock = new.of_lock; at_rest = new.at_rest; nothing = new.owes }
+
+pub two_numbers : (n : ℕ) → n < 2 → 0 < times n (0 ∷ 1 ∷ [])
+two_numbers zero h = omega arith
+two_numbers (suc zero) h = omega arith
+two_numbers (suc (suc n)) h = absurd (omega (arith, h))
+
+pub eight_numbers : (n : ℕ) → n < 8 → 0 < times n (0 ∷ 1 ∷ 2 ∷ 3 ∷ 4 ∷ 5 ∷ 6 ∷ 7 ∷ [])
+eight_numbers zero h = omega arith
+eight_numbers (suc zero) h = omega arith
+eight_numbers (suc (suc zero)) h = omega arith
+eight_numbers (suc (suc (suc zero))) h = omega arith
+eight_numbers (suc (suc (suc (suc zero)))) h = omega arith
+eight_numbers (suc (suc (suc (suc (suc zero))))) h = omega arith
+eight_numbers (suc (suc (suc (suc (suc (suc zero)))))) h = omega arith
+eight_numbers (suc (suc (suc (suc (suc (suc (suc zero))))))) h = omega arith
+eight_numbers (suc (suc (suc (suc (suc (suc (suc (suc n)))))))) h = absurd (omega (arith, h))

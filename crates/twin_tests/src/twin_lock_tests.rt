@@ -1,0 +1,156 @@
+//! Plays of a journal with its mirror.
+use crate::gate::{begin, end, posts_meanwhile};
+use std::alloc::{AllocError, Global};
+use std::sync::Wait;
+use std::test::Fail;
+use std::thread::Threads;
+use twin_ledger::{Journal, Mirror, copy, post, post_eight, post_through, post_two};
+
+// How many numbers each thread posts.
+const NUMBERS: u64 = 100;
+
+// A number of calls after which no play ends.
+const ENOUGH: u64 = 1_000_000;
+
+fn numbers(alloc: Global) -> Result<Vec<u64>, Fail> {
+    let mut all = Vec::new(alloc);
+    for number in 0..NUMBERS {
+        all.push(number + 1)?;
+    }
+    Ok(all)
+}
+
+// Whether these are the numbers from 1 on, each twice or each eight times, in some order.
+fn has_each(posts: &Vec<u64>, by_eight: bool) -> Result<bool, Fail> {
+    let mut sorted = posts.clone()?;
+    sorted.sort()?;
+    Ok(
+        sorted.iter().enumerate().all(|(i, post)| {
+            let before = if by_eight { i / 8 } else { i / 2 };
+            *post == (before as u64).wrapping_add(1)
+        }),
+    )
+}
+
+// What a play leaves: whether the mirror works, and has all posts; else whether it has no more than its calls gave it.
+fn is_left(journal: &Journal, mirror: &Mirror, calls: u64) -> bool {
+    let copied = mirror.copied.as_slice();
+    let posts = journal.posts.as_slice();
+    if copied.len() > posts.len() || copied != &posts[..copied.len()] {
+        return false;
+    }
+    if calls == ENOUGH {
+        return !mirror.failed && journal.told == 0 && copied.len() == posts.len();
+    }
+    mirror.failed && journal.told == 1
+}
+
+#[test]
+fn two_threads_post_and_copy(rt: HostRuntime) -> Result<(), Fail> {
+    let alloc = rt.alloc();
+    let posts = numbers(alloc)?;
+    for calls in [ENOUGH, 0, 1, 2, 50, 199] {
+        let played = post_two(
+            &rt,
+            alloc,
+            Journal::new(alloc, 1),
+            Mirror::new(alloc, calls),
+            posts.as_slice(),
+        );
+        let Ok((journal, mirror)) = played else {
+            panic!(rt; "memory was refused")
+        };
+        assert!(rt;
+            journal.posts.len() == 200
+                && has_each(&journal.posts, false)?
+                && is_left(&journal, &mirror, calls),
+            "{calls}"
+        );
+    }
+    Ok(())
+}
+
+#[test]
+fn eight_threads_post_and_copy(rt: HostRuntime) -> Result<(), Fail> {
+    let alloc = rt.alloc();
+    let posts = numbers(alloc)?;
+    for calls in [ENOUGH, 0, 7, 300] {
+        let played = post_eight(
+            &rt,
+            alloc,
+            Journal::new(alloc, 1),
+            Mirror::new(alloc, calls),
+            posts.as_slice(),
+        );
+        let Ok((journal, mirror)) = played else {
+            panic!(rt; "memory was refused")
+        };
+        assert!(rt;
+            journal.posts.len() == 800
+                && has_each(&journal.posts, true)?
+                && is_left(&journal, &mirror, calls),
+            "{calls}"
+        );
+    }
+    Ok(())
+}
+
+// Two passes of one thread post by turns, two posts of them with both; then they are one pass, which posts and copies.
+fn by_turns<R: Wait>(
+    rt: &R,
+    alloc: Global,
+    calls: u64,
+) -> Result<(Journal, Mirror, u64), AllocError> {
+    let (lock, mut one, mut two) = begin(alloc, calls)?;
+    post(rt, &lock, &mut one, 5);
+    post_through(rt, &lock, &mut two, 9);
+    post_through(rt, &lock, &mut one, 3);
+    let front = lock.front(&mut two);
+    post(rt, &lock, &mut two, 4);
+    copy(rt, alloc, &lock, &mut one)?;
+    lock.join(&mut one, two);
+    post(rt, &lock, &mut one, 6);
+    copy(rt, alloc, &lock, &mut one)?;
+    let (journal, mirror) = end(lock, one);
+    Ok((journal, mirror, front))
+}
+
+#[test]
+fn a_failure_is_told_once(rt: HostRuntime) -> Result<(), Fail> {
+    for (calls, copied, told) in [
+        (ENOUGH, 5, 0),
+        (4, 5, 0),
+        (3, 4, 1),
+        (2, 3, 1),
+        (1, 2, 1),
+        (0, 0, 1),
+    ] {
+        let (journal, mirror, front) = by_turns(&rt, rt.alloc(), calls)?;
+        assert!(rt; journal.posts.as_slice() == [5, 9, 3, 4, 6].as_slice() && front == 9);
+        assert!(rt;
+            mirror.copied.len() == copied && journal.told == told && mirror.failed == (told == 1),
+            "{calls}"
+        );
+    }
+    Ok(())
+}
+
+// A play of two threads, of which one posts while the other has the mirror.
+fn beside_the_mirror<R: Threads + Wait + Sync>(
+    rt: &R,
+    alloc: Global,
+) -> Result<(Journal, bool), AllocError> {
+    let (lock, one, two) = begin(alloc, ENOUGH)?;
+    let (pass, meanwhile) = posts_meanwhile(rt, &lock, one, two);
+    let (journal, _mirror) = end(lock, pass);
+    Ok((journal, meanwhile))
+}
+
+#[test]
+fn a_post_is_answered_while_another_thread_has_the_mirror(rt: HostRuntime) -> Result<(), Fail> {
+    for _ in 0..20 {
+        let (journal, meanwhile) = beside_the_mirror(&rt, rt.alloc())?;
+        assert!(rt; meanwhile && journal.posts.as_slice() == [7].as_slice());
+    }
+    Ok(())
+}

@@ -1,0 +1,61 @@
+#!/bin/sh
+# Tries the heap in a program's own process, and compares it with the client over a pipe: the same tests, drawn events, kills, calls on the file that fail.
+#
+#     make -C clients/lib
+#     examples/clients/lib.sh [--quick]
+#
+# With --quick the program behind the pipe is compiled with nothing proved. The library's archive is there only once it is proved.
+. "$(dirname "$0")/../room.sh"
+. "$here/launcher.sh"
+client=$top/clients/c
+library=$top/clients/lib
+strict="-std=c99 -Wall -Wextra -Wpedantic -O1 -g"
+watched="-fsanitize=address,undefined"
+
+# over_library PROGRAM LIBRARY SOURCE [FLAG]: a program over the library.
+over_library() {
+    cc $strict $4 -I"$client" -o "$1" "$here/$3" "$2/libstable_heap.a" -lpthread || exit
+}
+
+tried() {
+    mkdir "$1.heap"
+    if "./$1" "$1.heap" - 2>log; then echo "the tests pass$2"; else cat log; fi
+}
+
+make -s -C "$library" || exit
+make -s -C "$library" BUILD="$room/watched" CFLAGS="-O1 -g $watched" || exit
+over_library tests "$library/build" c_client.c
+over_library watched_tests watched c_client.c $watched
+tried tests
+tried watched_tests ", watched by the compiler"
+
+over_library drawn "$library/build" drawn.c
+over_library watched_drawn watched drawn.c $watched
+cc $strict -I"$client" -o piped_drawn "$here/drawn.c" "$client/stable_heap.c" || exit
+mkdir here watched_here piped
+for seed in 1 2 3; do
+    for folder in here watched_here piped; do rm -f "$folder/heap.img"; done
+    ./piped_drawn piped $seed 2000 64 $HEAP >piped.out 2>log || cat log
+    ./drawn here $seed 2000 1 - >here.out
+    ./watched_drawn watched_here $seed 2000 64 - >watched.out
+    cmp piped.out here.out && cmp piped.out watched.out && cmp piped/heap.img here/heap.img && cmp piped/heap.img watched_here/heap.img &&
+        echo "$(wc -l <here.out) drawn events: the same answers and the same file as through the pipe"
+done
+
+make -s -C "$library" BUILD="$room/raced" CFLAGS="-O1 -g -fsanitize=thread" || exit
+over_library threads raced threads.c -fsanitize=thread
+mkdir counted_by_four
+./threads counted_by_four 2>log || cat log
+
+if command -v rustc >/dev/null; then
+    mkdir runs
+    rustc -O -L "$library/build" -l static=stable_heap -o count "$library/count.rs" >log 2>&1 && ./count runs >log && ./count runs >log
+    grep -qx "run 2" log || cat log
+fi
+
+# (a test that kills the heap's process is left out)
+PYTHONDONTWRITEBYTECODE=1 HEAP=here "$here/python_client.py" >log 2>&1 && echo "the tests for Python pass" || cat log
+
+over_library counter "$library/build" counter.c
+cc -shared -fPIC -O1 -o faults.so "$here/faults.c" -ldl || exit
+python3 "$here/library.py" ./counter ./faults.so 200
