@@ -172,8 +172,9 @@ impl<T: Twins> TwinLock<T> {
         ensures pass { IsSamePass pass.old pass.new × HasValue pass.new }
         ensures history { (T.entries result.value ≡ seen_of pass.new) × IsBeginning (seen_of pass.old) (seen_of pass.new) }
         ensures mine { (mine_of pass.new ≡ mine_of pass.old) × StandIn (seen_of pass.new) (mine_of pass.new) }
-        ensures turns { T.empty_turns result.value ≡ empty_of pass.new }
+        ensures turns { (value_turns pass.new ≡ value_turns pass.old) × (T.empty_turns result.value ≡ empty_of pass.new) }
         ensures same_value { (T.stood result.value ≡ T.stood (first_of self.now)) × T.follows (first_of self.now) result.value }
+        ensures front { (front_of pass.new ≡ greatest T.front (drop (T.stood (first_of self.now)) (seen_of pass.new))) × (front_of pass.old ≤ front_of pass.new) }
         ensures own { own_of pass.new ≡ Some result.value }
         ensures device { KeepsDevice pass.old pass.new × (owes_of pass.new ≡ owes_of pass.old) }
     {
@@ -238,6 +239,7 @@ impl<T: Twins> TwinLock<T> {
         requires beside { (old : T) × (own_of pass.old ≡ Some old) × MayRaise (T.beside (first_of self.now)) T.later T.owed (saw_of pass.old) old (owes_of pass.old) held.now.value owes }
         ensures pass { IsSamePass pass.old pass.new × HasRaised T.entries T.empty_turns pass.new held.now.value }
         ensures mine { mine_of pass.new ≡ mine_of pass.old ++ added (seen_of pass.old) (seen_of pass.new) }
+        ensures turns { value_turns pass.new ≡ value_turns pass.old }
         ensures front { (front_of pass.new ≡ greatest T.front (drop (T.stood (first_of self.now)) (seen_of pass.new))) × (front_of pass.old ≤ front_of pass.new) }
         ensures device { KeepsDevice pass.old pass.new × (owes_of pass.new ≡ owes) }
     {
@@ -280,9 +282,10 @@ impl<T: Twins> TwinLock<T> {
         requires one_turn { IsOneTurn T.front (seen_of pass.old) (empty_of pass.old) (T.entries held.now.value) (T.empty_turns held.now.value) front }
         requires beside { (old : T) × (down : T.Device) × (own_of pass.old ≡ Some old) × (down_of pass.old ≡ Some down) × MayRaiseBoth (T.beside (first_of self.now)) T.later T.owed old down (owes_of pass.old) held.now.value device.now.device owes }
         ensures pass { IsSamePass pass.old pass.new }
-        ensures raised { (own_of pass.new ≡ Some held.now.value) × (down_of pass.new ≡ Some device.now.device) × (T.entries held.now.value ≡ seen_of pass.new) × (T.empty_turns held.now.value ≡ empty_of pass.new) }
+        ensures raised { (own_of pass.new ≡ Some held.now.value) × (down_of pass.new ≡ Some device.now.device) × (saw_of pass.new ≡ Some device.now.device) × (T.entries held.now.value ≡ seen_of pass.new) × (T.empty_turns held.now.value ≡ empty_of pass.new) }
         ensures slots { ((me_of pass.new).0.value.stage ≡ Raised) × ((me_of pass.new).1 ≡ (me_of pass.old).1) × (device_view pass.new ≡ device_view pass.old) }
         ensures mine { mine_of pass.new ≡ mine_of pass.old ++ added (seen_of pass.old) (seen_of pass.new) }
+        ensures turns { value_turns pass.new ≡ value_turns pass.old }
         ensures front { (front_of pass.new ≡ greatest T.front (drop (T.stood (first_of self.now)) (seen_of pass.new))) × (front_of pass.old ≤ front_of pass.new) }
         ensures owes { owes_of pass.new ≡ owes }
     {
