@@ -61,10 +61,10 @@ module _ {T E D F : Type 0}
       (λ s k at w a is valid so. tie_ticket entries stood front empty_turns follows first entries' stood' front' empty_turns' follows' first' passes beside later owed id me 0 ((get_or s.words 0 0 + 1) % W) (get_or s.words 0 0) rest s k.ties at w a is so)
 
   -- 2, 3
-  pub looks_at_value : (id : ℕ) (me : M) → me.0.value.stage ≡ Waiting → Allows Rule 2 id me 1 (λ n. n) (value_looked entries stood front empty_turns follows me)
-  looks_at_value id me wait = value_allows R Q IsLook Tie id me 1 (λ n. n) (looked entries stood front empty_turns follows (value_me me)) (value_looked entries stood front empty_turns follows me) (omega arith) (plain_look me.1)
+  pub looks_at_value : (besides : T → T → D → Type 0) → ((v : T) (d : D) → beside v d → besides first v d) → (id : ℕ) (me : M) → me.0.value.stage ≡ Waiting → Allows Rule 2 id me 1 (λ n. n) (value_looked entries stood front empty_turns follows besides later me)
+  looks_at_value besides is_beside id me wait = value_allows R Q IsLook Tie id me 1 (λ n. n) (looked entries stood front empty_turns follows (value_me me)) (value_looked entries stood front empty_turns follows besides later me) (omega arith) (plain_look me.1)
       (looks_as entries stood front empty_turns follows first passes 1 id (value_me me) wait)
-      (λ s k at w a is valid so. tie_look entries stood front empty_turns follows first entries' stood' front' empty_turns' follows' first' passes beside later owed id me 1 (get_or s.words 1 0) (get_or s.words 1 0) wait s k.turn k.ties at w a is valid so)
+      (λ s k at w a is valid so. tie_look entries stood front empty_turns follows first entries' stood' front' empty_turns' follows' first' passes beside later owed besides is_beside id me 1 (get_or s.words 1 0) (get_or s.words 1 0) wait s k.turn k.ties at w a is valid so)
 
   -- 4, with no device out
   pub raises_value_front : (id : ℕ) (me : M) (log' : List E) (empty' k : ℕ) (own own' : T) (owes' : ℕ) → me.0.value.stage ≡ Turn → me.0.value.first ≡ Some first → me.0.value.numbers ≢ [] → IsOneTurn front me.0.value.seen me.0.value.empty log' empty' k
@@ -107,10 +107,11 @@ module _ {T E D F : Type 0}
       (λ s r at w a is valid so. tie_device_ticket entries stood front empty_turns follows first entries' stood' front' empty_turns' follows' first' passes beside later owed id me 3 ((get_or s.words 3 0 + 1) % W) (get_or s.words 3 0) rest s r.ties at w a is so)
 
   -- 2, 3, of the device
-  pub looks_at_device : (id : ℕ) (me : M) → ((d : D) → later d d) → me.0.device.stage ≡ Waiting → Allows Rule 2 id me 4 (λ n. n) (device_looked entries' empty_turns' later me)
-  looks_at_device id me itself wait = device_allows R Q IsLook Tie id me 1 (λ n. n) (looked entries' stood' front' empty_turns' follows' (device_me me)) (device_looked entries' empty_turns' later me) (omega arith) down_look
+  pub looks_at_device : (besides : T → T → D → Type 0) → ((v : T) (d : D) → beside v d → besides first v d) → (id : ℕ) (me : M) → ((d : D) → later d d) → me.0.device.stage ≡ Waiting
+      → Allows Rule 2 id me 4 (λ n. n) (device_looked entries follows besides entries' empty_turns' later me)
+  looks_at_device besides is_beside id me itself wait = device_allows R Q IsLook Tie id me 1 (λ n. n) (looked entries' stood' front' empty_turns' follows' (device_me me)) (device_looked entries follows besides entries' empty_turns' later me) (omega arith) down_look
       (looks_as entries' stood' front' empty_turns' follows' first' passes 1 id (device_me me) wait)
-      (λ s r at w a is valid so. tie_device_look entries stood front empty_turns follows first entries' stood' front' empty_turns' follows' first' passes beside later owed id me 4 (get_or s.words 4 0) (get_or s.words 4 0) itself wait s r.other r.ties at w a is valid so)
+      (λ s r at w a is valid so. tie_device_look entries stood front empty_turns follows first entries' stood' front' empty_turns' follows' first' passes beside later owed besides is_beside id me 4 (get_or s.words 4 0) (get_or s.words 4 0) itself wait s r.turn r.other r.ties at w a is valid so)
 
   -- 5, 6, of the device: an empty turn, after which the history is as it was
   pub passes_device_on : (id : ℕ) (me : M) (old value : D) (under : List (ℕ × Cell (Option T) (Option D))) (empty' owes' : ℕ) → me.0.device.stage ≡ Turn → me.0.device.first ≡ Some first' → me.0.value.numbers ≢ [] → me.0.more.down ≡ Some old

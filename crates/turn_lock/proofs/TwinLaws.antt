@@ -52,8 +52,8 @@ module _ {T D E : Type 0} (entries : T → List E) (stood : T → ℕ) (front : 
   pub queues : (id : ℕ) (me : M) → me.0.value.stage ≡ Resting → me.0.value.numbers ≢ [] → Allows Rule 2 id me 0 (λ n. (n + 1) % 18446744073709551616) (value_queued me)
   queues = takes_value_ticket entries stood front empty_turns follows first no_entries none_stood no_front turns_of any_follows first' passes (λ v c. beside first v c.device) (λ c d. later c.device d.device) (λ v c. owed v c.device)
 
-  pub looks : (id : ℕ) (me : M) → me.0.value.stage ≡ Waiting → Allows Rule 2 id me 1 (λ n. n) (value_looked entries stood front empty_turns follows me)
-  looks = looks_at_value entries stood front empty_turns follows first no_entries none_stood no_front turns_of any_follows first' passes (λ v c. beside first v c.device) (λ c d. later c.device d.device) (λ v c. owed v c.device)
+  pub looks : (id : ℕ) (me : M) → me.0.value.stage ≡ Waiting → Allows Rule 2 id me 1 (λ n. n) (value_looked entries stood front empty_turns follows (λ f v (c : Counted D). beside f v c.device) (λ c d. later c.device d.device) me)
+  looks = looks_at_value entries stood front empty_turns follows first no_entries none_stood no_front turns_of any_follows first' passes (λ v c. beside first v c.device) (λ c d. later c.device d.device) (λ v c. owed v c.device) (λ f v c. beside f v c.device) (λ v c b. b)
 
   pub raises : (id : ℕ) (me : M) (own own' : T) (k owes' : ℕ) → me.0.value.stage ≡ Turn → me.0.value.first ≡ Some first → me.0.value.numbers ≢ [] → IsOneTurn front me.0.value.seen me.0.value.empty (entries own') (empty_turns own') k
       → me.0.more.own ≡ Some own → follows first own' → MayRaise (beside first) later owed (uncounted me.0.more.saw) own me.0.more.owes own' owes'
@@ -80,8 +80,8 @@ module _ {T D E : Type 0} (entries : T → List E) (stood : T → ℕ) (front : 
   pub queues_device : (id : ℕ) (me : M) → me.0.device.stage ≡ Resting → me.0.device.numbers ≢ [] → Allows Rule 2 id me 3 (λ n. (n + 1) % 18446744073709551616) (device_queued me)
   queues_device = takes_device_ticket entries stood front empty_turns follows first no_entries none_stood no_front turns_of any_follows first' passes (λ v c. beside first v c.device) (λ c d. later c.device d.device) (λ v c. owed v c.device)
 
-  pub looks_for_device : (id : ℕ) (me : M) → ((d : D) → later d d) → me.0.device.stage ≡ Waiting → Allows Rule 2 id me 4 (λ n. n) (device_looked no_entries turns_of (λ c d. later c.device d.device) me)
-  looks_for_device id me itself wait = looks_at_device entries stood front empty_turns follows first no_entries none_stood no_front turns_of any_follows first' passes (λ v c. beside first v c.device) (λ c d. later c.device d.device) (λ v c. owed v c.device) id me (λ d. itself d.device) wait
+  pub looks_for_device : (id : ℕ) (me : M) → ((d : D) → later d d) → me.0.device.stage ≡ Waiting → Allows Rule 2 id me 4 (λ n. n) (device_looked entries follows (λ f v (c : Counted D). beside f v c.device) no_entries turns_of (λ c d. later c.device d.device) me)
+  looks_for_device id me itself wait = looks_at_device entries stood front empty_turns follows first no_entries none_stood no_front turns_of any_follows first' passes (λ v c. beside first v c.device) (λ c d. later c.device d.device) (λ v c. owed v c.device) (λ f v c. beside f v c.device) (λ v c b. b) id me (λ d. itself d.device) wait
 
   pub deals : (id : ℕ) (v : Seen T E (Counted D) ℕ) → v.value.stage ≡ Resting → v.value.mine ≡ [] → v.value.turns ≡ 0 → v.device.stage ≡ Resting → v.device.mine ≡ [] → v.device.turns ≡ 0 → v.more.owes ≡ 0 → Splits Rule id v (twin_left v) (twin_dealt v)
   deals = twin_splits entries stood front empty_turns follows first no_entries none_stood no_front turns_of any_follows first' passes (λ v c. beside first v c.device) (λ c d. later c.device d.device) (λ v c. owed v c.device)

@@ -21,7 +21,7 @@ use Rattle.turn_lock.specs.declared.twin_view.Cell.TheVariants.{OfValue, OfDevic
 use Rattle.turn_lock.specs.declared.twin_view.More.{More}
 use Rattle.turn_lock.specs.Twin.{value_home, device_home, device_part, value_side, device_side}
 use Rattle.turn_lock.specs.Tied.{Seen, IsOwn, IsDown, Covers, MayRaise, MayRaiseBoth, MayPut, Tied}
-use Rattle.turn_lock.specs.TwinSteps.{with_value, with_device, raises_value, raises_both, gave_device, value_queued, value_looked, value_passed, value_read, twin_raised, device_queued, device_looked}
+use Rattle.turn_lock.specs.TwinSteps.{LaterBeside, BesideKnown, with_value, with_device, raises_value, raises_both, gave_device, value_queued, value_looked, value_passed, value_read, twin_raised, device_queued, device_looked}
 use Rattle.turn_lock.proofs.TwinActs.{value_part, up, down, value_me, device_me}
 use Rattle.turn_lock.proofs.TwinParts.{value_of, device_of, at_map, value_at, device_at}
 
@@ -236,9 +236,9 @@ module _ {T E D F : Type 0}
       )
 
   -- 2: a look that finds another's turn
-  tie_miss : (id : ℕ) (me : N) (i n r : ℕ) → me.0.value.stage ≡ Waiting → (s : S) → Tie s → get_elem? s.views id ≡ some me.0 → (w : View T E) (a : Act (Option T)) → a ≡ keeps → looked entries stood front empty_turns follows (value_me me) r (w, carried_after (value_part me.1) a)
-      → (m : More T D) × Tie (stepped s i n id me.1 (with_value me.0 w m) (up a)) × value_looked entries stood front empty_turns follows me r (with_value me.0 w m, carried_after me.1 (up a))
-  tie_miss id me i n r stage s k at w a is so =
+  tie_miss : (besides : T → T → D → Type 0) (id : ℕ) (me : N) (i n r : ℕ) → me.0.value.stage ≡ Waiting → (s : S) → Tie s → get_elem? s.views id ≡ some me.0 → (w : View T E) (a : Act (Option T)) → a ≡ keeps → looked entries stood front empty_turns follows (value_me me) r (w, carried_after (value_part me.1) a)
+      → (m : More T D) × Tie (stepped s i n id me.1 (with_value me.0 w m) (up a)) × value_looked entries stood front empty_turns follows besides later me r (with_value me.0 w m, carried_after me.1 (up a))
+  tie_miss besides id me i n r stage s k at w a is so =
       let kept : looked entries stood front empty_turns follows (value_me me) r (w, value_part me.1) = subst (λ (b : Act (Option T)). looked entries stood front empty_turns follows (value_me me) r (w, carried_after (value_part me.1) b)) is so in
       let missed : r ≡ me.0.value.ticket % 18446744073709551616 → ⊥ = λ hit. let g = kept.0 hit in longer_list (value_part me.1) (0, Some g.0) (ap (λ (y : VM). y.1) g.2) in
       let w_is : w ≡ me.0.value = ap (λ (x : VM). x.0) (kept.1 missed) in (
@@ -249,10 +249,10 @@ module _ {T E D F : Type 0}
       )
 
   -- 3: a look that takes the value
-  tie_hit : (id : ℕ) (me : N) (i n r : ℕ) (x : T) → (s : S) → ValueRule (value_side s) → Tie s → get_elem? s.views id ≡ some me.0 → (w : View T E) (a : Act (Option T)) → a ≡ takes 0 (Some x) → Valid (value_side s).homes (value_part me.1) a
+  tie_hit : (besides : T → T → D → Type 0) → ((v : T) (d : D) → beside v d → besides first v d) → (id : ℕ) (me : N) (i n r : ℕ) (x : T) → (s : S) → ValueRule (value_side s) → Tie s → get_elem? s.views id ≡ some me.0 → (w : View T E) (a : Act (Option T)) → a ≡ takes 0 (Some x) → Valid (value_side s).homes (value_part me.1) a
       → looked entries stood front empty_turns follows (value_me me) r (w, carried_after (value_part me.1) a)
-      → (m : More T D) × Tie (stepped s i n id me.1 (with_value me.0 w m) (up a)) × value_looked entries stood front empty_turns follows me r (with_value me.0 w m, carried_after me.1 (up a))
-  tie_hit id me i n r x s rule k at w a is valid so =
+      → (m : More T D) × Tie (stepped s i n id me.1 (with_value me.0 w m) (up a)) × value_looked entries stood front empty_turns follows besides later me r (with_value me.0 w m, carried_after me.1 (up a))
+  tie_hit besides is_beside id me i n r x s rule k at w a is valid so =
       let m : More T D = record me.0.more { own = Some x } in
       let home : get_elem? s.homes 0 ≡ some (some (OfValue (Some x))) = value_at s.homes (Some x) (subst (Valid (value_side s).homes (value_part me.1)) is valid) in
       let got : looked entries stood front empty_turns follows (value_me me) r (w, (0, Some x) ∷ value_part me.1) = subst (λ (b : Act (Option T)). looked entries stood front empty_turns follows (value_me me) r (w, carried_after (value_part me.1) b)) is so in
@@ -263,7 +263,9 @@ module _ {T E D F : Type 0}
       let g = got.0 hit in
       let got_is : g.0 ≡ x = same_Some g.0 x (sym (ap (λ (y : VM). first_of (Some x) y.1) g.2)) in
       let carried : carried_after me.1 (up a) ≡ (0, OfValue (Some g.0)) ∷ me.1 = ap (λ (b : Act (Option T)). carried_after me.1 (up b)) is ∙ ap (λ (y : T). (0, OfValue (Some y)) ∷ me.1) (sym got_is) in
-      let w_is = ap (λ (y : VM). y.0) g.2 in (
+      let w_is = ap (λ (y : VM). y.0) g.2 in
+      let same_first : (f : T) → me.0.value.first ≡ Some f → f ≡ first = (rule.knows.each id me.0.value (at_map value_of s.views id me.0 at)).first_is in
+      let with_later : (f : T) → f ≡ first → LaterBeside (besides f) later me.0.more.saw g.0 = λ f e. (k.device, subst (λ (x : T). besides x g.0 k.device) (sym e) (is_beside g.0 k.device (subst (λ (x : T). beside x k.device) (value_is ∙ sym got_is) k.beside_is)), k.seen_is id me.0 at) in (
         m,
         subst (λ (b : Act (Option T)). Tie (stepped s i n id me.1 (with_value me.0 w m) (up b))) (sym is) record {
           value = k.value;
@@ -283,14 +285,14 @@ module _ {T E D F : Type 0}
           told = subst (λ (z : ℕ). owed k.value k.device ≤ z) (sym (total_same (λ (u : U). u.more.owes) s.views id me.0 (with_value me.0 w m) at refl)) k.told;
           idle = idle_set s.views id (with_value me.0 w m) k.idle (λ none. k.idle id me.0 at (sym (ap (λ (y : View T E). y.numbers) w_is) ∙ none));
         },
-        ((λ _. (g.0, g.1, (λ j. (with_value me.0 (w_is j) (record me.0.more { own = Some (sym got_is j) }), carried j)), g.3)), λ miss. absurd (miss hit)),
+        ((λ _. (g.0, g.1, (λ j. (with_value me.0 (w_is j) (record me.0.more { own = Some (sym got_is j) }), carried j)), g.3, λ f f_is. with_later f (same_first f f_is))), λ miss. absurd (miss hit)),
       )
 
   -- 2, 3
-  pub tie_look : (id : ℕ) (me : N) (i n r : ℕ) → me.0.value.stage ≡ Waiting → (s : S) → ValueRule (value_side s) → Tie s → get_elem? s.views id ≡ some me.0 → (w : View T E) (a : Act (Option T)) → IsLook a → Valid (value_side s).homes (value_part me.1) a
+  pub tie_look : (besides : T → T → D → Type 0) → ((v : T) (d : D) → beside v d → besides first v d) → (id : ℕ) (me : N) (i n r : ℕ) → me.0.value.stage ≡ Waiting → (s : S) → ValueRule (value_side s) → Tie s → get_elem? s.views id ≡ some me.0 → (w : View T E) (a : Act (Option T)) → IsLook a → Valid (value_side s).homes (value_part me.1) a
       → looked entries stood front empty_turns follows (value_me me) r (w, carried_after (value_part me.1) a)
-      → (m : More T D) × Tie (stepped s i n id me.1 (with_value me.0 w m) (up a)) × value_looked entries stood front empty_turns follows me r (with_value me.0 w m, carried_after me.1 (up a))
-  tie_look id me i n r stage s rule k at w a look valid so = ⊎_elim (λ is. tie_miss id me i n r stage s k at w a is so) (λ t. tie_hit id me i n r t.0 s rule k at w a t.1 valid so) look
+      → (m : More T D) × Tie (stepped s i n id me.1 (with_value me.0 w m) (up a)) × value_looked entries stood front empty_turns follows besides later me r (with_value me.0 w m, carried_after me.1 (up a))
+  tie_look besides is_beside id me i n r stage s rule k at w a look valid so = ⊎_elim (λ is. tie_miss besides id me i n r stage s k at w a is so) (λ t. tie_hit besides is_beside id me i n r t.0 s rule k at w a t.1 valid so) look
 
   -- 4: the front is raised, and what goes back is known: no device is out with the pass
   pub tie_raise : (id : ℕ) (me : N) (log' : List E) (empty' i n : ℕ) (own own' : T) (owes' : ℕ) → is_held me.0.value.stage ≡ true → me.0.value.numbers ≢ [] → me.0.more.own ≡ Some own → entries own' ≡ log' → follows first own'
@@ -402,9 +404,9 @@ module _ {T E D F : Type 0}
         (so.0, so.1, (λ j. (with_device me.0 (w_is j) me.0.more, kept_down me.1 a is j))),
       )
 
-  tie_device_miss : (id : ℕ) (me : N) (i n r : ℕ) → me.0.device.stage ≡ Waiting → (s : S) → Tie s → get_elem? s.views id ≡ some me.0 → (w : View D F) (a : Act (Option D)) → a ≡ keeps → looked entries' stood' front' empty_turns' follows' (device_me me) r (w, carried_after (device_part me.1) a)
-      → (m : More T D) × Tie (stepped s i n id me.1 (with_device me.0 w m) (down a)) × device_looked entries' empty_turns' later me r (with_device me.0 w m, carried_after me.1 (down a))
-  tie_device_miss id me i n r stage s k at w a is so =
+  tie_device_miss : (besides : T → T → D → Type 0) (id : ℕ) (me : N) (i n r : ℕ) → me.0.device.stage ≡ Waiting → (s : S) → Tie s → get_elem? s.views id ≡ some me.0 → (w : View D F) (a : Act (Option D)) → a ≡ keeps → looked entries' stood' front' empty_turns' follows' (device_me me) r (w, carried_after (device_part me.1) a)
+      → (m : More T D) × Tie (stepped s i n id me.1 (with_device me.0 w m) (down a)) × device_looked entries follows besides entries' empty_turns' later me r (with_device me.0 w m, carried_after me.1 (down a))
+  tie_device_miss besides id me i n r stage s k at w a is so =
       let kept : looked entries' stood' front' empty_turns' follows' (device_me me) r (w, device_part me.1) = subst (λ (b : Act (Option D)). looked entries' stood' front' empty_turns' follows' (device_me me) r (w, carried_after (device_part me.1) b)) is so in
       let missed : r ≡ me.0.device.ticket % 18446744073709551616 → ⊥ = λ hit. let g = kept.0 hit in longer_list (device_part me.1) (0, Some g.0) (ap (λ (y : DM). y.1) g.2) in
       let w_is : w ≡ me.0.device = ap (λ (x : DM). x.0) (kept.1 missed) in (
@@ -414,10 +416,10 @@ module _ {T E D F : Type 0}
         ((λ hit. absurd (missed hit)), λ _. (λ j. (with_device me.0 (w_is j) me.0.more, kept_down me.1 a is j))),
       )
 
-  tie_device_hit : (id : ℕ) (me : N) (i n r : ℕ) (y : D) → ((d : D) → later d d) → (s : S) → DeviceRule (device_side s) → Tie s → get_elem? s.views id ≡ some me.0 → (w : View D F) (a : Act (Option D)) → a ≡ takes 0 (Some y) → Valid (device_side s).homes (device_part me.1) a
+  tie_device_hit : (besides : T → T → D → Type 0) → ((v : T) (d : D) → beside v d → besides first v d) → (id : ℕ) (me : N) (i n r : ℕ) (y : D) → ((d : D) → later d d) → (s : S) → ValueRule (value_side s) → DeviceRule (device_side s) → Tie s → get_elem? s.views id ≡ some me.0 → (w : View D F) (a : Act (Option D)) → a ≡ takes 0 (Some y) → Valid (device_side s).homes (device_part me.1) a
       → looked entries' stood' front' empty_turns' follows' (device_me me) r (w, carried_after (device_part me.1) a)
-      → (m : More T D) × Tie (stepped s i n id me.1 (with_device me.0 w m) (down a)) × device_looked entries' empty_turns' later me r (with_device me.0 w m, carried_after me.1 (down a))
-  tie_device_hit id me i n r y itself s rule k at w a is valid so =
+      → (m : More T D) × Tie (stepped s i n id me.1 (with_device me.0 w m) (down a)) × device_looked entries follows besides entries' empty_turns' later me r (with_device me.0 w m, carried_after me.1 (down a))
+  tie_device_hit besides is_beside id me i n r y itself s value_rule rule k at w a is valid so =
       let m : More T D = record me.0.more { down = Some y; saw = Some y } in
       let home : get_elem? s.homes 1 ≡ some (some (OfDevice (Some y))) = device_at s.homes (Some y) (subst (Valid (device_side s).homes (device_part me.1)) is valid) in
       let got : looked entries' stood' front' empty_turns' follows' (device_me me) r (w, (0, Some y) ∷ device_part me.1) = subst (λ (b : Act (Option D)). looked entries' stood' front' empty_turns' follows' (device_me me) r (w, carried_after (device_part me.1) b)) is so in
@@ -427,7 +429,16 @@ module _ {T E D F : Type 0}
       let g = got.0 hit in
       let got_is : g.0 ≡ y = same_Some g.0 y (sym (ap (λ (x : DM). first_of (Some y) x.1) g.2)) in
       let carried : carried_after me.1 (down a) ≡ (1, OfDevice (Some g.0)) ∷ me.1 = ap (λ (b : Act (Option D)). carried_after me.1 (down b)) is ∙ ap (λ (x : D). (1, OfDevice (Some x)) ∷ me.1) (sym got_is) in
-      let w_is = ap (λ (x : DM). x.0) g.2 in (
+      let w_is = ap (λ (x : DM). x.0) g.2 in
+      let known = known_value s id me.0 value_rule k at in
+      let same_first : (f : T) → me.0.value.first ≡ Some f → f ≡ first = (value_rule.knows.each id me.0.value (at_map value_of s.views id me.0 at)).first_is in
+      let with_known : (f : T) → f ≡ first → BesideKnown entries (follows f) (besides f) me.0.value.seen (is_held me.0.value.stage) me.0.more.own g.0 = λ f e. (
+        k.value,
+        known.0,
+        subst (λ (x : T). follows x k.value) (sym e) known.1,
+        subst (λ (x : T). besides x k.value g.0) (sym e) (is_beside k.value g.0 (subst (beside k.value) (device_is ∙ sym got_is) k.beside_is)),
+        λ held. (out_only s id me.0 value_rule k at held).0,
+      ) in (
         m,
         subst (λ (b : Act (Option D)). Tie (stepped s i n id me.1 (with_device me.0 w m) (down b))) (sym is) record {
           value = k.value;
@@ -445,14 +456,14 @@ module _ {T E D F : Type 0}
           told = subst (λ (z : ℕ). owed k.value k.device ≤ z) (sym (total_same (λ (u : U). u.more.owes) s.views id me.0 (with_device me.0 w m) at refl)) k.told;
           idle = idle_set s.views id (with_device me.0 w m) k.idle (λ none. k.idle id me.0 at none);
         },
-        ((λ _. (g.0, g.1, (λ j. (with_device me.0 (w_is j) (record me.0.more { down = Some (sym got_is j); saw = Some (sym got_is j) }), carried j)), λ d saw. subst (later d) (device_is ∙ sym got_is) (k.seen_is id me.0 at d saw))), λ miss. absurd (miss hit)),
+        ((λ _. (g.0, g.1, (λ j. (with_device me.0 (w_is j) (record me.0.more { down = Some (sym got_is j); saw = Some (sym got_is j) }), carried j)), (λ d saw. subst (later d) (device_is ∙ sym got_is) (k.seen_is id me.0 at d saw)), λ f f_is. with_known f (same_first f f_is))), λ miss. absurd (miss hit)),
       )
 
   -- a look at the device's turn, which may take the device
-  pub tie_device_look : (id : ℕ) (me : N) (i n r : ℕ) → ((d : D) → later d d) → me.0.device.stage ≡ Waiting → (s : S) → DeviceRule (device_side s) → Tie s → get_elem? s.views id ≡ some me.0 → (w : View D F) (a : Act (Option D)) → IsLook a → Valid (device_side s).homes (device_part me.1) a
+  pub tie_device_look : (besides : T → T → D → Type 0) → ((v : T) (d : D) → beside v d → besides first v d) → (id : ℕ) (me : N) (i n r : ℕ) → ((d : D) → later d d) → me.0.device.stage ≡ Waiting → (s : S) → ValueRule (value_side s) → DeviceRule (device_side s) → Tie s → get_elem? s.views id ≡ some me.0 → (w : View D F) (a : Act (Option D)) → IsLook a → Valid (device_side s).homes (device_part me.1) a
       → looked entries' stood' front' empty_turns' follows' (device_me me) r (w, carried_after (device_part me.1) a)
-      → (m : More T D) × Tie (stepped s i n id me.1 (with_device me.0 w m) (down a)) × device_looked entries' empty_turns' later me r (with_device me.0 w m, carried_after me.1 (down a))
-  tie_device_look id me i n r itself stage s rule k at w a look valid so = ⊎_elim (λ is. tie_device_miss id me i n r stage s k at w a is so) (λ t. tie_device_hit id me i n r t.0 itself s rule k at w a t.1 valid so) look
+      → (m : More T D) × Tie (stepped s i n id me.1 (with_device me.0 w m) (down a)) × device_looked entries follows besides entries' empty_turns' later me r (with_device me.0 w m, carried_after me.1 (down a))
+  tie_device_look besides is_beside id me i n r itself stage s value_rule rule k at w a look valid so = ⊎_elim (λ is. tie_device_miss besides id me i n r stage s k at w a is so) (λ t. tie_device_hit besides is_beside id me i n r t.0 itself s value_rule rule k at w a t.1 valid so) look
 
   -- The device is put back: as it was raised beside the value, or as this pass alone has changed it, for each value that continues what the pass has seen.
   pub tie_device_put : (id : ℕ) (me : N) (old value : D) (under : List (ℕ × Cell (Option T) (Option D))) (i n owes' : ℕ) → is_held me.0.device.stage ≡ true → me.0.value.numbers ≢ [] → me.0.more.down ≡ Some old → me.1 ≡ (1, OfDevice (Some value)) ∷ under

@@ -1,11 +1,12 @@
 -- What each kind of step on a table with two turns changes in what the pass knows, and what it returns.
-use Rattle.std.specs.Prelude.{◌≡◌, ◌≢◌, ℕ, ◌+◌, ◌%◌, ◌^◌, ◌≤◌, List, ◌∷◌, drop, Option, Some, None}
+use Rattle.std.specs.Prelude.{◌≡◌, ◌≢◌, ℕ, ◌+◌, ◌%◌, ◌^◌, ◌≤◌, Bool, true, List, ◌∷◌, drop, Option, Some, None}
 use Rattle.atomic_table.specs.Table.{Me, rest}
 use Rattle.turn_lock.specs.declared.twin_view.Cell.{Cell}
 use Rattle.turn_lock.specs.declared.twin_view.Cell.TheVariants.{OfValue, OfDevice}
 use Rattle.turn_lock.specs.declared.twin_view.TwinView.{TwinView}
 use Rattle.turn_lock.specs.declared.twin_view.More.{More}
-use Rattle.turn_lock.specs.Turning.{greatest}
+use Rattle.turn_lock.specs.Turning.{IsBeginning, greatest}
+use Rattle.turn_lock.specs.Rule.{is_held}
 use Rattle.turn_lock.specs.Steps.{waiting, in_turn, raising, resting, left_to_deal, dealt, joined, spent, Suits}
 use Rattle.turn_lock.specs.Tied.{Seen}
 
@@ -89,21 +90,32 @@ abbrev pub twin_raised : {T E D F : Type 0} → (T → ℕ) → (E → ℕ) → 
 twin_raised stood front log empty more m n = (known : ℕ) × (n ≡ (with_value m.0 (raising m.0.value log empty known) more, m.1))
     × ((first : _) → m.0.value.first ≡ Some first → known ≡ greatest front (drop (stood first) log)) × (m.0.value.front ≤ known)
 
-module _ {T E D F : Type 0} (entries : T → List E) (stood : T → ℕ) (front : E → ℕ) (empty_turns : T → ℕ) (follows : T → T → Type 0) where
-  -- the ticket was served, and the value is taken
+module _ {T D : Type 0} (beside : T → D → Type 0) (later : D → D → Type 0) where
+  -- some device lies beside this value, and is the one that was seen or a later one
+  abbrev pub LaterBeside : Option D → T → Type 0
+  LaterBeside saw value = (device : D) × beside value device × ((d : D) → saw ≡ Some d → later d device)
+
+module _ {T E D : Type 0} (entries : T → List E) (follows : T → Type 0) (beside : T → D → Type 0) where
+  -- this device lies beside some value, which continues what was seen, and is the pass's own where it is out with it
+  abbrev pub BesideKnown : List E → Bool → Option T → D → Type 0
+  BesideKnown seen out own device = (value : T) × IsBeginning seen (entries value) × follows value × beside value device × (out ≡ true → own ≡ Some value)
+
+module _ {T E D F : Type 0} (entries : T → List E) (stood : T → ℕ) (front : E → ℕ) (empty_turns : T → ℕ) (follows : T → T → Type 0) (beside : T → T → D → Type 0) (later : D → D → Type 0) where
+  -- the ticket was served, and the value is taken, beside a device that is not earlier than the one that the pass saw
   abbrev pub GetsValue : Knows T E D F → Knows T E D F → Type 0
   GetsValue m n = (value : T) × (known : ℕ) × (n ≡ (with_value m.0 (in_turn m.0.value (entries value) (empty_turns value) known) (record m.0.more { own = Some value }), (0, OfValue (Some value)) ∷ m.1))
-      × Suits entries stood front empty_turns follows m.0.value value known
+      × Suits entries stood front empty_turns follows m.0.value value known × ((first : T) → m.0.value.first ≡ Some first → LaterBeside (beside first) later m.0.more.saw value)
 
   -- the value's turn was checked, and begins if the ticket is served
   abbrev pub value_looked : Knows T E D F → ℕ → Knows T E D F → Type 0
   value_looked m r n = (r ≡ m.0.value.ticket % 2 ^ 64 → GetsValue m n) × (r ≢ m.0.value.ticket % 2 ^ 64 → n ≡ m)
 
-module _ {T E D F : Type 0} (entries : D → List F) (empty_turns : D → ℕ) (later : D → D → Type 0) where
-  -- the ticket was served, and the device is taken, which is later than the one that the pass saw
+module _ {T E D F : Type 0} (entries : T → List E) (follows : T → T → Type 0) (beside : T → T → D → Type 0) (entries' : D → List F) (empty_turns' : D → ℕ) (later : D → D → Type 0) where
+  -- The ticket was served, and the device is taken: the one that the pass saw or a later one, beside a value that fits what the pass knows.
   abbrev pub GetsDevice : Knows T E D F → Knows T E D F → Type 0
-  GetsDevice m n = (device : D) × (known : ℕ) × (n ≡ (with_device m.0 (in_turn m.0.device (entries device) (empty_turns device) known) (record m.0.more { down = Some device; saw = Some device }), (1, OfDevice (Some device)) ∷ m.1))
+  GetsDevice m n = (device : D) × (known : ℕ) × (n ≡ (with_device m.0 (in_turn m.0.device (entries' device) (empty_turns' device) known) (record m.0.more { down = Some device; saw = Some device }), (1, OfDevice (Some device)) ∷ m.1))
       × ((d : D) → m.0.more.saw ≡ Some d → later d device)
+      × ((first : T) → m.0.value.first ≡ Some first → BesideKnown entries (follows first) (beside first) m.0.value.seen (is_held m.0.value.stage) m.0.more.own device)
 
   -- the device's turn was checked, and begins if the ticket is served
   abbrev pub device_looked : Knows T E D F → ℕ → Knows T E D F → Type 0

@@ -84,7 +84,7 @@ pub struct LookAtValue;
 impl<T: Twins> Play<TwinSlot<T, T::Device>, Seen<T, T::Entry, T::Device>> for LookAtValue {
     ghost use Rattle.turn_lock.specs.TwinSteps.{value_looked};
 
-    ghost then = { λ _ m r n. value_looked T.entries T.stood T.front T.empty_turns T.follows m r n };
+    ghost then = { λ _ m r n. value_looked T.entries T.stood T.front T.empty_turns T.follows (λ f v c. T.beside f v c.device) (λ c d. T.later c.device d.device) m r n };
 }
 
 /// The front was raised, and the new entry joins the pass's own.
@@ -135,7 +135,7 @@ impl<T: Twins> Play<TwinSlot<T, T::Device>, Seen<T, T::Entry, T::Device>> for Lo
     ghost use Rattle.turn_lock.specs.Tied.{no_entries, turns_of};
     ghost use Rattle.turn_lock.specs.TwinSteps.{device_looked};
 
-    ghost then = { λ _ m r n. device_looked no_entries turns_of (λ c d. T.later c.device d.device) m r n };
+    ghost then = { λ _ m r n. device_looked T.entries T.follows (λ f v c. T.beside f v c.device) no_entries turns_of (λ c d. T.later c.device d.device) m r n };
 }
 
 /// The device's turn was passed, and its slot was put back.

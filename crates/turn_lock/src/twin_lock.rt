@@ -76,7 +76,8 @@ impl<T: Twins> TwinLock<T> {
     ghost use Rattle.turn_lock.specs.Twin.{device_part};
     ghost use Rattle.turn_lock.specs.Turning.{EachOnce, IsBeginning, IsOneTurn, StandIn, added, greatest, places, times};
     ghost use Rattle.turn_lock.specs.Tied.{MayRaise, MayRaiseBoth, MayPut, no_entries, turns_of, twin_newcomer};
-    ghost use Rattle.turn_lock.specs.TwinSteps.{GetsValue, GetsDevice, value_queued, value_passed, value_read, device_queued, device_passed, twin_raised, twin_joined, raises_value, raises_both, gave_device, with_device};
+    ghost use Rattle.turn_lock.specs.Rule.{is_held};
+    ghost use Rattle.turn_lock.specs.TwinSteps.{LaterBeside, BesideKnown, GetsValue, GetsDevice, value_queued, value_passed, value_read, device_queued, device_passed, twin_raised, twin_joined, raises_value, raises_both, gave_device, with_device};
     ghost use Rattle.turn_lock.specs.TwinPasses.{first_of, first_device_of, passes_of, pass_numbers, seen_of, parts_of, mine_of, value_turns, front_of, empty_of, owes_of, own_of, down_of, saw_of, me_of, device_view, IsAtRest, WaitsForValue, WaitsForDevice, HasValue, HasBoth, HasDevice, HasRaised, IsSamePass, IsPassOf, IsNew, KeepsValue, KeepsDevice, uncounted};
 
     /// A lock around `value` with `device` beside it, with one pass for each label, in their order. If memory runs out both are returned.
@@ -176,6 +177,7 @@ impl<T: Twins> TwinLock<T> {
         ensures same_value { (T.stood result.value ≡ T.stood (first_of self.now)) × T.follows (first_of self.now) result.value }
         ensures front { (front_of pass.new ≡ greatest T.front (drop (T.stood (first_of self.now)) (seen_of pass.new))) × (front_of pass.old ≤ front_of pass.new) }
         ensures own { own_of pass.new ≡ Some result.value }
+        ensures beside { LaterBeside (T.beside (first_of self.now)) T.later (saw_of pass.old) result.value }
         ensures device { KeepsDevice pass.old pass.new × (owes_of pass.new ≡ owes_of pass.old) }
     {
         let Ticket {
@@ -194,7 +196,7 @@ impl<T: Twins> TwinLock<T> {
         requires pass { IsPassOf self.now pass.old }
         requires waits { WaitsForValue pass.old ticket }
         ensures pass { (pass.new.label ≡ pass.old.label) × (pass.new.seat.table_id ≡ pass.old.seat.table_id) }
-        ensures value { GetsValue T.entries T.stood T.front T.empty_turns T.follows (me_of pass.old) (me_of pass.new) }
+        ensures value { GetsValue T.entries T.stood T.front T.empty_turns T.follows (λ f v c. T.beside f v c.device) (λ c d. T.later c.device d.device) (me_of pass.old) (me_of pass.new) }
     {
         let backoff = Backoff::new();
         for _ in rt.forever() {
@@ -395,6 +397,7 @@ impl<T: Twins> TwinLock<T> {
         ensures slots { (me_of pass.new).1 ≡ (1, OfDevice None) ∷ (me_of pass.old).1 }
         ensures device { (down_of pass.new ≡ Some result.device) × (saw_of pass.new ≡ Some result.device) }
         ensures later { (seen : T.Device) → saw_of pass.old ≡ Some seen → T.later seen result.device }
+        ensures beside { BesideKnown T.entries (T.follows (first_of self.now)) (T.beside (first_of self.now)) (seen_of pass.old) (is_held (me_of pass.old).0.value.stage) (own_of pass.old) result.device }
         ensures value { KeepsValue pass.old pass.new × (owes_of pass.new ≡ owes_of pass.old) }
     {
         let Ticket {
@@ -415,7 +418,7 @@ impl<T: Twins> TwinLock<T> {
         requires pass { IsPassOf self.now pass.old }
         requires waits { WaitsForDevice pass.old ticket }
         ensures pass { (pass.new.label ≡ pass.old.label) × (pass.new.seat.table_id ≡ pass.old.seat.table_id) }
-        ensures device { GetsDevice no_entries turns_of (λ c d. T.later c.device d.device) (me_of pass.old) (me_of pass.new) }
+        ensures device { GetsDevice T.entries T.follows (λ f v c. T.beside f v c.device) no_entries turns_of (λ c d. T.later c.device d.device) (me_of pass.old) (me_of pass.new) }
     {
         let backoff = Backoff::new();
         for _ in rt.forever() {

@@ -2,7 +2,7 @@
 use Rattle.std.proofs.Common.{◌≡◌, ℕ, zero, suc, ◌-◌, ◌≤◌, ◌<◌, ◌⊎◌, Bool, true, false, List, [], ◌∷◌, ◌++◌, length, drop, get_or, sym, refl, ap, ◌∙◌, subst, ⊎_elim, arith, Option, Some}
 use Rattle.turn_lock.specs.Turning.{IsBeginning, times}
 use Rattle.turn_lock.specs.Tied.{MayRaise, MayRaiseBoth, MayPut}
-use Rattle.turn_lock.proofs.TurnLaws.{begins_itself, begins_more}
+use Rattle.turn_lock.proofs.TurnLaws.{begins_itself, begins_more, begins_length}
 use Rattle.turn_lock.proofs.TwinTies.{no_bool}
 use Rattle.twin_ledger.specs.declared.ledger.Journal.{Journal}
 use Rattle.twin_ledger.specs.declared.ledger.Mirror.{Mirror}
@@ -82,6 +82,10 @@ failed_on possible old new owes copied fails v may b =
 drop_begun : (a r : List ℕ) → drop (length a) (a ++ r) ≡ r
 drop_begun [] r = refl
 drop_begun (x ∷ a) r = drop_begun a r
+
+-- the mirror beside a journal has no more posts than that one once it posts
+pub no_more : (copied before more shown : List ℕ) → IsBeginning copied before → shown ≡ before ++ more → length copied ≤ length shown
+no_more copied before more shown begins is = begins_length copied shown (subst (IsBeginning copied) (sym is) (begins_more copied before more begins))
 
 -- a turn with both, in which the mirror follows or fails
 pub following : (old new : Journal) (down device : Mirror) (more shown : List ℕ) (owes owes' : ℕ) → shown ≡ new.posts.items → new.posts.items ≡ old.posts.items ++ more → new.told ≡ old.told

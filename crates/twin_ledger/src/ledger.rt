@@ -149,14 +149,14 @@ impl Mirror {
         true
     }
 
-    /// Copies what these posts have after its own, and returns how often it failed: 0 where it works, else 1. One that has more than
-    /// these posts fails.
+    /// Copies what these posts have after its own, and returns how often it failed: 0 where it works, else 1.
     pub fn follow(&mut self, posts: &[u64]) -> u64
+        requires fewer { length self.old.copied.items ≤ length posts.now }
         ensures { ((result ≡ 0) × (self.new.failed ≡ false) × (self.old.failed ≡ false) × (self.new.copied.items ≡ self.old.copied.items ++ drop (length self.old.copied.items) posts.now))
             ⊎ ((result ≡ 1) × (self.new.failed ≡ true) × (self.new.copied.items ≡ self.old.copied.items)) }
     {
         let from = self.copied.len();
-        if self.failed || self.calls == 0 || from > posts.len() {
+        if self.failed || self.calls == 0 {
             self.failed = true;
             return 1;
         }

@@ -1,7 +1,17 @@
-use Rattle.std.proofs.Common.{rules, ◌≡◌, ap, ◌∙◌, arith, ⊎_elim}
+use Rattle.std.proofs.Common.{rules, ◌≡◌, ap, sym, subst, ◌∙◌, arith, ⊎_elim, List, ℕ}
+use Rattle.std.proofs.lemmas.Option.{same_Some}
+use Rattle.turn_lock.specs.Rule.{is_held}
+use Rattle.turn_lock.specs.Turning.{IsBeginning}
 use Rattle.turn_lock.specs.TwinPasses.{uncounted}
-use Rattle.twin_ledger.proofs.Mirrors.{following, as_raised}
+use Rattle.twin_ledger.proofs.Mirrors.{following, as_raised, no_more}
 use Rattle.twin_ledger.proofs.posting.post_and_follow.Goals as goal
+
+pub follow-owes-requires : goal.follow-owes-requires
+follow-owes-requires g c =
+    let more = c.post_one-front.ensures.more in let queued = c.queue_device-place.ensures.value in let held = c.wait-held.ensures in let beside = c.wait_device-mirror.ensures.beside in
+    let shown : c.as_slice.result.now ≡ c.post_one-front.new.self.posts.items = search rules in
+    let own = sym (beside.4 (ap (λ v. is_held v.stage) queued.view ∙ ap is_held held.pass.1.value)) ∙ (queued.own ∙ held.own) in
+    record { fewer = no_more _ _ more.0 _ (subst (λ j. IsBeginning c.wait_device-mirror.result.device.copied.items j.posts.items) (same_Some _ _ own) beside.3.first) (shown ∙ more.1) }
 
 pub raise_both-requires-clause-beside : goal.raise_both-requires-clause-beside
 raise_both-requires-clause-beside g c = let more = c.post_one-front.ensures.more in let shown : c.as_slice.result.now ≡ c.post_one-front.new.self.posts.items = search rules in (
