@@ -6,7 +6,7 @@ use Rattle.turn_lock.specs.declared.twin_lock.TwinLock.{TwinLock}
 use Rattle.turn_lock.specs.declared.twin_pass.TwinPass.{TwinPass}
 use Rattle.turn_lock.specs.declared.twin_view.Counted.{Counted}
 use Rattle.turn_lock.specs.Tied.{Seen, no_entries, none_stood, no_front, turns_of, any_follows}
-use Rattle.turn_lock.specs.TwinSteps.{twin_left, twin_dealt, more_spent}
+use Rattle.turn_lock.specs.TwinSteps.{twin_left, twin_dealt}
 use Rattle.turn_lock.specs.TwinPasses.{first_of, first_device_of, IsNew, uncounted}
 use Rattle.turn_lock.proofs.Keeps.{dealing, deals_next, deals_number}
 
@@ -39,13 +39,13 @@ both_taken (x ∷ y ∷ l) (suc (suc k)) h = absurd (omega (arith, h))
 module _ {T D E : Type 0} (entries : T → List E) (stood : T → ℕ) (front : E → ℕ) (empty_turns : T → ℕ) (follows : T → T → Type 0) (lock : TwinLock T D E) (passes : ℕ) where
   -- the first seat once the passes below k have their numbers
   abbrev pub twin_dealing : ℕ → Seen T E (Counted D) ℕ
-  twin_dealing k = record { value = dealing entries stood front empty_turns follows (first_of lock) passes k; device = dealing no_entries none_stood no_front turns_of any_follows (first_device_of lock) passes k; more = more_spent }
+  twin_dealing k = record { value = dealing entries stood front empty_turns follows (first_of lock) passes k; device = dealing no_entries none_stood no_front turns_of any_follows (first_device_of lock) passes k; more = record { own = None; down = None; saw = Some (first_device_of lock); owes = 0 } }
 
   pub twin_deals_next : (k : ℕ) → k < passes → twin_left (twin_dealing k) ≡ twin_dealing (k + 1)
   twin_deals_next k h = λ i. record {
     value = deals_next entries stood front empty_turns follows (first_of lock) passes k h i;
     device = deals_next no_entries none_stood no_front turns_of any_follows (first_device_of lock) passes k h i;
-    more = more_spent;
+    more = record { own = None; down = None; saw = Some (first_device_of lock); owes = 0 };
   }
 
   pub twin_new_pass : (y : TwinPass T D E) (k label : ℕ) → k < passes → y.seat.table_id ≡ lock.table.shared.table_id → y.seat.me ≡ (twin_dealt (twin_dealing k), []) → y.label ≡ label → IsNew lock k label (entries (first_of lock)) y

@@ -3,7 +3,7 @@ use Rattle.std.proofs.Common.{◌≡◌, ℕ, zero, suc, ◌<◌, ◌≤◌, Lis
 use mathlib.Core.Option.{some, some-injective}
 use mathlib.Core.Option as maybe
 use lib.ListN.{get_elem?}
-use Rattle.std.proofs.lemmas.Option.{none-some}
+use Rattle.std.proofs.lemmas.Option.{none-some, same_Some}
 use Rattle.atomic_table.specs.Table.{State, Splits, Joins, opening, Final}
 use Rattle.atomic_table.proofs.Lists.{at_snoc, at_longer, set_else}
 use Rattle.turn_lock.specs.declared.view.View.{View}
@@ -126,7 +126,7 @@ module _ {T E D F : Type 0}
       }
 
   abbrev opened : U
-  opened = record { value = newcomer entries first passes; device = newcomer entries' first' passes; more = record { own = None; down = None; saw = None; owes = 0 } }
+  opened = record { value = newcomer entries first passes; device = newcomer entries' first' passes; more = record { own = None; down = None; saw = Some first'; owes = 0 } }
 
   only_view : (v : U) (j : ℕ) (u : U) → get_elem? (v ∷ []) j ≡ some u → u ≡ v
   only_view v zero u is = sym (some-injective v u is)
@@ -134,8 +134,8 @@ module _ {T E D F : Type 0}
 
   -- the table at the start
   pub twin_opens : follows first first → stood first ≡ length (entries first) → empty_turns first ≡ 0 → follows' first' first' → stood' first' ≡ length (entries' first') → empty_turns' first' ≡ 0 → passes < 18446744073709551616
-      → beside first first' → owed first first' ≡ 0 → Rule (opening (0 ∷ 0 ∷ 0 ∷ 0 ∷ 0 ∷ []) (OfValue (Some first) ∷ OfDevice (Some first') ∷ []) opened)
-  twin_opens starts all none_empty starts' all' none_empty' few stands nothing = record {
+      → beside first first' → owed first first' ≡ 0 → later first' first' → Rule (opening (0 ∷ 0 ∷ 0 ∷ 0 ∷ 0 ∷ []) (OfValue (Some first) ∷ OfDevice (Some first') ∷ []) opened)
+  twin_opens starts all none_empty starts' all' none_empty' few stands nothing itself = record {
     turn = opens entries stood front empty_turns follows first passes starts all none_empty few;
     other = opens entries' stood' front' empty_turns' follows' first' passes starts' all' none_empty' few;
     five = refl;
@@ -145,7 +145,7 @@ module _ {T E D F : Type 0}
       value_is = inl refl;
       device_is = inl refl;
       beside_is = stands;
-      seen_is = λ seat u is d saw. absurd (none-some d (sym (ap (λ (x : U). x.more.saw) (only_view opened seat u is)) ∙ saw));
+      seen_is = λ seat u is d saw. subst (λ (z : D). later z first') (same_Some first' d (sym (ap (λ (x : U). x.more.saw) (only_view opened seat u is)) ∙ saw)) itself;
       told = (let n = nothing in omega (arith, n));
       idle = λ seat u is _. ap (λ (x : U). x.more.owes) (only_view opened seat u is);
     };

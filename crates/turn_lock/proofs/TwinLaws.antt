@@ -102,9 +102,9 @@ module _ {T D E : Type 0} (entries : T → List E) (stood : T → ℕ) (front : 
       (λ known. record { entries_are = sym none_seen; empty_is = refl; stood_is = refl; follows_is = tt }) (λ d. itself d.device) (λ a b e. on a.device b.device e.device)
       (may_put (beside first) later owed (λ v. IsBeginning me.0.value.seen (entries v) × follows first v) c.0 down me.0.more.owes counted owes' c.2 may))
 
-  pub opens : follows first first → stood first ≡ length (entries first) → empty_turns first ≡ 0 → first'.turns ≡ 0 → passes < 18446744073709551616 → beside first first first'.device → owed first first'.device ≡ 0
+  pub opens : follows first first → stood first ≡ length (entries first) → empty_turns first ≡ 0 → first'.turns ≡ 0 → passes < 18446744073709551616 → beside first first first'.device → owed first first'.device ≡ 0 → ((d : D) → later d d)
       → Rule (opening (0 ∷ 0 ∷ 0 ∷ 0 ∷ 0 ∷ []) (OfValue (Some first) ∷ OfDevice (Some first') ∷ []) (Rattle.turn_lock.specs.Tied.twin_newcomer entries first first' passes))
-  opens starts all none_empty no_turns few stands nothing = twin_opens entries stood front empty_turns follows first no_entries none_stood no_front turns_of any_follows first' passes (λ v c. beside first v c.device) (λ c d. later c.device d.device) (λ v c. owed v c.device) starts all none_empty tt refl no_turns few stands nothing
+  opens starts all none_empty no_turns few stands nothing itself = twin_opens entries stood front empty_turns follows first no_entries none_stood no_front turns_of any_follows first' passes (λ v c. beside first v c.device) (λ c d. later c.device d.device) (λ v c. owed v c.device) starts all none_empty tt refl no_turns few stands nothing (itself first'.device)
 
   abbrev pub Ending : Seen T E (Counted D) ℕ → T → Counted D → Type 0
   Ending = TwinEnds entries stood front empty_turns follows first no_entries none_stood no_front turns_of any_follows first' passes (λ v c. beside first v c.device) (λ c d. later c.device d.device) (λ v c. owed v c.device)

@@ -89,6 +89,6 @@ abbrev pub TwinKept : {T E D : Type 0} → (T → List E) → (T → ℕ) → (E
 TwinKept entries stood front empty_turns follows beside later owed first device passes = Together (Kept entries stood front empty_turns follows first passes) (Kept no_entries none_stood no_front turns_of any_follows device passes)
     (Tied entries follows first (λ v c. beside first v c.device) (λ c d. later c.device d.device) (λ v c. owed v c.device))
 
--- the view of the first seat, which has the numbers of all passes
+-- the view of the first seat, which has the numbers of all passes, and saw the device that was handed in
 abbrev pub twin_newcomer : {T E D : Type 0} → (T → List E) → T → Counted D → ℕ → Seen T E (Counted D) ℕ
-twin_newcomer entries first device passes = record { value = newcomer entries first passes; device = newcomer no_entries device passes; more = record { own = None; down = None; saw = None; owes = 0 } }
+twin_newcomer entries first device passes = record { value = newcomer entries first passes; device = newcomer no_entries device passes; more = record { own = None; down = None; saw = Some device; owes = 0 } }

@@ -158,7 +158,7 @@ module _ {T D E : Type 0} where
     pub mine : mine_of pass ≡ []
     pub turns : value_turns pass ≡ 0
     pub front : front_of pass ≡ 0
-    pub saw : saw_of pass ≡ None
+    pub saw : saw_of pass ≡ Some (first_device_of lock).device
     pub owes : owes_of pass ≡ 0
 
   -- What is known of the device's turns, and of the device, is as it was.

@@ -6,7 +6,7 @@ use Rattle.turn_lock.proofs.twin_lock.TwinLock.new.Goals as goal
 pub new-requires : goal.new-requires
 new-requires g c = let t = g.T.Turns in let w = g.T.Twins in let asked = c.requires in
     rw (c.of.ensures, c.of-2.ensures, c.both_slots.ensures) (opens t.entries t.stood t.front t.empty_turns t.follows w.beside w.later w.owed c.args.value (record { device = c.args.device; turns = 0 }) (length c.args.labels.now)
-    asked.starts asked.stood asked.empty refl (omega arith) asked.beside asked.told)
+    asked.starts asked.stood asked.empty refl (omega arith) asked.beside asked.told w.later_itself)
 
 pub out_of_slots-value-requires : goal.out_of_slots-value-requires
 out_of_slots-value-requires g c = (c.args.value, record { device = c.args.device; turns = 0 }, search rules)
