@@ -71,7 +71,7 @@ impl<T: Twins> TwinLock<T> {
     ghost use Rattle.std.specs.List.{AllByRecursion};
     ghost use Rattle.std.specs.Prelude.{◌≡◌, ◌≢◌, ℕ, ◌+◌, ◌-◌, ◌%◌, ◌^◌, ◌<◌, ◌≤◌, ◌++◌, [], ◌∷◌, length, drop, max, IfOk, IfErr, slice_get, slice_index, Some, None, vec_len, vec_capacity};
     ghost use Rattle.atomic_table.specs.Table.{rest};
-    ghost use Rattle.turn_lock.specs.declared.view.Stage.TheVariants.{Resting, Raised};
+    ghost use Rattle.turn_lock.specs.declared.view.Stage.TheVariants.{Resting, Waiting, Raised};
     ghost use Rattle.turn_lock.specs.Steps.{GoesBack, raising, resting};
     ghost use Rattle.turn_lock.specs.Twin.{device_part};
     ghost use Rattle.turn_lock.specs.Turning.{EachOnce, IsBeginning, IsOneTurn, StandIn, added, greatest, places, times};
@@ -364,10 +364,11 @@ impl<T: Twins> TwinLock<T> {
             .fetch_add::<PassValue>(&mut pass.seat, SERVED, 1);
     }
 
-    /// Takes a ticket of the device's turn.
+    /// Takes a ticket of the device's turn. A pass that waits for the value takes none, so a pass that has the device never waits for the value.
     pub fn queue_device(&self, pass: &mut TwinPass<T>) -> Ticket
         requires pass { IsPassOf self.now pass.old }
         requires resting { (me_of pass.old).0.device.stage ≡ Resting }
+        requires not_waiting { (me_of pass.old).0.value.stage ≢ Waiting }
         ensures pass { IsSamePass pass.old pass.new × WaitsForDevice pass.new result.number }
         ensures slots { (me_of pass.new).1 ≡ (me_of pass.old).1 }
         ensures value { KeepsValue pass.old pass.new }
