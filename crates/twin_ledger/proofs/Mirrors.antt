@@ -1,14 +1,15 @@
 -- What turns with a journal and with its mirror keep.
-use Rattle.std.proofs.Common.{◌≡◌, ℕ, zero, suc, ◌-◌, ◌≤◌, ◌<◌, ◌⊎◌, Bool, true, false, List, [], ◌∷◌, ◌++◌, length, drop, get_or, sym, refl, ap, ◌∙◌, subst, ⊎_elim, arith, Option, Some}
-use Rattle.turn_lock.specs.Turning.{IsBeginning, times}
+use Rattle.std.proofs.Common.{◌≡◌, ℕ, zero, suc, ◌-◌, ◌≤◌, ◌<◌, ◌⊎◌, Bool, true, false, List, [], ◌∷◌, ◌++◌, length, length-append, append-nil, MatchBool, drop, get_or, inl, inr, sym, refl, ap, ◌∙◌, subst, ⊎_elim, arith, Option, Some}
+use Rattle.turn_lock.specs.Turning.{IsBeginning, IsOneTurn, StandIn, added, times}
 use Rattle.turn_lock.specs.Tied.{MayRaise, MayRaiseBoth, MayPut}
-use Rattle.turn_lock.proofs.TurnLaws.{begins_itself, begins_more, begins_length}
+use Rattle.turn_lock.proofs.TurnLaws.{begins_itself, begins_more, begins_length, added_one, added_none, rise_added}
 use Rattle.turn_lock.proofs.TwinTies.{no_bool}
 use Rattle.twin_ledger.specs.declared.ledger.Journal.{Journal}
 use Rattle.twin_ledger.specs.declared.ledger.Mirror.{Mirror}
 use Rattle.twin_ledger.specs.Mirrored.{Mirrors, IsGrown, flag}
-use Rattle.twin_ledger.specs.Ready.{Lock, Pass, IsReady}
-use Rattle.turn_lock.specs.TwinPasses.{IsNew}
+use Rattle.twin_ledger.specs.Ready.{Lock, Pass, IsReady, IsRisen}
+use Rattle.turn_lock.specs.Merging.{entries_of, Rise}
+use Rattle.turn_lock.specs.TwinPasses.{IsNew, first_of, mine_of, seen_of}
 
 abbrev pub Beside : Journal → Mirror → Type 0
 Beside j m = Mirrors j.posts.items j.told m.copied.items m.failed
@@ -54,17 +55,17 @@ telling saw mirror old new owes is fails posts some_told told m known b =
     )
 
 -- the mirror goes back with what was shown, or as it was
-pub copied_on : (seen shown : List ℕ) (first : Journal) (old new : Mirror) (owes : ℕ) → shown ≡ seen → new.failed ≡ false → old.failed ≡ false → ((new.copied.items ≡ shown) × (length old.copied.items ≤ length shown)) ⊎ (new.copied.items ≡ old.copied.items)
+pub copied_on : (seen shown : List ℕ) (first : Journal) (old new : Mirror) (owes : ℕ) → shown ≡ seen → new.failed ≡ false → old.failed ≡ false → ((new.copied.items ≡ shown) × (length old.copied.items ≤ length shown)) ⊎ ((new.copied.items ≡ old.copied.items) × (length shown < length old.copied.items))
     → MayPut Beside Later Owed (λ v. IsBeginning seen v.posts.items × (v.name ≡ first.name)) old owes new 0
 copied_on seen shown first old new owes same works worked copied v possible b =
     let in_posts : IsBeginning shown v.posts.items = subst (λ l. IsBeginning l v.posts.items) (sym same) possible.0 in
     let off : flag new.failed ≡ 0 = ap flag works in let was_off : flag old.failed ≡ 0 = ap flag worked in let before = b.told_of in (
       record {
-        first = ⊎_elim (λ t. subst (λ l. IsBeginning l v.posts.items) (sym t.0) in_posts) (λ e. subst (λ l. IsBeginning l v.posts.items) (sym e) b.first) copied;
+        first = ⊎_elim (λ t. subst (λ l. IsBeginning l v.posts.items) (sym t.0) in_posts) (λ e. subst (λ l. IsBeginning l v.posts.items) (sym e.0) b.first) copied;
         told_of = omega (arith, off, was_off, before);
       },
       record {
-        more = ⊎_elim (λ t. subst (IsBeginning old.copied.items) (sym t.0) (begins_both old.copied.items shown v.posts.items b.first in_posts t.1)) (λ e. subst (IsBeginning old.copied.items) (sym e) (begins_itself old.copied.items)) copied;
+        more = ⊎_elim (λ t. subst (IsBeginning old.copied.items) (sym t.0) (begins_both old.copied.items shown v.posts.items b.first in_posts t.1)) (λ e. subst (IsBeginning old.copied.items) (sym e.0) (begins_itself old.copied.items)) copied;
         still = λ h. absurd (no_bool old.failed h worked);
       },
       λ others h. omega (arith, off),
@@ -129,3 +130,50 @@ eight_numbers (suc (suc (suc (suc (suc zero))))) h = omega arith
 eight_numbers (suc (suc (suc (suc (suc (suc zero)))))) h = omega arith
 eight_numbers (suc (suc (suc (suc (suc (suc (suc zero))))))) h = omega arith
 eight_numbers (suc (suc (suc (suc (suc (suc (suc (suc n)))))))) h = absurd (omega (arith, h))
+
+-- a pass that was just made has no posts of its own
+pub risen : {lock : Lock} {pass : Pass} {number label : ℕ} {log : List ℕ} → IsNew lock number label log pass → (first_of lock).before ≤ length log → IsRisen lock pass
+risen {lock} new long = record { rise = subst (Rise (first_of lock).before) (sym new.mine) tt; long = (let n = ap length new.seen in omega (arith, n, long)) }
+
+-- what is added to the own posts of a pass that posts one more, or none
+own_more : (old : List (ℕ × ℕ)) (log log' : List ℕ) (e : ℕ) → log' ≡ log ++ e ∷ [] → entries_of (old ++ added log log') ≡ entries_of old ++ e ∷ []
+own_more [] log log' e is = ap (λ l. entries_of (added log l)) is ∙ ap entries_of (added_one log e)
+own_more (p ∷ ps) log log' e is = ap (λ l. p.1 ∷ l) (own_more ps log log' e is)
+
+own_same : (old : List (ℕ × ℕ)) (log log' : List ℕ) → log' ≡ log → entries_of (old ++ added log log') ≡ entries_of old
+own_same [] log log' is = ap (λ l. entries_of (added log l)) is ∙ ap entries_of (added_none log)
+own_same (p ∷ ps) log log' is = ap (λ l. p.1 ∷ l) (own_same ps log log' is)
+
+pub own_posts : (posted : Bool) (number : ℕ) (old new : List (ℕ × ℕ)) (log log' : List ℕ) → new ≡ old ++ added log log' → MatchBool posted (log' ≡ log ++ number ∷ []) (log' ≡ log)
+    → MatchBool posted (entries_of new ≡ entries_of old ++ number ∷ []) (entries_of new ≡ entries_of old)
+own_posts true number old new log log' mine is = ap entries_of mine ∙ own_more old log log' number is
+own_posts false number old new log log' mine is = ap entries_of mine ∙ own_same old log log' is
+
+-- with one more post at the end of the journal, or none
+abbrev pub OneMore : List ℕ → List ℕ → Type 0
+OneMore log log' = ((e : ℕ) × (log' ≡ log ++ e ∷ [])) ⊎ (log' ≡ log)
+
+pub one_more : (posted : Bool) (number : ℕ) (log log' : List ℕ) → MatchBool posted (log' ≡ log ++ number ∷ []) (log' ≡ log) → OneMore log log'
+one_more true number log log' is = inl (number, is)
+one_more false number log log' is = inr is
+
+pub more_posts : (posted : Bool) (number : ℕ) (log log' : List ℕ) → MatchBool posted (log' ≡ log ++ number ∷ []) (log' ≡ log) → (more : List ℕ) × (log' ≡ log ++ more)
+more_posts true number log log' is = (number ∷ [], is)
+more_posts false number log log' is = ([], is ∙ sym (append-nil log))
+
+-- a turn that adds a post, or none, leaves the own posts of its pass in order
+pub rises_on : (lock : Lock) (old mid new : Pass) → IsBeginning (seen_of old) (seen_of mid) → mine_of mid ≡ mine_of old → StandIn (seen_of mid) (mine_of mid) → mine_of new ≡ mine_of mid ++ added (seen_of mid) (seen_of new) → OneMore (seen_of mid) (seen_of new)
+    → IsRisen lock old → IsRisen lock new
+rises_on lock old mid new begins same stand mine more r =
+    let low : ℕ = (first_of lock).before in let log : List ℕ = seen_of mid in
+    let up : low ≤ length log = (let a = r.long in let b = begins_length (seen_of old) log begins in omega (arith, a, b)) in
+    let rise : Rise low (mine_of mid) = subst (Rise low) (sym same) r.rise in ⊎_elim
+    (λ m. record {
+      rise = subst (Rise low) (sym mine) (rise_added low log (seen_of new) (mine_of mid) m.0 up rise stand m.1);
+      long = (let n = ap length m.1 ∙ length-append log (m.0 ∷ []) in omega (arith, n, up));
+    })
+    (λ e. record {
+      rise = subst (Rise low) (sym (mine ∙ (ap (λ l. mine_of mid ++ added log l) e ∙ (ap (λ l. mine_of mid ++ l) (added_none log) ∙ append-nil (mine_of mid))))) rise;
+      long = (let n = ap length e in omega (arith, n, up));
+    })
+    more

@@ -89,13 +89,17 @@ impl Journal {
         false
     }
 
-    /// Posts a number in one turn, and returns the number that it acknowledges then: 0 if memory ran out.
-    pub fn post_one(&mut self, number: u64) -> u64
-        ensures turn { IsOneTurn (λ n. n) self.old.posts.items self.old.empty self.new.posts.items self.new.empty result }
-        ensures more { (more : List ℕ) × (self.new.posts.items ≡ self.old.posts.items ++ more) }
+    /// Posts a number in one turn, and returns whether it did, with the number that it acknowledges then: 0 if memory ran out.
+    pub fn post_one(&mut self, number: u64) -> (bool, u64)
+        ensures turn { IsOneTurn (λ n. n) self.old.posts.items self.old.empty self.new.posts.items self.new.empty result.1 }
+        ensures posted { MatchBool result.0 (self.new.posts.items ≡ self.old.posts.items ++ number ∷ []) (self.new.posts.items ≡ self.old.posts.items) }
         ensures same { (self.new.before ≡ self.old.before) × (self.new.name ≡ self.old.name) × (self.new.told ≡ self.old.told) }
     {
-        if self.post(number) { number } else { 0 }
+        if self.post(number) {
+            (true, number)
+        } else {
+            (false, 0)
+        }
     }
 
     /// Counts a turn that posts nothing.
@@ -135,7 +139,7 @@ impl Mirror {
     /// nothing from then on.
     pub fn copy(&mut self, posts: Vec<u64>) -> bool
         ensures works { result ≡ true → (self.new.failed ≡ false) × (self.old.failed ≡ false) }
-        ensures copied { result ≡ true → ((self.new.copied.items ≡ posts.items) × (length self.old.copied.items ≤ length posts.items)) ⊎ (self.new.copied.items ≡ self.old.copied.items) }
+        ensures copied { result ≡ true → ((self.new.copied.items ≡ posts.items) × (length self.old.copied.items ≤ length posts.items)) ⊎ ((self.new.copied.items ≡ self.old.copied.items) × (length posts.items < length self.old.copied.items)) }
         ensures fails { result ≡ false → (self.new.copied.items ≡ self.old.copied.items) × (self.new.failed ≡ true) }
     {
         if self.failed || self.calls == 0 {

@@ -1,9 +1,11 @@
 //! Threads that post to one journal, and copy into its mirror.
-ghost use Rattle.std.specs.Prelude.{◌≡◌, ℕ, ◌+◌, ◌++◌, [], ◌∷◌, length, IfOk, IfErr, Some, slice_get, vec_len, false};
-ghost use Rattle.turn_lock.specs.TwinPasses.{first_of, pass_numbers};
+ghost use Rattle.std.specs.Prelude.{◌≡◌, ℕ, ◌+◌, ◌++◌, [], ◌∷◌, length, take, drop, IfOk, IfErr, Some, slice_get, vec_len, false};
+ghost use Rattle.turn_ledger.specs.Merged.{IsMerge};
+ghost use Rattle.turn_lock.specs.Merging.{entries_of};
+ghost use Rattle.turn_lock.specs.TwinPasses.{first_of, pass_numbers, mine_of};
 ghost use Rattle.turn_lock.specs.Turning.{IsBeginning};
 ghost use Rattle.twin_ledger.specs.Mirrored.{flag};
-ghost use Rattle.twin_ledger.specs.Ready.{IsReady};
+ghost use Rattle.twin_ledger.specs.Ready.{IsReady, IsRisen};
 
 use crate::ledger::{Journal, Mirror};
 use crate::posting::post_all;
@@ -31,11 +33,11 @@ fn post_beside<R: Threads + Wait + Sync>(
         || -> TwinPass<Journal>
             requires pass { IsReady lock.now one }
             ensures { IsReady lock.entry.now result × (pass_numbers result ≡ pass_numbers one) }
-        { post_all(rt, alloc, lock, one, numbers) },
+        { post_all(rt, alloc, lock, one, numbers).0 },
         || -> TwinPass<Journal>
             requires pass { IsReady lock.now two }
             ensures { IsReady lock.entry.now result × (pass_numbers result ≡ pass_numbers two) }
-        { post_all(rt, alloc, lock, two, numbers) },
+        { post_all(rt, alloc, lock, two, numbers).0 },
     );
     lock.join(&mut one, two);
     one
@@ -146,16 +148,18 @@ fn all_eight(mut passes: Vec<TwinPass<Journal>>) -> ((Two, Two), (Two, Two))
     (all_four(passes), ((five, six), (seven, eight)))
 }
 
-/// Two threads post the same numbers to one journal. Its mirror then has the first of the posts, and where it failed that was told once.
+/// Two threads post the same numbers to one journal, and how many each posted is returned. After what it had, the journal then has the posts
+/// of both, each once and in their order. Its mirror has the first of its posts, and where it failed the journal was told.
 pub fn post_two<R: Threads + Wait + Sync>(
     rt: &R,
     alloc: Global,
     journal: Journal,
     mirror: Mirror,
     numbers: &[u64],
-) -> Result<(Journal, Mirror), (AllocError, (Journal, Mirror))>
+) -> Result<(Journal, Mirror, usize, usize), (AllocError, (Journal, Mirror))>
     requires journal { (journal.before ≡ length journal.posts.items) × (journal.empty ≡ 0) × (journal.told ≡ 0) }
     requires mirror { (mirror.copied.items ≡ []) × (mirror.failed ≡ false) }
+    ensures posts { IfOk result (λ r. IsMerge (take r.2 numbers.now) (take r.3 numbers.now) (drop journal.before r.0.posts.items)) }
     ensures copied { IfOk result (λ r. IsBeginning r.1.copied.items r.0.posts.items) }
     ensures told { IfOk result (λ r. r.0.told ≡ flag r.1.failed) }
     ensures same { IfOk result (λ r. r.0.name ≡ journal.name) }
@@ -163,8 +167,26 @@ pub fn post_two<R: Threads + Wait + Sync>(
 {
     let (lock, passes) = TwinLock::new(alloc, journal, mirror, &[1, 2])?;
     let (one, two) = both(passes);
-    let pass = post_beside(rt, alloc, &lock, one, two, numbers);
-    Ok(lock.close(pass))
+    let ((mut one, first), (two, second)) = join(
+        rt,
+        || -> (TwinPass<Journal>, usize)
+            requires pass { IsReady lock one × (pass_numbers one ≡ 0 ∷ []) }
+            requires new { (mine_of one ≡ []) × IsRisen lock one }
+            ensures pass { IsReady lock result.0 × (pass_numbers result.0 ≡ 0 ∷ []) }
+            ensures posted { entries_of (mine_of result.0) ≡ take result.1 numbers.entry.now }
+            ensures rise { IsRisen lock result.0 }
+        { post_all(rt, alloc, &lock, one, numbers) },
+        || -> (TwinPass<Journal>, usize)
+            requires pass { IsReady lock two × (pass_numbers two ≡ 1 ∷ []) }
+            requires new { (mine_of two ≡ []) × IsRisen lock two }
+            ensures pass { IsReady lock result.0 × (pass_numbers result.0 ≡ 1 ∷ []) }
+            ensures posted { entries_of (mine_of result.0) ≡ take result.1 numbers.entry.now }
+            ensures rise { IsRisen lock result.0 }
+        { post_all(rt, alloc, &lock, two, numbers) },
+    );
+    lock.join(&mut one, two);
+    let (journal, mirror) = lock.close(one);
+    Ok((journal, mirror, first, second))
 }
 
 /// The same of eight threads.

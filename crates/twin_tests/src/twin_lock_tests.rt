@@ -32,7 +32,8 @@ fn has_each(posts: &Vec<u64>, by_eight: bool) -> Result<bool, Fail> {
     )
 }
 
-// What a play leaves: whether the mirror works, and has all posts; else whether it has no more than its calls gave it.
+// Whether a play left the first posts in the mirror: all of them where its calls are enough. Else it failed, which the journal was told: with no
+// call it has nothing, and from the first call on at least the post of the pass that made it.
 fn is_left(journal: &Journal, mirror: &Mirror, calls: u64) -> bool {
     let copied = mirror.copied.as_slice();
     let posts = journal.posts.as_slice();
@@ -42,7 +43,7 @@ fn is_left(journal: &Journal, mirror: &Mirror, calls: u64) -> bool {
     if calls == ENOUGH {
         return !mirror.failed && journal.told == 0 && copied.len() == posts.len();
     }
-    mirror.failed && journal.told == 1
+    mirror.failed && journal.told == 1 && copied.is_empty() == (calls == 0)
 }
 
 #[test]
@@ -57,11 +58,12 @@ fn two_threads_post_and_copy(rt: HostRuntime) -> Result<(), Fail> {
             Mirror::new(alloc, calls),
             posts.as_slice(),
         );
-        let Ok((journal, mirror)) = played else {
+        let Ok((journal, mirror, first, second)) = played else {
             panic!(rt; "memory was refused")
         };
         assert!(rt;
             journal.posts.len() == 200
+                && (first, second) == (100, 100)
                 && has_each(&journal.posts, false)?
                 && is_left(&journal, &mirror, calls),
             "{calls}"
