@@ -43,15 +43,15 @@ posting saw old new more owes owes' posts told same m known b = (
 )
 
 -- the turn of a pass that tells of a failure that it saw
-pub telling : (saw : Option Mirror) (mirror : Mirror) (old new : Journal) (owes : ℕ) → saw ≡ Some mirror → mirror.failed ≡ true → new.posts.items ≡ old.posts.items → 1 ≤ new.told → (new.told ≡ old.told) ⊎ (new.told ≡ 1)
+pub telling : (saw : Option Mirror) (mirror : Mirror) (old new : Journal) (owes : ℕ) → saw ≡ Some mirror → mirror.failed ≡ true → new.posts.items ≡ old.posts.items → new.told ≡ 1
     → MayRaise Beside Later Owed saw old owes new 0
-telling saw mirror old new owes is fails posts some_told told m known b =
-    let failed : flag m.failed ≡ 1 = ap flag ((known mirror is).still fails) in let before = b.told_of in (
+telling saw mirror old new owes is fails posts told m known b =
+    let failed : flag m.failed ≡ 1 = ap flag ((known mirror is).still fails) in (
       record {
         first = subst (IsBeginning m.copied.items) (sym posts) b.first;
-        told_of = ⊎_elim (λ e. omega (arith, e, before)) (λ e. omega (arith, e, failed)) told;
+        told_of = omega (arith, told, failed);
       },
-      λ others h. omega (arith, failed, some_told),
+      λ others h. omega (arith, failed, told),
     )
 
 -- the mirror goes back with what was shown, or as it was

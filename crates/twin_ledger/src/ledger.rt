@@ -16,7 +16,7 @@ pub struct Journal {
     pub before: usize,
     /// How many turns posted nothing, modulo 2^64.
     pub empty: u64,
-    /// How many times it was told that the mirror failed.
+    /// 1 once it was told that the mirror failed, and 0 before. A second telling changes nothing.
     pub told: u64,
 }
 
@@ -110,15 +110,13 @@ impl Journal {
         self.empty = self.empty.wrapping_add(1);
     }
 
-    /// Is told that the mirror failed, if it was not yet, in a turn that posts nothing.
+    /// Is told that the mirror failed, in a turn that posts nothing. Where it was told already, that changes nothing else.
     pub fn tell(&mut self)
         ensures passed { (self.new.posts ≡ self.old.posts) × (self.new.empty ≡ (self.old.empty + 1) % 2 ^ 64) }
-        ensures told { (1 ≤ self.new.told) × ((self.new.told ≡ self.old.told) ⊎ (self.new.told ≡ 1)) }
+        ensures told { self.new.told ≡ 1 }
         ensures same { (self.new.before ≡ self.old.before) × (self.new.name ≡ self.old.name) }
     {
-        if self.told == 0 {
-            self.told = 1;
-        }
+        self.told = 1;
         self.empty = self.empty.wrapping_add(1);
     }
 }
