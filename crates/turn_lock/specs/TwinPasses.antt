@@ -64,15 +64,15 @@ module _ {T D E : Type 0} where
   abbrev pub front_of : TwinPass T D E → ℕ
   front_of pass = pass.seat.me.0.value.front
 
-  -- the empty turns of the value that it was given last
+  -- the empty turns of the value that it took or raised last
   abbrev pub empty_of : TwinPass T D E → ℕ
   empty_of pass = pass.seat.me.0.value.empty
 
-  -- how many failures it has to tell
+  -- for how many untold failures it answers, at most
   abbrev pub owes_of : TwinPass T D E → ℕ
   owes_of pass = pass.seat.me.0.more.owes
 
-  -- the value that is out with it, as it was taken or raised
+  -- the value that it took or raised last, which stays known once it is put back
   abbrev pub own_of : TwinPass T D E → Option T
   own_of pass = pass.seat.me.0.more.own
 
@@ -83,11 +83,11 @@ module _ {D : Type 0} where
   uncounted None = None
 
 module _ {T D E : Type 0} where
-  -- the device that is out with it, as it was taken or raised
+  -- the device that it took last, or raised since then, which stays known once it is put back
   abbrev pub down_of : TwinPass T D E → Option D
   down_of pass = uncounted pass.seat.me.0.more.down
 
-  -- the device that it saw last
+  -- the device that it took, raised or put back last; before that, the one that was handed in
   abbrev pub saw_of : TwinPass T D E → Option D
   saw_of pass = uncounted pass.seat.me.0.more.saw
 

@@ -29,15 +29,15 @@ module _ {D : Type 0} where
   either_saw None other = other
 
 module _ {T D : Type 0} where
-  -- with this value to put back, and this much to tell
+  -- with this value to put back, and this many untold failures to answer for
   abbrev pub raises_value : More T D → T → ℕ → More T D
   raises_value m value owes = record m { own = Some value; owes = owes }
 
-  -- with this value and this device to put back, and this much to tell
+  -- with this value and this device to put back, and this many untold failures to answer for
   abbrev pub raises_both : T → D → ℕ → More T D
   raises_both value device owes = record { own = Some value; down = Some device; saw = Some device; owes = owes }
 
-  -- with this device put back, and this much to tell
+  -- with this device put back, and this many untold failures to answer for
   abbrev pub gave_device : More T D → D → ℕ → More T D
   gave_device m device owes = record m { saw = Some device; owes = owes }
 
@@ -45,6 +45,7 @@ module _ {T D : Type 0} where
   abbrev pub more_joined : More T D → More T D → More T D
   more_joined m n = record m { saw = either_saw m.saw n.saw; owes = m.owes + n.owes }
 
+  -- nothing is known
   abbrev pub more_spent : More T D
   more_spent = record { own = None; down = None; saw = None; owes = 0 }
 

@@ -36,7 +36,7 @@ const VALUE: usize = 0;
 
 const DEVICE: usize = 1;
 
-/// A lock around a value with a device beside it. Of each, the waiting passes are served in the order in which they took their tickets.
+/// A lock around a value with a device beside it. Each has turns of its own, and a turn is that of the pass whose ticket is served.
 #[derive(Drop)]
 pub struct TwinLock<T: Twins> {
     table: TwinBoard<T, T::Entry, T::Device>,
@@ -232,7 +232,7 @@ impl<T: Twins> TwinLock<T> {
 
     /// Raises the front to the new entry's, while the device is not out with the pass. From now on the value is known as it is put back,
     /// with one more entry or one more empty turn. `front` is the number that the new entry acknowledges, 0 if it acknowledges none or there is
-    /// no new entry, and `owes` is how many failures of the device the pass has to tell then.
+    /// no new entry, and `owes` is for how many untold failures of the device the pass answers then, at most.
     pub fn raise(&self, pass: &mut TwinPass<T>, held: &TwinHeld<T>, front: u64, owes: u64)
         requires pass { IsPassOf self.now pass.old }
         requires turn { HasValue pass.old }
@@ -458,7 +458,8 @@ impl<T: Twins> TwinLock<T> {
         }
     }
 
-    /// Puts the device back, passes its turn, and wakes who waits for it. `owes` is how many failures of the device the pass has to tell then.
+    /// Puts the device back, passes its turn, and wakes who waits for it. `owes` is for how many untold failures of the device the pass answers
+    /// then, at most.
     pub fn put_device(&self, pass: &mut TwinPass<T>, held: HeldDevice<T::Device>, owes: u64)
         requires pass { IsPassOf self.now pass.old }
         requires turn { HasDevice pass.old held.turns }
@@ -554,11 +555,13 @@ impl<T: Twins> TwinLock<T> {
     }
 }
 
-/// Threads may share a lock with two turns, and a pass may be sent from one to another, if the value and the device may.
+/// Threads may share a lock with two turns, and a pass, its ticket, or what is out with it may be sent from one to another, if the value and the
+/// device may.
 pub fn twins_cross_threads<T: Twins<Device: Send> + Send>() {
     is_sync::<TwinLock<T>>();
     is_send::<TwinLock<T>>();
     is_send::<TwinPass<T>>();
+    is_send::<Ticket>();
     is_send::<TwinHeld<T>>();
     is_send::<HeldDevice<T::Device>>();
 }

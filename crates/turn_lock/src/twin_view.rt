@@ -23,12 +23,12 @@ pub struct TwinView<V, W, X> {
 
 /// What a pass knows of both turns. No value of this type is ever made.
 pub struct More<T, D> {
-    /// The value that is out with it, as it goes back.
+    /// The value that it took or raised last. While the value is out with it, that is the one that goes back.
     pub own: Option<T>,
-    /// The device that is out with it.
+    /// The device that it took last, or raised with the value since then. Once it is put back alone, this stays as it was.
     pub down: Option<D>,
-    /// The device that it saw last.
+    /// The device that it took, raised or put back last. Before its first turn with it, that is the one that was handed in.
     pub saw: Option<D>,
-    /// How many times it has to tell the value that the device failed.
+    /// For how many untold failures of the device it answers, at most.
     pub owes: u64,
 }
