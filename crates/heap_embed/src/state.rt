@@ -1,6 +1,6 @@
 //! What there is of the heap.
-ghost use Rattle.std.specs.Prelude.{◌≡◌, ◌≢◌, ◌<◌, ◌≤◌, Some, IfSome, IsSome, IfOk, IfErr, slice_index_or, ℕ, List, length};
-ghost use Rattle.disk_model.specs.Memory.{Write, Sync, changes_of};
+ghost use Rattle.std.specs.Prelude.{◌≡◌, ◌≢◌, ◌⊎◌, ◌↔◌, [], ◌<◌, ◌≤◌, None, Some, IfSome, IsSome, IfOk, IfErr, slice_index_or, ℕ, List, length};
+ghost use Rattle.disk_model.specs.Memory.{Write, Sync, changes_of, now_of};
 ghost use Rattle.graph_model.specs.History.{IsOfSession};
 ghost use Rattle.heap_embed.specs.Told.{change_answer, word_of};
 ghost use Rattle.image_plan.specs.Super.{IsSuper};
@@ -28,7 +28,7 @@ pub enum State {
 }
 
 impl State {
-    ghost use Rattle.heap_embed.specs.Embedding.{disk_of, Answers, MakesEvent, Opens, Forgets, Hands};
+    ghost use Rattle.heap_embed.specs.Embedding.{disk_of, Answers, MakesEvent, Opens, IsRefused, Forgets, Hands, HasNoDisk, IsNotOpen, IsClosedOn};
 
     /// Answers what is asked of the heap.
     pub fn answer(&mut self, alloc: Global, ask: Ask) -> Answer
@@ -58,7 +58,9 @@ impl State {
 
     /// Makes an event on the open heap. One that has no reply has changed nothing.
     fn step(&mut self, event: Event) -> Answer
-        ensures { (heap : _) → self.old ≡ State.Open heap → IsOfSession event → MakesEvent ⟦<MemoryDisk as Disk>⟧ event result self.new heap }
+        ensures made { (heap : _) → self.old ≡ State.Open heap → IsOfSession event → MakesEvent ⟦<MemoryDisk as Disk>⟧ event result self.new heap }
+        ensures stranger { ¬ IsOfSession event → (result ≡ Answer.NotAnAsk) × (self.new ≡ self.old) }
+        ensures closed { IsNotOpen self.old → IsOfSession event → (result ≡ Answer.NotNow) × (self.new ≡ self.old) }
     {
         if !event.is_of_session() {
             return Answer::NotAnAsk;
@@ -96,10 +98,14 @@ impl State {
     /// The disk of what was handed in, or of the closed heap, which is taken out.
     fn take_disk(&mut self, alloc: Global) -> Result<HostDisk, Answer>
         ensures hands { IfOk result (λ taken. Hands self.old taken.disk) }
+        ensures none { IfErr result (λ answer. HasNoDisk self.old answer self.new) }
         ensures error { IfErr result (λ answer. answer ≢ Answer.Done) }
     {
         match mem::replace(self, State::Image(Vec::new(alloc))) {
-            State::Image(bytes) => HostDisk::of(alloc, bytes).map_err(|_| Answer::NoMemory),
+            State::Image(bytes) => match HostDisk::of(alloc, bytes) {
+                Ok(disk) => Ok(disk),
+                Err(_) => Err(Answer::NoMemory),
+            },
             State::Closed(disk) => Ok(disk),
             State::Open(heap) => {
                 *self = State::Open(heap);
@@ -124,7 +130,8 @@ impl State {
     }
 
     fn open(&mut self, alloc: Global) -> Answer
-        ensures { result ≡ Answer.Done → Opens ⟦<MemoryDisk as Disk>⟧ self.old self.new }
+        ensures opened { result ≡ Answer.Done → Opens ⟦<MemoryDisk as Disk>⟧ self.old self.new }
+        ensures refused { result ≢ Answer.Done → HasNoDisk self.old result self.new ⊎ IsRefused ⟦<MemoryDisk as Disk>⟧ self.old result self.new }
     {
         let disk = match self.take_disk(alloc) {
             Ok(disk) => disk,
@@ -144,7 +151,8 @@ impl State {
 
     /// The open heap is closed as it is.
     fn close(&mut self, alloc: Global) -> Answer
-        ensures { (heap : _) → self.old ≡ State.Open heap → disk_of self.new ≡ Some heap.disk }
+        ensures closed { (heap : _) → self.old ≡ State.Open heap → (result ≡ Answer.Done) × IsClosedOn self.new heap.disk }
+        ensures none { IsNotOpen self.old → (result ≡ Answer.NotNow) × (self.new ≡ self.old) }
     {
         match mem::replace(self, State::Image(Vec::new(alloc))) {
             State::Open(heap) => {
@@ -162,6 +170,8 @@ impl State {
     fn forget(&mut self) -> Answer
         ensures forgets { result ≡ Answer.Done → (disk : _) → disk_of self.old ≡ Some disk → Forgets ⟦<MemoryDisk as Disk>⟧ self.old self.new disk }
         ensures kept { result ≢ Answer.Done → self.new ≡ self.old }
+        ensures none { disk_of self.old ≡ None → result ≡ Answer.NotNow }
+        ensures synced { (disk : _) → disk_of self.old ≡ Some disk → (result ≡ Answer.Done ↔ ((now_of disk).pending ≡ [])) × ((result ≡ Answer.Done) ⊎ (result ≡ Answer.Unsynced)) }
     {
         let forgotten = match self {
             State::Image(_) => return Answer::NotNow,
