@@ -1,5 +1,6 @@
 -- What a host is answered, and what becomes of the heap inside.
-use Rattle.std.specs.Prelude.{◌≡◌, ◌≢◌, ◌⊎◌, ◌↔◌, ℕ, List, ◌<◌, ◌≤◌, [], length, slice_index_or, Option, Some, None, Result, Ok, Err, ⊤}
+use Rattle.std.specs.Prelude.{◌≡◌, ◌≢◌, ◌⊎◌, ◌↔◌, ℕ, List, ◌<◌, ◌≤◌, [], ◌++◌, length, replicate, take, slice_index_or, Option, Some, None, Result, Ok, Err, ⊤}
+use Rattle.std.specs.Int.{w64, to_le_bytes}
 use Rattle.std.specs.declared.alloc.AllocError.{AllocError}
 use Rattle.disk_model.specs.declared.disk.Disk.{Ghosts}
 use Rattle.disk_model.specs.Memory.{Memory, Write, Sync, changes_of, now_of, begun_anew}
@@ -7,8 +8,11 @@ use Rattle.graph_model.specs.declared.event.Event.{Event}
 use Rattle.graph_model.specs.declared.reply.Reply.{Reply}
 use Rattle.graph_model.specs.History.{IsOfSession}
 use Rattle.heap_core.specs.Causes.{recovery_error}
+use Rattle.heap_core.specs.Format.{heap_of}
 use Rattle.heap_core.specs.declared.errors.OpenError.{OpenError}
 use Rattle.heap_recovery.specs.Opens.{OpensImage}
+use Rattle.image_plan.specs.declared.superblock.Super.{Super}
+use Rattle.image_plan.specs.Super.{IsSuper}
 use Rattle.heap_embed.specs.declared.answer.Answer.{Answer}
 use Rattle.heap_embed.specs.declared.answer.Answer.TheVariants as answer
 use Rattle.heap_embed.specs.declared.ask.Ask.{Ask}
@@ -17,6 +21,7 @@ use Rattle.heap_embed.specs.declared.host_disk.HostDisk.{HostDisk}
 use Rattle.heap_embed.specs.declared.open_heap.OpenHeap.{OpenHeap}
 use Rattle.heap_embed.specs.declared.state.State.{State}
 use Rattle.heap_embed.specs.declared.state.State.TheVariants.{Image, Closed, Open}
+use Rattle.heap_embed.specs.Formats.{WasFormatted}
 use Rattle.heap_embed.specs.Host.{begins_with}
 use Rattle.heap_embed.specs.OpenHeaps.{MakesStep, StaysHeap, WasOpened}
 use Rattle.heap_embed.specs.Told.{change_answer, open_answer, word_of}
@@ -57,6 +62,16 @@ HasNoDisk (Image bytes) answered new = (answered ≡ answer.NoMemory) × HandedI
 HasNoDisk (Closed disk) answered new = ⊥
 HasNoDisk (Open heap) answered new = (answered ≡ answer.NotNow) × (new ≡ Open heap)
 
+-- there is a disk already
+abbrev pub HasDisk : State → Type 0
+HasDisk (Image bytes) = ⊥
+HasDisk (Closed disk) = ⊤
+HasDisk (Open heap) = ⊤
+
+-- Bytes are taken up behind those that were handed in already, unless memory is refused.
+abbrev pub TakesUp : List ℕ → List ℕ → Answer → State → Type 0
+TakesUp before more answered new = ((answered ≡ answer.Done) × HandedIn new (before ++ more)) ⊎ ((answered ≡ answer.NoMemory) × HandedIn new before)
+
 -- the answer to an event, by its reply
 abbrev pub event_answer : Result Reply AllocError → Answer
 event_answer (Ok reply) = answer.Reply reply
@@ -96,7 +111,15 @@ module _ (g : Ghosts Memory) where
     pub says : answered ≡ open_answer error
     pub image : OpensImage g disk closed.disk (Err (recovery_error error))
 
-  -- What is answered, and what there is of the heap then. Of what is handed in, and of a format, nothing is said.
+  -- An empty heap was to be made on a disk, which is that of a closed heap then.
+  pub record Formats (of : Super) (old : State) (answered : Answer) (new : State) : Type 0 where
+    pub disk : Memory
+    pub handed : Hands old disk
+    pub closed : HostDisk
+    pub now_closed : new ≡ Closed closed
+    pub made : WasFormatted g of disk answered closed.disk
+
+  -- What is answered, and what there is of the heap then.
   abbrev pub Answers : State → Ask → Answer → State → Type 0
   Answers old (ask.Event event) answered new =
       ((heap : OpenHeap) → old ≡ Open heap → IsOfSession event → MakesEvent event answered new heap) × (¬ IsOfSession event → (answered ≡ answer.NotAnAsk) × (new ≡ old))
@@ -109,9 +132,14 @@ module _ (g : Ghosts Memory) where
   Answers old (ask.Item k) answered new = (new ≡ old) × ((disk : Memory) → disk_of old ≡ Some disk → (k < changes_of disk → answered ≡ change_answer (slice_index_or disk.changes k Sync)) × (changes_of disk ≤ k → answered ≡ answer.NoItem))
   Answers old ask.Close answered new =
       ((heap : OpenHeap) → old ≡ Open heap → (answered ≡ answer.Done) × IsClosedOn new heap.disk) × (IsNotOpen old → (answered ≡ answer.NotNow) × (new ≡ old))
-  Answers old (ask.More word count) answered new = ⊤
-  Answers old (ask.Zeros count) answered new = ⊤
-  Answers old (ask.Format pages log_bytes first) answered new = ⊤
+  Answers old (ask.More word count) answered new =
+      ((bytes : _) → old ≡ Image bytes → count ≤ 8 → TakesUp bytes.items (take count (to_le_bytes w64 word)) answered new)
+      × ((bytes : _) → old ≡ Image bytes → 8 < count → (answered ≡ answer.NotAnAsk) × (new ≡ old))
+      × (HasDisk old → (answered ≡ answer.NotNow) × (new ≡ old))
+  Answers old (ask.Zeros count) answered new =
+      ((bytes : _) → old ≡ Image bytes → TakesUp bytes.items (replicate count 0) answered new) × (HasDisk old → (answered ≡ answer.NotNow) × (new ≡ old))
+  Answers old (ask.Format pages log_bytes first) answered new =
+      (¬ IsSuper (heap_of pages log_bytes first) → (answered ≡ answer.PastLimits) × (new ≡ old)) × (IsSuper (heap_of pages log_bytes first) → HasNoDisk old answered new ⊎ Formats (heap_of pages log_bytes first) old answered new)
   Answers old (ask.Bytes k from) answered new = (new ≡ old) × ((disk : Memory) (at : ℕ) (bytes : List ℕ) → disk_of old ≡ Some disk → k < changes_of disk → slice_index_or disk.changes k Sync ≡ Write at bytes → from < length bytes → answered ≡ answer.Number (word_of bytes from))
   Answers old (ask.Figure i) answered new = new ≡ old
   Answers old (ask.Last i) answered new = new ≡ old

@@ -1,8 +1,10 @@
 //! What there is of the heap.
-ghost use Rattle.std.specs.Prelude.{◌≡◌, ◌≢◌, ◌⊎◌, ◌↔◌, [], ◌<◌, ◌≤◌, None, Some, IfSome, IsSome, IfOk, IfErr, slice_index_or, ℕ, List, length};
+ghost use Rattle.std.specs.Prelude.{◌≡◌, ◌≢◌, ◌⊎◌, ◌↔◌, [], ◌<◌, ◌≤◌, None, Some, IfSome, IsSome, IfOk, IfErr, slice_index_or, ℕ, List, length, take, replicate};
+ghost use Rattle.std.specs.Int.{w64, to_le_bytes};
 ghost use Rattle.disk_model.specs.Memory.{Write, Sync, changes_of, now_of};
 ghost use Rattle.graph_model.specs.History.{IsOfSession};
 ghost use Rattle.heap_embed.specs.Told.{change_answer, word_of};
+ghost use Rattle.heap_core.specs.Format.{heap_of};
 ghost use Rattle.image_plan.specs.Super.{IsSuper};
 
 use crate::answer::Answer;
@@ -13,7 +15,7 @@ use disk_model::{Disk, MemoryDisk};
 use graph_model::{Event, FIRST_SESSION, LAST_SESSION};
 use heap_core::HeapCore;
 use image_plan::Super;
-use std::alloc::{AllocError, Global};
+use std::alloc::Global;
 use std::mem;
 
 /// The heap, so far.
@@ -28,7 +30,7 @@ pub enum State {
 }
 
 impl State {
-    ghost use Rattle.heap_embed.specs.Embedding.{disk_of, Answers, MakesEvent, Opens, IsRefused, Forgets, Hands, HasNoDisk, IsNotOpen, IsClosedOn};
+    ghost use Rattle.heap_embed.specs.Embedding.{disk_of, Answers, MakesEvent, Opens, IsRefused, Formats, Forgets, Hands, HasNoDisk, HasDisk, IsNotOpen, IsClosedOn, TakesUp};
 
     /// Answers what is asked of the heap.
     pub fn answer(&mut self, alloc: Global, ask: Ask) -> Answer
@@ -74,24 +76,39 @@ impl State {
         }
     }
 
-    fn take_bytes(&mut self, word: u64, count: u64) -> Answer {
+    /// Takes up bytes of the image, which are handed in: at most eight.
+    fn take_bytes(&mut self, word: u64, count: u64) -> Answer
+        ensures taken { (bytes : _) → self.old ≡ State.Image bytes → count ≤ 8 → TakesUp bytes.items (take count (to_le_bytes w64 word)) result self.new }
+        ensures refused { (bytes : _) → self.old ≡ State.Image bytes → 8 < count → (result ≡ Answer.NotAnAsk) × (self.new ≡ self.old) }
+        ensures late { HasDisk self.old → (result ≡ Answer.NotNow) × (self.new ≡ self.old) }
+    {
         let State::Image(bytes) = self else {
             return Answer::NotNow;
         };
-        let more = word.to_le_bytes();
-        match more.get(..count as usize) {
-            Some(more) => done(bytes.extend_from_slice(more)),
-            None => Answer::NotAnAsk,
+        let word = word.to_le_bytes();
+        let Some(more) = word.get(..count as usize) else {
+            return Answer::NotAnAsk;
+        };
+        match bytes.extend_from_slice(more) {
+            Ok(()) => Answer::Done,
+            Err(_) => Answer::NoMemory,
         }
     }
 
-    fn take_zeros(&mut self, count: u64) -> Answer {
+    /// Takes up that many zeros of the image.
+    fn take_zeros(&mut self, count: u64) -> Answer
+        ensures taken { (bytes : _) → self.old ≡ State.Image bytes → TakesUp bytes.items (replicate count 0) result self.new }
+        ensures late { HasDisk self.old → (result ≡ Answer.NotNow) × (self.new ≡ self.old) }
+    {
         let State::Image(bytes) = self else {
             return Answer::NotNow;
         };
-        match bytes.len().checked_add(count as usize) {
-            Some(size) => done(bytes.resize(size, 0)),
-            None => Answer::NoMemory,
+        let Some(size) = bytes.len().checked_add(count as usize) else {
+            return Answer::NoMemory;
+        };
+        match bytes.resize(size, 0) {
+            Ok(()) => Answer::Done,
+            Err(_) => Answer::NoMemory,
         }
     }
 
@@ -115,7 +132,10 @@ impl State {
     }
 
     /// Makes an empty heap in what was handed in.
-    fn format(&mut self, alloc: Global, pages: u64, log_bytes: u64, first: u64) -> Answer {
+    fn format(&mut self, alloc: Global, pages: u64, log_bytes: u64, first: u64) -> Answer
+        ensures limits { ¬ IsSuper (heap_of pages log_bytes first) → (result ≡ Answer.PastLimits) × (self.new ≡ self.old) }
+        ensures made { IsSuper (heap_of pages log_bytes first) → HasNoDisk self.old result self.new ⊎ Formats ⟦<MemoryDisk as Disk>⟧ (heap_of pages log_bytes first) self.old result self.new }
+    {
         let Some(of) = read_numbers(pages, log_bytes, first) else {
             return Answer::PastLimits;
         };
@@ -234,17 +254,10 @@ impl State {
     }
 }
 
-/// Whether memory sufficed.
-fn done(made: Result<(), AllocError>) -> Answer {
-    match made {
-        Ok(()) => Answer::Done,
-        Err(_) => Answer::NoMemory,
-    }
-}
-
 /// The numbers of a heap, if they are within their limits.
 fn read_numbers(pages: u64, log_bytes: u64, first: u64) -> Option<Super>
-    ensures { IfSome result IsSuper }
+    ensures within { IfSome result (λ of. (of ≡ heap_of pages log_bytes first) × IsSuper of) }
+    ensures past { IsSuper (heap_of pages log_bytes first) → IsSome result }
 {
     let of = Super {
         pages: u32::try_from(pages).ok()?,

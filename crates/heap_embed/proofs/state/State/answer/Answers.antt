@@ -8,3 +8,8 @@ pub returns-in-Event : goal.returns-in-Event
 returns-in-Event c =
     subst (λ (asked : Ask). Answers ghosts c.args.self.now asked c.step.result c.step.new.self) (sym c.in-Event.is)
     (c.step.ensures.made, c.step.ensures.stranger, c.step.ensures.closed)
+
+pub returns-in-Format : goal.returns-in-Format
+returns-in-Format c =
+    subst (λ (asked : Ask). Answers ghosts c.args.self.now asked c.format.result c.format.new.self) (sym c.in-Format.is)
+    (c.format.ensures.limits, c.format.ensures.made)
