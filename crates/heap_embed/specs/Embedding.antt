@@ -9,7 +9,9 @@ use Rattle.graph_model.specs.declared.reply.Reply.{Reply}
 use Rattle.graph_model.specs.History.{IsOfSession}
 use Rattle.heap_core.specs.Causes.{recovery_error}
 use Rattle.heap_core.specs.Format.{heap_of}
+use Rattle.heap_core.specs.Refinement.{IsCoreOn}
 use Rattle.heap_core.specs.declared.errors.OpenError.{OpenError}
+use Rattle.heap_model.specs.Core.{Core}
 use Rattle.heap_recovery.specs.Opens.{OpensImage}
 use Rattle.image_plan.specs.declared.superblock.Super.{Super}
 use Rattle.image_plan.specs.Super.{IsSuper}
@@ -21,6 +23,7 @@ use Rattle.heap_embed.specs.declared.host_disk.HostDisk.{HostDisk}
 use Rattle.heap_embed.specs.declared.open_heap.OpenHeap.{OpenHeap}
 use Rattle.heap_embed.specs.declared.state.State.{State}
 use Rattle.heap_embed.specs.declared.state.State.TheVariants.{Image, Closed, Open}
+use Rattle.heap_embed.specs.Figures.{IsFigure}
 use Rattle.heap_embed.specs.Formats.{WasFormatted}
 use Rattle.heap_embed.specs.Host.{begins_with}
 use Rattle.heap_embed.specs.OpenHeaps.{MakesStep, StaysHeap, WasOpened}
@@ -119,6 +122,12 @@ module _ (g : Ghosts Memory) where
     pub now_closed : new ≡ Closed closed
     pub made : WasFormatted g of disk answered closed.disk
 
+  -- figure i of a heap: of one that is not open each is 0
+  abbrev pub IsFigureOf : State → ℕ → ℕ → Type 0
+  IsFigureOf (Image bytes) i n = n ≡ 0
+  IsFigureOf (Closed disk) i n = n ≡ 0
+  IsFigureOf (Open heap) i n = (c : Core) → IsCoreOn g c heap.core heap.disk → IsFigure c i n
+
   -- What is answered, and what there is of the heap then.
   abbrev pub Answers : State → Ask → Answer → State → Type 0
   Answers old (ask.Event event) answered new =
@@ -141,6 +150,6 @@ module _ (g : Ghosts Memory) where
   Answers old (ask.Format pages log_bytes first) answered new =
       (¬ IsSuper (heap_of pages log_bytes first) → (answered ≡ answer.PastLimits) × (new ≡ old)) × (IsSuper (heap_of pages log_bytes first) → HasNoDisk old answered new ⊎ Formats (heap_of pages log_bytes first) old answered new)
   Answers old (ask.Bytes k from) answered new = (new ≡ old) × ((disk : Memory) (at : ℕ) (bytes : List ℕ) → disk_of old ≡ Some disk → k < changes_of disk → slice_index_or disk.changes k Sync ≡ Write at bytes → from < length bytes → answered ≡ answer.Number (word_of bytes from))
-  Answers old (ask.Figure i) answered new = new ≡ old
+  Answers old (ask.Figure i) answered new = (new ≡ old) × (n : ℕ) × (answered ≡ answer.Number n) × IsFigureOf old i n
   Answers old (ask.Last i) answered new = new ≡ old
   Answers old ask.Fail answered new = new ≡ old

@@ -20,7 +20,7 @@ pub struct Embedded {
 }
 
 impl Embedded {
-    ghost use Rattle.heap_embed.specs.Embedding.{Answers};
+    ghost use Rattle.heap_embed.specs.Embedding.{Answers, IsFigureOf};
     ghost use Rattle.heap_embed.specs.Calling.{CallsAs, IsReading};
     ghost use Rattle.heap_embed.specs.declared.ask.Ask.{Ask};
 
@@ -41,7 +41,8 @@ impl Embedded {
         ensures asked { IsFalse self.old.broken → (ask : Ask) → asked op s a b c ≡ Some ask → ((i : ℕ) × (ask ≡ Ask.Last i)) ⊎ CallsAs ⟦<MemoryDisk as Disk>⟧ ask self.old.state result self.new.last self.new.state }
         ensures last { (i : ℕ) → asked op s a b c ≡ Some (Ask.Last i) → (result ≡ last_number self.old.last i) × (self.new ≡ self.old) }
         ensures breaks { IsFalse self.old.broken → IsTrue self.new.broken → asked op s a b c ≡ Some Ask.Fail }
-        ensures fails { asked op s a b c ≡ Some Ask.Fail → IsTrue self.new.broken }
+        ensures fails { asked op s a b c ≡ Some Ask.Fail → IsTrue self.new.broken × (IsFalse self.old.broken → result ≡ (bare 0).code) }
+        ensures figure { (i : ℕ) → asked op s a b c ≡ Some (Ask.Figure i) → (result ≡ 13) × IsFigureOf ⟦<MemoryDisk as Disk>⟧ self.old.state i self.new.last.first }
         ensures unasked { asked op s a b c ≡ None → (result ≡ 5) × (self.new.state ≡ self.old.state) × (self.new.broken ≡ self.old.broken) }
     {
         let answer = match read_ask(op, s, a, b, c) {
@@ -60,7 +61,8 @@ impl Embedded {
         ensures failed { IsTrue self.old.broken → IsReading ask ⊎ (result ≡ Answer.Failed) }
         ensures answers { IsFalse self.old.broken → Answers ⟦<MemoryDisk as Disk>⟧ self.old.state ask result self.new.state }
         ensures breaks { IsFalse self.old.broken → IsTrue self.new.broken → ask ≡ Ask.Fail }
-        ensures fails { ask ≡ Ask.Fail → IsTrue self.new.broken }
+        ensures fails { ask ≡ Ask.Fail → IsTrue self.new.broken × (IsFalse self.old.broken → result ≡ Answer.Done) }
+        ensures figure { (i : ℕ) → ask ≡ Ask.Figure i → (n : ℕ) × (result ≡ Answer.Number n) × IsFigureOf ⟦<MemoryDisk as Disk>⟧ self.old.state i n }
         ensures number { (i : ℕ) → ask ≡ Ask.Last i → result ≡ Answer.Number (last_number self.old.last i) }
         ensures last { self.new.last ≡ self.old.last }
     {

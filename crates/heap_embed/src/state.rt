@@ -5,6 +5,9 @@ ghost use Rattle.disk_model.specs.Memory.{Write, Sync, changes_of, now_of};
 ghost use Rattle.graph_model.specs.History.{IsOfSession};
 ghost use Rattle.heap_embed.specs.Told.{change_answer, word_of};
 ghost use Rattle.heap_core.specs.Format.{heap_of};
+ghost use Rattle.heap_core.specs.Refinement.{IsCoreInMemory};
+ghost use Rattle.heap_embed.specs.Figures.{IsFigure, active_upto};
+ghost use Rattle.heap_model.specs.Core.{Core};
 ghost use Rattle.image_plan.specs.Super.{IsSuper};
 
 use crate::answer::Answer;
@@ -30,7 +33,7 @@ pub enum State {
 }
 
 impl State {
-    ghost use Rattle.heap_embed.specs.Embedding.{disk_of, Answers, MakesEvent, Opens, IsRefused, Formats, Forgets, Hands, HasNoDisk, HasDisk, IsNotOpen, IsClosedOn, TakesUp};
+    ghost use Rattle.heap_embed.specs.Embedding.{disk_of, Answers, MakesEvent, Opens, IsRefused, Formats, Forgets, Hands, HasNoDisk, HasDisk, IsFigureOf, IsNotOpen, IsClosedOn, TakesUp};
 
     /// Answers what is asked of the heap.
     pub fn answer(&mut self, alloc: Global, ask: Ask) -> Answer
@@ -246,7 +249,9 @@ impl State {
     }
 
     /// Figure `i` of the open heap.
-    pub fn figure(&self, i: u64) -> u64 {
+    pub fn figure(&self, i: u64) -> u64
+        ensures { IsFigureOf ⟦<MemoryDisk as Disk>⟧ self.now i result }
+    {
         match self {
             State::Open(heap) => figure(heap.core(), i),
             _ => 0,
@@ -273,7 +278,9 @@ fn read_numbers(pages: u64, log_bytes: u64, first: u64) -> Option<Super>
 
 /// The figures of an open heap, by their numbers: the entries of its history, the commits since it was made, whether records are pending, at which
 /// entry it failed, and how many sessions have a transaction.
-fn figure(core: &HeapCore, i: u64) -> u64 {
+fn figure(core: &HeapCore, i: u64) -> u64
+    ensures { (c : Core) → IsCoreInMemory c core.now → IsFigure c i result }
+{
     match i {
         0 => core.history().len() as u64,
         1 => core.commits(),
@@ -285,7 +292,9 @@ fn figure(core: &HeapCore, i: u64) -> u64 {
 }
 
 /// How many sessions have a transaction.
-fn active(core: &HeapCore) -> u64 {
+fn active(core: &HeapCore) -> u64
+    ensures { (c : Core) → IsCoreInMemory c core.now → result ≡ active_upto c 32 }
+{
     let mut count: u64 = 0;
     for s in FIRST_SESSION..=LAST_SESSION {
         count = count.saturating_add(u64::from(core.active(s)));
