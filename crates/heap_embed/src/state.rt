@@ -115,7 +115,7 @@ impl State {
         }
     }
 
-    /// The disk of what was handed in, or of the closed heap, which is taken out.
+    /// The disk of what was handed in, or of the closed heap, which is taken out. What was handed in is let go where memory for its disk is refused.
     fn take_disk(&mut self, alloc: Global) -> Result<HostDisk, Answer>
         ensures hands { IfOk result (λ taken. Hands self.old taken.disk) }
         ensures none { IfErr result (λ answer. HasNoDisk self.old answer self.new) }
