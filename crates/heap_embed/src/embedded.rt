@@ -1,5 +1,5 @@
 //! A heap that is asked by numbers.
-ghost use Rattle.std.specs.Prelude.{◌≡◌, ◌⊎◌, ℕ, Some, None, IsTrue, IsFalse};
+ghost use Rattle.std.specs.Prelude.{◌≡◌, ◌⊎◌, ℕ, [], Some, None, IsTrue, IsFalse};
 ghost use Rattle.heap_embed.specs.Spelling.{asked, bare, last_number};
 
 use crate::answer::{Answer, NONE, Numbers, spell};
@@ -20,12 +20,14 @@ pub struct Embedded {
 }
 
 impl Embedded {
-    ghost use Rattle.heap_embed.specs.Embedding.{Answers, IsFigureOf};
+    ghost use Rattle.heap_embed.specs.Embedding.{Answers, HandedIn, IsFigureOf};
     ghost use Rattle.heap_embed.specs.Calling.{CallsAs, IsReading};
     ghost use Rattle.heap_embed.specs.declared.ask.Ask.{Ask};
 
     /// One to which nothing was handed in yet.
-    pub fn new(alloc: Global) -> Embedded {
+    pub fn new(alloc: Global) -> Embedded
+        ensures { HandedIn result.state [] × IsFalse result.broken × (result.last ≡ (bare 0).numbers) }
+    {
         Embedded {
             alloc,
             state: State::Image(Vec::new(alloc)),
