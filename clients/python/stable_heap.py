@@ -195,10 +195,13 @@ REFUSALS: Dict[str, Type[Refused]] = {
     "nomemory": NoMemory,
 }
 FAULTS = ("diskfault", "stopped", "failed")
+UNDONE = {*REFUSALS, *FAULTS}
 ENDS: Dict[int, Type[Ended]] = {6: DiskFault, 7: NotAHeap, 8: Damaged, 10: InUse}
 
 # a call of the heap: the session, or 0 where it has none, its name, and its numbers
 Event = Tuple[int, str, Sequence[int]]
+# the same beside what a way to the heap makes of it: a line, or bytes
+Spelled = Tuple[Event, Union[str, bytes]]
 # the word of an answer, and its numbers
 Reply = Tuple[str, Sequence[int]]
 
@@ -220,11 +223,11 @@ def whole(event: Event) -> Event:
 def judged(event: Event, reply: Reply) -> Reply:
     """The reply, unless it is a refusal or a fault."""
     word, numbers = reply
-    if word in REFUSALS:
-        raise REFUSALS[word](line_of(event), word, numbers)
+    if word not in UNDONE:
+        return reply
     if word in FAULTS:
         raise DiskFault(6)
-    return reply
+    raise REFUSALS[word](line_of(event), word, numbers)
 
 
 def from_here(command: Sequence[str]) -> List[str]:
@@ -301,7 +304,7 @@ class Transaction:
         self._free: List[int] = list(range(HANDLES))
         self._root: Optional[Object] = None
         self._refusal: Optional[Refused] = None
-        self._writes: List[Event] = []
+        self._writes: List[Spelled] = []
         self._session: Optional[int] = None
         self.number: Optional[int] = None
 
@@ -344,7 +347,7 @@ class Transaction:
         """Seals, and forces if that was asked for. A refusal leaves the transaction active, and it is aborted then."""
         try:
             self._send()
-            self._ask_all([(self._session, "seal", ()), (0, "force", ())][: 1 + self._durable])
+            self._ask_all([self._spelled(self._session, "seal"), self._spelled(0, "force")][: 1 + self._durable])
         except Refused:
             self._abort()
             raise
@@ -388,7 +391,7 @@ class Transaction:
             self._ask(what, *numbers)
             return
         try:
-            self._writes.append(whole((self._active(), what, numbers)))
+            self._writes.append(self._spelled(self._active(), what, *numbers))
         except Refused as refusal:
             self._refusal = self._refusal or refusal
             raise
@@ -401,10 +404,14 @@ class Transaction:
             writes, self._writes = self._writes, []
             self._ask_all(writes)
 
-    def _ask_all(self, events: Sequence[Event]) -> None:
+    def _spelled(self, session: int, what: str, *numbers: int) -> Spelled:
+        event = session, what, numbers
+        return event, self._heap._way.spell(event)
+
+    def _ask_all(self, calls: Sequence[Spelled]) -> None:
         """Makes the calls in their order. Behind one that is refused it is not said which are made: the transaction is to be aborted."""
         try:
-            for event, reply in zip(events, self._heap._way.exchange_all(events)):
+            for (event, _), reply in zip(calls, self._heap._way.exchange_all(calls)):
                 judged(event, reply)
         except Refused as refusal:
             self._refusal = self._refusal or refusal
@@ -456,11 +463,15 @@ class Pipe:
 
     def exchange(self, event: Event) -> Reply:
         """Makes the call, and gives the reply."""
-        return self._send([line_of(whole(event))])[0]
+        return self._send([self.spell(event)])[0]
 
-    def exchange_all(self, events: Sequence[Event]) -> List[Reply]:
+    def exchange_all(self, calls: Sequence[Spelled]) -> List[Reply]:
         """Makes the calls, whatever is refused."""
-        return self._send([line_of(whole(event)) for event in events])
+        return self._send([line for _, line in calls])
+
+    @staticmethod
+    def spell(event: Event) -> str:
+        return line_of(whole(event))
 
     def _send(self, lines: List[str]) -> List[Reply]:
         """Sends the lines, which are few enough for the pipe, and gives their replies."""
@@ -512,7 +523,9 @@ REPLY_WORDS = {first + place: (it[:-1], int(it[-1])) for first, words in ((32, R
 # answers that are no replies: memory was refused, a call on the file has failed
 REPLY_WORDS.update({1: ("nomemory", 0), 4: ("diskfault", 0)})
 SH_OK, SH_UNFINISHED, SH_NO_MEMORY = 0, 10, 19
-ASKED, ANSWERED = struct.Struct("=5Q"), struct.Struct("=4Q")
+# an event by how many numbers it has, and a reply
+ASKED = [struct.Struct("=2Q24x"), struct.Struct("=3Q16x"), struct.Struct("=4Q8x"), struct.Struct("=5Q")]
+ANSWERED = struct.Struct("=4Q")
 
 
 def open_library() -> ctypes.CDLL:
@@ -527,36 +540,25 @@ def open_library() -> ctypes.CDLL:
     library.sh_open_here.restype = ctypes.c_void_p
     library.sh_close.argtypes = [ctypes.c_void_p]
     library.sh_reopen.argtypes = [ctypes.c_void_p]
-    library.sh_batch.argtypes = [ctypes.c_void_p, ctypes.c_void_p, ctypes.c_size_t, ctypes.c_bool, ctypes.c_void_p, ctypes.c_void_p]
+    library.sh_batch.argtypes = [ctypes.c_void_p, ctypes.c_char_p, ctypes.c_size_t, ctypes.c_bool, ctypes.c_void_p, ctypes.c_void_p]
     return library
 
 
 class Room:
-    """Where events are put down for the library, and their replies."""
+    """Where the library puts its replies, and how many."""
 
-    def __init__(self, count: int):
-        self.events = bytearray(ASKED.size * count)
-        self.replies = bytearray(ANSWERED.size * count)
-        self._kept = [(ctypes.c_char * len(it)).from_buffer(it) for it in (self.events, self.replies)]
-        self.asked, self.answered = map(ctypes.addressof, self._kept)
-
-    def put(self, place: int, event: Event) -> None:
-        """Puts the event down, and no reply to it."""
-        session, name, numbers = event
-        self.replies[ANSWERED.size * place] = 0
-        try:
-            ASKED.pack_into(self.events, ASKED.size * place, EVENT_NUMBERS[name], session, *numbers, *(0, 0, 0)[len(numbers) :])
-        except (struct.error, OverflowError, TypeError):
-            # (it has a number that is not whole or not within all limits)
-            whole(event)
-            raise
+    def __init__(self):
+        self.replies = bytearray(ANSWERED.size * MOST_KEPT)
+        self.made = ctypes.c_size_t()
+        self._kept = (ctypes.c_char * len(self.replies)).from_buffer(self.replies)
+        self.places = ctypes.addressof(self._kept), ctypes.addressof(self.made)
 
     def reply(self, place: int) -> Reply:
-        code, *numbers = ANSWERED.unpack_from(self.replies, ANSWERED.size * place)
-        if code not in REPLY_WORDS:
-            raise Protocol(f"the heap answered {code}")
-        word, count = REPLY_WORDS[code]
-        return word, numbers[:count]
+        numbers = ANSWERED.unpack_from(self.replies, ANSWERED.size * place)
+        if numbers[0] not in REPLY_WORDS:
+            raise Protocol(f"the heap answered {numbers[0]}")
+        word, count = REPLY_WORDS[numbers[0]]
+        return word, numbers[1 : 1 + count]
 
 
 class Here:
@@ -564,9 +566,10 @@ class Here:
 
     def __init__(self, folder: pathlib.Path, pages: int, log_bytes: int):
         error = ErrorNumbers()
-        # (a thread that finds none makes one more)
+        # (a thread that finds none here makes one more)
         self._rooms: List[Room] = []
         self._library = open_library()
+        self._batch = self._library.sh_batch
         self._heap = self._library.sh_open_here(os.fsencode(folder), pages, log_bytes, ctypes.byref(error))
         if not self._heap:
             raise ENDS.get(error.status, Ended)(error.status)
@@ -580,24 +583,33 @@ class Here:
         """Makes the call, and gives the reply."""
         if event[1] == "reopen":
             return self._reopen()
+        return self._make(self.spell(event), 1)[0]
+
+    def exchange_all(self, calls: Sequence[Spelled]) -> List[Reply]:
+        """Makes the calls, up to the first one that is refused."""
+        return self._make(b"".join([it for _, it in calls]), len(calls))
+
+    @staticmethod
+    def spell(event: Event) -> bytes:
+        session, name, numbers = event
+        try:
+            return ASKED[len(numbers)].pack(EVENT_NUMBERS[name], session, *numbers)
+        except (struct.error, OverflowError, TypeError):
+            # (it has a number that is not whole or not within all limits)
+            whole(event)
+            raise
+
+    def _make(self, events: bytes, count: int) -> List[Reply]:
         try:
             room = self._rooms.pop()
         except IndexError:
-            room = Room(1)
-        room.put(0, event)
-        self._library.sh_batch(self._open(), room.asked, 1, False, room.answered, None)
-        reply = room.reply(0)
+            room = Room()
+        # (in a forked child nothing is answered)
+        room.replies[0] = 0
+        self._batch(self._open(), events, count, False, *room.places)
+        replies = [room.reply(0)] if count == 1 else [room.reply(place) for place in range(room.made.value or 1)]
         self._rooms.append(room)
-        return reply
-
-    def exchange_all(self, events: Sequence[Event]) -> List[Reply]:
-        """Makes the calls, up to the first one that is refused."""
-        room, made = Room(len(events)), ctypes.c_size_t()
-        for place, event in enumerate(events):
-            room.put(place, event)
-        self._library.sh_batch(self._open(), room.asked, len(events), False, room.answered, ctypes.addressof(made))
-        # (in a forked child none is answered)
-        return [room.reply(place) for place in range(max(1, made.value))]
+        return replies
 
     def _open(self) -> int:
         if not self._heap:
