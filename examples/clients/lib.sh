@@ -64,7 +64,8 @@ if command -v rustc >/dev/null; then
 fi
 
 # (a test that kills the heap's process is left out)
-PYTHONDONTWRITEBYTECODE=1 HEAP=here "$here/python_client.py" >log 2>&1 && echo "the tests for Python pass" || cat log
+cc -shared -fPIC -O1 -o no_memory.so "$here/no_memory.c" -ldl || exit
+LD_PRELOAD=$room/no_memory.so PYTHONDONTWRITEBYTECODE=1 HEAP=here "$here/python_client.py" >log 2>&1 && echo "the tests for Python pass" || cat log
 STABLE_HEAP_LIBRARY=$room/restless/libstable_heap.so PYTHONDONTWRITEBYTECODE=1 HEAP=here "$here/python_client.py" >log 2>&1 &&
     echo "the tests for Python pass, where the heap is opened again after each transaction" || cat log
 

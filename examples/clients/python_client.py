@@ -5,6 +5,7 @@ with its options; where it is "here", the heap is in this process.
     HEAP="./heap --quick" examples/clients/python_client.py
     HEAP=here examples/clients/python_client.py
 """
+import ctypes
 import os
 import pathlib
 import sys
@@ -20,6 +21,8 @@ import stable_heap as sh  # noqa: E402
 
 COMMAND = os.environ.get("HEAP", str(sh.LAUNCHER)).split()
 HERE = COMMAND == ["here"]
+# (where no_memory.c is preloaded)
+REFUSE_MEMORY = getattr(ctypes.CDLL(None), "refuse_memory", None)
 
 
 class Client(unittest.TestCase):
@@ -268,6 +271,26 @@ class Client(unittest.TestCase):
         self.assertEqual(os.waitpid(child, 0)[1], 4 << 8)
         transaction.__exit__(None, None, None)
         self.assertEqual(self.root_fields()[0], 8)
+
+    @unittest.skipUnless(REFUSE_MEMORY, "memory can't be refused here")
+    def test_no_memory(self):
+        self.put(7, durable=False)
+        REFUSE_MEMORY(True)
+        self.assertRaises(sh.NoMemory, self.heap.reopen)
+        self.assertRaises(sh.NoMemory, self.put, 8)
+        REFUSE_MEMORY(False)
+        self.assertEqual(self.root_fields()[0], 7)
+        refusals = 0
+        with self.assertRaises(sh.NoMemory), self.heap.transaction() as t:
+            t.root.put(0, 9)
+            REFUSE_MEMORY(True)
+            while not refusals:
+                try:
+                    t.root.get(0)
+                except sh.NoMemory:
+                    refusals += 1
+            REFUSE_MEMORY(False)
+        self.assertEqual(self.root_fields()[0], 7)
 
 
 class Buffered(Client):
