@@ -509,7 +509,7 @@ sh_result sh_scan(sh_heap *heap, bool *more) {
     return result;
 }
 
-/* Forces, and opens the heap again, unless that comes first already. */
+/* Forces, closes the heap and opens it; one that memory left closed is only opened. */
 static sh_result reopen(sh_heap *heap) {
     sh_reply reply;
     sh_event force = {SH_EVENT_FORCE, 0, 0, 0, 0};
@@ -548,7 +548,7 @@ sh_result sh_begin(sh_heap *heap, sh_transaction **transaction) {
     return leave(heap, result);
 }
 
-/* The last error, of a heap that is locked for it or of a forked child. */
+/* The last error; in a forked child, whose heap nobody else has, without the lock. */
 static sh_error error_of(sh_heap *heap) {
     bool locked = enter(heap) == SH_OK;
     sh_error error = heap->error;
@@ -592,7 +592,7 @@ static sh_result seal(sh_transaction *transaction) {
     return refusal.result;
 }
 
-/* Seals and forces with nothing in between: the force of what was sealed just now needs no memory, so what is answered SH_NO_MEMORY was not sealed. */
+/* Seals and forces with nothing in between: the force of what was sealed just now needs no memory, so SH_NO_MEMORY says that nothing was sealed. */
 sh_result sh_commit(sh_transaction *transaction, bool durable) {
     sh_heap *heap = transaction->heap;
     sh_event force = {SH_EVENT_FORCE, 0, 0, 0, 0};

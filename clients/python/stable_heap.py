@@ -212,7 +212,7 @@ def line_of(event: Event) -> str:
 
 
 def whole(event: Event) -> Event:
-    """The event with whole numbers. What is none is a TypeError; a number out of all limits is of no event, so the heap can't be asked."""
+    """The event with whole numbers. What is none is a TypeError; the heap can't be asked with a number out of all limits, which is OutOfRange."""
     session, name, numbers = event
     event = session, name, [int(operator.index(number)) for number in numbers]
     if any(not 0 <= number < 2**64 for number in event[2]):

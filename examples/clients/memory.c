@@ -176,7 +176,8 @@ static void commit_or_nothing(void) {
 /* The same short batch again and again, whose last event is this one: the heap takes no more memory, and counts all commits. */
 static void batches(uint64_t last, uint64_t commits) {
     sh_heap *heap = new_heap();
-    sh_event events[] = {{SH_EVENT_BEGIN, 7, 0, 0, 0}, {SH_EVENT_ROOT, 7, 0, 0, 0}, {SH_EVENT_PUT, 7, 0, 0, 1}, {SH_EVENT_SEAL, 7, 0, 0, 0}, {last, 7, 0, 0, 0}};
+    sh_event events[] = {{SH_EVENT_BEGIN, 7, 0, 0, 0}, {SH_EVENT_ROOT, 7, 0, 0, 0}, {SH_EVENT_PUT, 7, 0, 0, 1}, {SH_EVENT_SEAL, 7, 0, 0, 0},
+                         {last, 7, 0, 0, 0}};
     size_t count = sizeof events / sizeof *events;
     sh_reply replies[5];
     uint64_t first = 0, now = 0;

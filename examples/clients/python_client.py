@@ -1,6 +1,6 @@
 #!/usr/bin/env python3
-"""Tries clients/python/stable_heap.py, with each transaction's writes made at once and with them kept. Where the variable HEAP is set, it is the launcher
-with its options; where it is "here", the heap is in this process.
+"""Tries clients/python/stable_heap.py, with writes that are made at once and with writes that are kept. Where the variable HEAP is set, it is the
+launcher with its options; where it is "here", the heap is in this process.
 
     HEAP="./heap --quick" examples/clients/python_client.py
     HEAP=here examples/clients/python_client.py
