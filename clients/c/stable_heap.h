@@ -40,7 +40,8 @@ typedef enum {
     SH_DAMAGED,
     SH_ENDED,    /* for another reason: `status` is its exit status */
     SH_PROTOCOL, /* it answered what it should not, or a forked child called */
-    SH_NO_MEMORY /* memory was refused; in the program's own process a call of which that is said did nothing */
+    /* Memory was refused. In the program's own process a call of which that is said did nothing, and may be made again once there is memory. */
+    SH_NO_MEMORY
 } sh_result;
 
 /* Leaves a function that gives a result with what a call gave, where it was not done. */
@@ -101,7 +102,8 @@ sh_result sh_flip(sh_heap *heap);
 sh_result sh_scan(sh_heap *heap, bool *more);
 
 /* Closes the heap and opens it again, in the same process: the memory is free then that each call has taken for the heap's history, and the
- * commits that sh_force tells are counted anew. It is refused while a transaction is active. */
+ * commits that sh_force tells are counted anew. It is refused while a transaction is active. In the program's own process, where memory is refused for
+ * it, the next call opens the heap. */
 sh_result sh_reopen(sh_heap *heap);
 
 /* Many events at once, by their numbers (heap_numbers.h): a session from 1 to 32 and three numbers behind each. It stops behind the first one that

@@ -1,5 +1,5 @@
-/* The four calls of libheap_c.a, and what can be asked by them. That they are safe is proved, and what an event does to the heap below them;
- * crates/heap_embed/README.md has what is only tested. That they are called as is said here is not proved.
+/* The four calls of libheap_c.a, and what can be asked by them. That they are safe is proved, and what each question does to the heap below them and
+ * is answered: crates/heap_embed/README.md. That they are called as is said here is not proved.
  *
  * The room has heap_c_size() bytes, aligned to 16. From heap_c_open to heap_c_close the heap lies in it: nothing else may touch it, and only
  * one call at a time may use it. */

@@ -19,7 +19,9 @@
 enum { SESSIONS = 32, HANDLES = 64, PIECE = 65536, SUPER = 64 };
 
 /* After so many events the heap is opened again, which frees what its history takes. */
+#ifndef MOST_EVENTS
 #define MOST_EVENTS UINT64_C(2000000)
+#endif
 
 struct sh_transaction {
     sh_heap *heap;
@@ -34,6 +36,7 @@ struct sh_heap {
     int file;        /* what it tells is made there */
     uint64_t drained; /* how many of the told calls have been made */
     pid_t owner;
+    bool closed;     /* memory was refused for opening it again, which comes before the next event */
     uint64_t before; /* the commits that were durable when it was opened again by itself */
     pthread_mutex_t lock;
     sh_error error;
@@ -220,6 +223,7 @@ static sh_result opening_error(sh_heap *heap, uint64_t answer) {
 
 static sh_result open_heap(sh_heap *heap) {
     uint64_t answer = call(heap, HC_OPEN, 0, 0, 0);
+    heap->closed = answer != HC_OK;
     sh_result result = answer == HC_OK ? SH_OK : opening_error(heap, answer);
     if (!drain(heap)) return fail(&heap->error, SH_DISK_FAULT, "the file can't be written");
     return result;
@@ -287,10 +291,7 @@ static sh_result judge(sh_heap *heap, const sh_reply *reply) {
 }
 
 /* Makes an event and what it tells, and only then answers. The heap is locked. */
-static sh_result make_event(sh_heap *heap, const sh_event *event, sh_reply *reply) {
-    if (getpid() != heap->owner) return fail(&heap->error, SH_PROTOCOL, "a forked child has no heap");
-    memset(reply, 0, sizeof *reply);
-    if (event->op < SH_EVENT_BEGIN) return fail(&heap->error, SH_PROTOCOL, "no event");
+static sh_result step(sh_heap *heap, const sh_event *event, sh_reply *reply) {
     reply->code = heap_c_call(heap->room, event->op, event->s, event->a, event->b, event->c);
     for (unsigned i = 0; i < 3; i++) reply->numbers[i] = last(heap, i);
     if (!drain(heap)) {
@@ -298,49 +299,92 @@ static sh_result make_event(sh_heap *heap, const sh_event *event, sh_reply *repl
         reply->code = SH_REPLY_DISK_FAULT;
         return fail(&heap->error, SH_DISK_FAULT, "a call on the file has failed");
     }
+    if (reply->code == SH_REPLY_DURABLE) reply->numbers[0] += heap->before;
     return judge(heap, reply);
 }
 
-static sh_result locked_event(sh_heap *heap, const sh_event *event, sh_reply *reply) {
-    pthread_mutex_lock(&heap->lock);
+/* Closes the heap, of which so many commits are durable and nothing else is under way, and opens it again. */
+static sh_result open_again(sh_heap *heap, uint64_t durable) {
+    if (call(heap, HC_CLOSE, 0, 0, 0) == HC_OK) {
+        heap->closed = true;
+        heap->before = durable;
+    }
+    return open_heap(heap);
+}
+
+static bool is_idle(sh_heap *heap) {
+    return number_of(heap, HC_FIGURE, HC_ACTIVE, 0) == 0;
+}
+
+/* Opens the heap again where its history has grown long and no transaction is active. If it can't be done now, a later event does it. */
+static void shorten_history(sh_heap *heap) {
+    if (number_of(heap, HC_FIGURE, HC_HISTORY, 0) < MOST_EVENTS || !is_idle(heap)) return;
+    sh_event force = {SH_EVENT_FORCE, 0, 0, 0, 0};
+    sh_error error = heap->error;
+    sh_reply reply;
+    if (step(heap, &force, &reply) == SH_OK) open_again(heap, reply.numbers[0]);
+    heap->error = error;
+}
+
+/* Makes an event, for which the heap is first opened where it was left closed. The heap is locked. */
+static sh_result make_event(sh_heap *heap, const sh_event *event, sh_reply *reply) {
+    memset(reply, 0, sizeof *reply);
+    if (event->op < SH_EVENT_BEGIN) return fail(&heap->error, SH_PROTOCOL, "no event");
+    sh_result result = heap->closed ? open_heap(heap) : SH_OK;
+    if (result == SH_OK) return step(heap, event, reply);
+    reply->code = result == SH_NO_MEMORY ? HC_NO_MEMORY : HC_BROKEN;
+    return result;
+}
+
+/* Makes an event, and shortens the history where it may have left no transaction active. */
+static sh_result make_and_shorten(sh_heap *heap, const sh_event *event, sh_reply *reply) {
     sh_result result = make_event(heap, event, reply);
+    if (result == SH_OK && event->op >= SH_EVENT_SEAL) shorten_history(heap);
+    return result;
+}
+
+/* Takes the heap's lock. A forked child has no heap, and the lock may be one of a thread that it has not. */
+static sh_result enter(sh_heap *heap) {
+    if (getpid() != heap->owner) return fail(&heap->error, SH_PROTOCOL, "a forked child has no heap");
+    pthread_mutex_lock(&heap->lock);
+    return SH_OK;
+}
+
+/* Gives the heap's lock back, and the result. */
+static sh_result leave(sh_heap *heap, sh_result result) {
     pthread_mutex_unlock(&heap->lock);
     return result;
+}
+
+static sh_result locked_event(sh_heap *heap, const sh_event *event, sh_reply *reply) {
+    SH_TRY(enter(heap));
+    return leave(heap, make_and_shorten(heap, event, reply));
+}
+
+static sh_event event_in(const sh_transaction *transaction, uint64_t op, uint64_t a, uint64_t b, uint64_t c) {
+    return (sh_event){op, (uint64_t)(transaction - transaction->heap->transactions) + 1, a, b, c};
 }
 
 /* Asks in the transaction's session, and notes the first call of it that was not done. */
 static sh_result ask_in(sh_transaction *transaction, sh_reply *reply, uint64_t op, uint64_t a, uint64_t b, uint64_t c) {
     sh_heap *heap = transaction->heap;
-    sh_event event = {op, (uint64_t)(transaction - heap->transactions) + 1, a, b, c};
-    pthread_mutex_lock(&heap->lock);
+    sh_event event = event_in(transaction, op, a, b, c);
+    SH_TRY(enter(heap));
     sh_result result = make_event(heap, &event, reply);
     if (result != SH_OK && transaction->refusal.result == SH_OK) transaction->refusal = heap->error;
-    pthread_mutex_unlock(&heap->lock);
-    return result;
-}
-
-static bool is_idle(sh_heap *heap) {
-    return number_of(heap, HC_FIGURE, HC_ACTIVE, 0) == 0 && number_of(heap, HC_FIGURE, HC_PENDING, 0) == 0;
-}
-
-static sh_result open_again(sh_heap *heap) {
-    call(heap, HC_CLOSE, 0, 0, 0);
-    return open_heap(heap);
-}
-
-/* Opens the heap again where its history has grown long, and nothing of it would be lost. */
-static void shorten_history(sh_heap *heap, uint64_t durable) {
-    if (number_of(heap, HC_FIGURE, HC_HISTORY, 0) < MOST_EVENTS || !is_idle(heap)) return;
-    if (open_again(heap) == SH_OK) heap->before += durable;
+    return leave(heap, result);
 }
 
 sh_result sh_batch(sh_heap *heap, const sh_event *events, size_t count, bool go_on, sh_reply *replies, size_t *made) {
     sh_result first = SH_OK;
     sh_error error = {0};
     size_t done = 0;
-    pthread_mutex_lock(&heap->lock);
+    if (made) *made = 0;
+    SH_TRY(enter(heap));
     while (done < count && (first == SH_OK || go_on)) {
-        sh_result result = make_event(heap, &events[done], &replies[done]);
+        /* (a force comes right behind what it forces: then it needs no memory) */
+        bool forced_next = done + 1 < count && events[done + 1].op == SH_EVENT_FORCE;
+        sh_result result = (forced_next ? make_event : make_and_shorten)(heap, &events[done], &replies[done]);
         done++;
         if (result != SH_OK && first == SH_OK) {
             first = result;
@@ -348,9 +392,8 @@ sh_result sh_batch(sh_heap *heap, const sh_event *events, size_t count, bool go_
         }
     }
     if (first != SH_OK) heap->error = error;
-    pthread_mutex_unlock(&heap->lock);
     if (made) *made = done;
-    return first;
+    return leave(heap, first);
 }
 
 /* ---- the heap */
@@ -413,15 +456,23 @@ sh_heap *sh_open(const char *folder, const char *const *command, unsigned pages,
     return sh_open_here(folder, pages, log_bytes, error);
 }
 
+/* Aborts all transactions, and forces what was sealed. */
+static void end_all(sh_heap *heap) {
+    sh_reply reply;
+    /* (a session may have got its transaction by a batch; one that has none is refused, which changes nothing) */
+    for (uint64_t session = 1; session <= SESSIONS; session++) {
+        sh_event abort = {SH_EVENT_ABORT, session, 0, 0, 0};
+        step(heap, &abort, &reply);
+    }
+    sh_event force = {SH_EVENT_FORCE, 0, 0, 0, 0};
+    step(heap, &force, &reply);
+}
+
 void sh_close(sh_heap *heap) {
-    if (getpid() == heap->owner) {
-        sh_reply reply;
-        /* (a session may have got its transaction by a batch; one that has none is refused, which changes nothing) */
-        for (uint64_t session = 1; session <= SESSIONS; session++) {
-            sh_event event = {SH_EVENT_ABORT, session, 0, 0, 0};
-            locked_event(heap, &event, &reply);
-        }
-        sh_force(heap, NULL);
+    if (enter(heap) == SH_OK) {
+        /* (one that was closed has nothing under way) */
+        if (!heap->closed) end_all(heap);
+        leave(heap, SH_OK);
     }
     free_heap(heap);
 }
@@ -433,13 +484,8 @@ const sh_error *sh_last_error(const sh_heap *heap) {
 sh_result sh_force(sh_heap *heap, uint64_t *commits) {
     sh_reply reply;
     sh_event event = {SH_EVENT_FORCE, 0, 0, 0, 0};
-    pthread_mutex_lock(&heap->lock);
-    sh_result result = make_event(heap, &event, &reply);
-    if (result == SH_OK) {
-        if (commits) *commits = heap->before + reply.numbers[0];
-        shorten_history(heap, reply.numbers[0]);
-    }
-    pthread_mutex_unlock(&heap->lock);
+    sh_result result = locked_event(heap, &event, &reply);
+    if (result == SH_OK && commits) *commits = reply.numbers[0];
     return result;
 }
 
@@ -463,24 +509,31 @@ sh_result sh_scan(sh_heap *heap, bool *more) {
     return result;
 }
 
+/* Forces, closes the heap and opens it; one that memory left closed is only opened. */
+static sh_result reopen(sh_heap *heap) {
+    sh_reply reply;
+    sh_event force = {SH_EVENT_FORCE, 0, 0, 0, 0};
+    if (heap->closed) return open_heap(heap);
+    SH_TRY(step(heap, &force, &reply));
+    return is_idle(heap) ? open_again(heap, reply.numbers[0]) : fail(&heap->error, SH_UNFINISHED, "unfinished");
+}
+
 sh_result sh_reopen(sh_heap *heap) {
-    SH_TRY(sh_force(heap, NULL));
-    pthread_mutex_lock(&heap->lock);
-    sh_result result = is_idle(heap) ? open_again(heap) : fail(&heap->error, SH_UNFINISHED, "unfinished");
+    SH_TRY(enter(heap));
+    sh_result result = reopen(heap);
     if (result == SH_OK) heap->before = 0;
-    pthread_mutex_unlock(&heap->lock);
-    return result;
+    return leave(heap, result);
 }
 
 /* ---- transactions */
 
 static sh_result begin_in(sh_heap *heap, sh_transaction *free_one) {
     sh_reply reply;
-    sh_event event = {SH_EVENT_BEGIN, (uint64_t)(free_one - heap->transactions) + 1, 0, 0, 0};
+    free_one->heap = heap;
+    sh_event event = event_in(free_one, SH_EVENT_BEGIN, 0, 0, 0);
+    SH_TRY(make_event(heap, &event, &reply));
     memset(free_one, 0, sizeof *free_one);
     free_one->heap = heap;
-    sh_result result = make_event(heap, &event, &reply);
-    if (result != SH_OK) return result;
     free_one->number = reply.numbers[0];
     free_one->active = true;
     return SH_OK;
@@ -488,54 +541,67 @@ static sh_result begin_in(sh_heap *heap, sh_transaction *free_one) {
 
 sh_result sh_begin(sh_heap *heap, sh_transaction **transaction) {
     sh_transaction *free_one = heap->transactions, *end = free_one + SESSIONS;
-    pthread_mutex_lock(&heap->lock);
+    SH_TRY(enter(heap));
     while (free_one < end && free_one->active) free_one++;
     sh_result result = free_one < end ? begin_in(heap, free_one) : fail(&heap->error, SH_OUT_OF_SESSIONS, "32 transactions are active");
-    pthread_mutex_unlock(&heap->lock);
     if (result == SH_OK) *transaction = free_one;
-    return result;
+    return leave(heap, result);
 }
 
-/* The transaction has ended: its place is free for another one. */
-static void leave(sh_transaction *transaction) {
-    sh_heap *heap = transaction->heap;
-    pthread_mutex_lock(&heap->lock);
-    transaction->active = false;
-    pthread_mutex_unlock(&heap->lock);
-}
-
+/* The last error; in a forked child, whose heap nobody else has, without the lock. */
 static sh_error error_of(sh_heap *heap) {
-    pthread_mutex_lock(&heap->lock);
+    bool locked = enter(heap) == SH_OK;
     sh_error error = heap->error;
-    pthread_mutex_unlock(&heap->lock);
+    if (locked) leave(heap, SH_OK);
     return error;
 }
 
 static void set_error(sh_heap *heap, const sh_error *error) {
-    pthread_mutex_lock(&heap->lock);
+    if (enter(heap) != SH_OK) return;
     heap->error = *error;
-    pthread_mutex_unlock(&heap->lock);
+    leave(heap, SH_OK);
+}
+
+/* Aborts the transaction, whose place is free then for another one. */
+static sh_result abort_in(sh_transaction *transaction) {
+    sh_event event = event_in(transaction, SH_EVENT_ABORT, 0, 0, 0);
+    sh_reply reply;
+    transaction->active = false;
+    return make_and_shorten(transaction->heap, &event, &reply);
 }
 
 sh_result sh_abort(sh_transaction *transaction) {
-    sh_reply reply;
-    sh_result result = ask_in(transaction, &reply, SH_EVENT_ABORT, 0, 0, 0);
-    leave(transaction);
-    return result;
+    sh_heap *heap = transaction->heap;
+    SH_TRY(enter(heap));
+    return leave(heap, abort_in(transaction));
 }
 
+/* Seals the transaction, unless a call of it was refused: a refusal aborts it. */
+static sh_result seal(sh_transaction *transaction) {
+    sh_heap *heap = transaction->heap;
+    sh_event event = event_in(transaction, SH_EVENT_SEAL, 0, 0, 0);
+    sh_reply reply;
+    sh_error refusal = transaction->refusal;
+    if (refusal.result == SH_OK && make_event(heap, &event, &reply) != SH_OK) refusal = heap->error;
+    if (refusal.result == SH_OK) {
+        transaction->active = false;
+        return SH_OK;
+    }
+    abort_in(transaction);
+    heap->error = refusal;
+    return refusal.result;
+}
+
+/* Seals and forces with nothing in between: the force of what was sealed just now needs no memory, so SH_NO_MEMORY says that nothing was sealed. */
 sh_result sh_commit(sh_transaction *transaction, bool durable) {
     sh_heap *heap = transaction->heap;
+    sh_event force = {SH_EVENT_FORCE, 0, 0, 0, 0};
     sh_reply reply;
-    if (transaction->refusal.result == SH_OK) ask_in(transaction, &reply, SH_EVENT_SEAL, 0, 0, 0);
-    if (transaction->refusal.result == SH_OK) {
-        leave(transaction);
-        return durable ? sh_force(heap, NULL) : SH_OK;
-    }
-    sh_error refusal = transaction->refusal;
-    sh_abort(transaction);
-    set_error(heap, &refusal);
-    return refusal.result;
+    SH_TRY(enter(heap));
+    sh_result result = seal(transaction);
+    if (result == SH_OK && durable) result = make_event(heap, &force, &reply);
+    if (result == SH_OK) shorten_history(heap);
+    return leave(heap, result);
 }
 
 uint64_t sh_number(const sh_transaction *transaction) {

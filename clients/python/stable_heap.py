@@ -11,7 +11,8 @@
 The heap is the file `heap.img` of a folder. A process of its own, `heap session`, works on it: this module sends it one line for each call
 and reads the answer. So the heap keeps its guarantee whatever this program does: if it dies, that is a crash of the heap's client, and what
 was committed is there. With `Heap.open(folder, here=True)` the heap is in this program's own process, by the library of `clients/lib`: a call is then
-many times as fast, and what overwrites the program's memory can spoil the heap.
+many times as fast, and what overwrites the program's memory can spoil the heap. With `buffered=True` a transaction keeps its writes, and makes them
+together before its next read and at its end.
 
 A transaction that ends without an exception is committed, and is on the disk when its `with` is left; one that ends with an exception is
 aborted. A call that the heap refuses is an exception, a `Refused`. A transaction of which a call was refused can't be committed, also if
@@ -25,10 +26,11 @@ import operator
 import os
 import pathlib
 import random
+import struct
 import subprocess
 import threading
 import time
-from typing import Callable, Dict, List, Optional, Sequence, Type, TypeVar, Union
+from typing import Callable, Dict, List, Optional, Sequence, Tuple, Type, TypeVar, Union
 
 __all__ = [
     "AlreadyActive",
@@ -43,6 +45,7 @@ __all__ = [
     "HeapError",
     "InUse",
     "LogFull",
+    "NoMemory",
     "NoSuchPage",
     "NotAHeap",
     "NotActive",
@@ -59,6 +62,8 @@ __all__ = [
 
 HANDLES = 64
 SESSIONS = 32
+# so many writes of a transaction are kept at most, and so many lines are sent before the first answer is read, which fit in the pipe together
+MOST_KEPT = 200
 LAUNCHER = pathlib.Path(__file__).resolve().parents[2] / "heap"
 # where the library is looked for, in this order: what the variable STABLE_HEAP_LIBRARY names, a file beside this one, what `make -C clients/lib` made
 LIBRARIES = [
@@ -170,6 +175,10 @@ class Unfinished(Refused):
     """The heap can't be opened again now: a transaction is active, or was sealed and not forced."""
 
 
+class NoMemory(Refused):
+    """There is no memory for the call, of a heap in this process. It may be made again, in a new transaction, once there is."""
+
+
 REFUSALS: Dict[str, Type[Refused]] = {
     "busy": Busy,
     "logfull": LogFull,
@@ -183,9 +192,42 @@ REFUSALS: Dict[str, Type[Refused]] = {
     "alreadyactive": AlreadyActive,
     "numbersspent": NumbersSpent,
     "unfinished": Unfinished,
+    "nomemory": NoMemory,
 }
 FAULTS = ("diskfault", "stopped", "failed")
+UNDONE = {*REFUSALS, *FAULTS}
 ENDS: Dict[int, Type[Ended]] = {6: DiskFault, 7: NotAHeap, 8: Damaged, 10: InUse}
+
+# a call of the heap: the session, or 0 where it has none, its name, and its numbers
+Event = Tuple[int, str, Sequence[int]]
+# the same beside what a way to the heap makes of it: a line, or bytes
+Spelled = Tuple[Event, Union[str, bytes]]
+# the word of an answer, and its numbers
+Reply = Tuple[str, Sequence[int]]
+
+
+def line_of(event: Event) -> str:
+    session, name, numbers = event
+    return " ".join(map(str, [session, name, *numbers] if session else [name, *numbers]))
+
+
+def whole(event: Event) -> Event:
+    """The event with whole numbers. What is none is a TypeError; the heap can't be asked with a number out of all limits, which is OutOfRange."""
+    session, name, numbers = event
+    event = session, name, [int(operator.index(number)) for number in numbers]
+    if any(not 0 <= number < 2**64 for number in event[2]):
+        raise OutOfRange(line_of(event), "range", [])
+    return event
+
+
+def judged(event: Event, reply: Reply) -> Reply:
+    """The reply, unless it is a refusal or a fault."""
+    word, numbers = reply
+    if word not in UNDONE:
+        return reply
+    if word in FAULTS:
+        raise DiskFault(6)
+    raise REFUSALS[word](line_of(event), word, numbers)
 
 
 def from_here(command: Sequence[str]) -> List[str]:
@@ -219,11 +261,11 @@ class Object:
 
     def same(self, other: "Object") -> bool:
         """Whether both are the same object."""
-        return self._transaction._ask("same", self._named(), self._beside(other)) == ["yes"]
+        return self._transaction._ask("same", self._named(), self._beside(other))[0] == "yes"
 
     def __len__(self) -> int:
         """How many fields it has."""
-        return int(self._transaction._ask("len", self._named())[1])
+        return self._transaction._ask("len", self._named())[1][0]
 
     def __bool__(self) -> bool:
         return True
@@ -262,13 +304,14 @@ class Transaction:
         self._free: List[int] = list(range(HANDLES))
         self._root: Optional[Object] = None
         self._refusal: Optional[Refused] = None
+        self._writes: List[Spelled] = []
         self._session: Optional[int] = None
         self.number: Optional[int] = None
 
     def __enter__(self) -> "Transaction":
         self._session = self._heap._take_session()
         try:
-            self.number = int(self._ask("begin")[1])
+            self.number = self._ask("begin")[1][0]
         except BaseException:
             self._leave()
             raise
@@ -301,16 +344,16 @@ class Transaction:
         return self._named("new", fields)
 
     def _commit(self) -> None:
-        """Seals, and forces if that was asked for. A seal that is refused leaves the transaction active, and it is aborted then."""
+        """Seals, and forces if that was asked for. A refusal leaves the transaction active, and it is aborted then."""
         try:
-            self._ask("seal")
+            self._send()
+            self._ask_all([self._spelled(self._session, "seal"), self._spelled(0, "force")][: 1 + self._durable])
         except Refused:
             self._abort()
             raise
-        if self._durable:
-            self._heap.force()
 
     def _abort(self) -> None:
+        self._writes = []
         self._ask("abort")
 
     def _leave(self) -> None:
@@ -326,11 +369,16 @@ class Transaction:
         return made
 
     def _get(self, handle: int, field: int) -> Value:
-        found = Object(self, self._take_handle())
-        reply = self._ask("get", handle, field, found._named())
-        if reply == ["ref"]:
-            return found
-        return None if reply == ["null"] else int(reply[1])
+        spare = self._take_handle()
+        try:
+            word, numbers = self._ask("get", handle, field, spare)
+        except BaseException:
+            self._free.append(spare)
+            raise
+        if word == "ref":
+            return Object(self, spare)
+        self._free.append(spare)
+        return numbers[0] if numbers else None
 
     def _take_handle(self) -> int:
         if not self._free:
@@ -338,17 +386,53 @@ class Transaction:
         return self._free.pop()
 
     def _do(self, what: str, *numbers: int) -> None:
-        if self._ask(what, *numbers) != ["done"]:
-            raise Protocol(f"no answer to {what} {numbers}")
-
-    def _ask(self, what: str, *numbers: int) -> List[str]:
-        if self._session is None:
-            raise Protocol("the transaction has ended")
+        """Makes a call that is answered by no more than that it was done, or keeps it."""
+        if not self._heap._buffered:
+            self._ask(what, *numbers)
+            return
         try:
-            return self._heap._ask(f"{self._session} {what}", *numbers)
+            self._writes.append(self._spelled(self._active(), what, *numbers))
         except Refused as refusal:
             self._refusal = self._refusal or refusal
             raise
+        if len(self._writes) == MOST_KEPT:
+            self._send()
+
+    def _send(self) -> None:
+        """Makes the calls that were kept."""
+        if self._writes:
+            writes, self._writes = self._writes, []
+            self._ask_all(writes)
+
+    def _spelled(self, session: int, what: str, *numbers: int) -> Spelled:
+        event = session, what, numbers
+        return event, self._heap._way.spell(event)
+
+    def _ask_all(self, calls: Sequence[Spelled]) -> None:
+        """Makes the calls in their order. Behind one that is refused it is not said which are made: the transaction is to be aborted."""
+        try:
+            for (event, _), reply in zip(calls, self._heap._way.exchange_all(calls)):
+                judged(event, reply)
+        except Refused as refusal:
+            self._refusal = self._refusal or refusal
+            raise
+
+    def _ask(self, what: str, *numbers: int) -> Reply:
+        if self._writes:
+            self._send()
+        event = self._active(), what, numbers
+        try:
+            return judged(event, self._heap._way.exchange(event))
+        except Refused as refusal:
+            self._refusal = self._refusal or refusal
+            raise
+
+    def _active(self) -> int:
+        """The session."""
+        if self._session is None:
+            raise Protocol("the transaction has ended")
+        return self._session
+
 
 class Pipe:
     """A way to a heap: a process that answers lines."""
@@ -377,24 +461,42 @@ class Pipe:
         except BrokenPipeError:
             self._process.wait()
 
-    def exchange(self, event: str) -> List[str]:
-        """Sends a line, and gives the words of the reply."""
+    def exchange(self, event: Event) -> Reply:
+        """Makes the call, and gives the reply."""
+        return self._send([self.spell(event)])[0]
+
+    def exchange_all(self, calls: Sequence[Spelled]) -> List[Reply]:
+        """Makes the calls, whatever is refused."""
+        return self._send([line for _, line in calls])
+
+    @staticmethod
+    def spell(event: Event) -> str:
+        return line_of(whole(event))
+
+    def _send(self, lines: List[str]) -> List[Reply]:
+        """Sends the lines, which are few enough for the pipe, and gives their replies."""
         with self._turn:
             try:
-                self._process.stdin.write(event + "\n")
-                answer = self._process.stdout.readline()
+                self._process.stdin.write("".join(line + "\n" for line in lines))
+                self._process.stdin.flush()
+                answers = [self._process.stdout.readline() for _ in lines]
             except (BrokenPipeError, ValueError):
-                answer = ""
+                answers = [""]
             except BaseException:
                 # A call that was cut short leaves an answer behind, which the next one would take for its own.
                 self._process.terminate()
                 raise
-        if not answer:
+        if not all(answers):
             raise self._ended()
+        return [self._read(line, answer) for line, answer in zip(lines, answers)]
+
+    @staticmethod
+    def _read(line: str, answer: str) -> Reply:
         asked, arrow, reply = answer.rstrip("\n").partition(" -> ")
-        if not arrow or asked != event:
-            raise Protocol(f"the session answered {answer!r} to {event!r}")
-        return reply.split()
+        if not arrow or asked != line:
+            raise Protocol(f"the session answered {answer!r} to {line!r}")
+        word, *numbers = reply.split()
+        return word, list(map(int, numbers))
 
     def _ended(self) -> HeapError:
         """Why there is no answer."""
@@ -402,14 +504,6 @@ class Pipe:
             return Protocol("the heap was closed")
         status = self._process.wait()
         return ENDS.get(status, Ended)(status)
-
-
-class EventNumbers(ctypes.Structure):
-    _fields_ = [("op", ctypes.c_uint64), ("s", ctypes.c_uint64), ("numbers", ctypes.c_uint64 * 3)]
-
-
-class ReplyNumbers(ctypes.Structure):
-    _fields_ = [("code", ctypes.c_uint64), ("numbers", ctypes.c_uint64 * 3)]
 
 
 class ErrorNumbers(ctypes.Structure):
@@ -426,7 +520,12 @@ REFUSED = (
 ).split()
 EVENT_NUMBERS = {word: 32 + place for place, word in enumerate(EVENTS)}
 REPLY_WORDS = {first + place: (it[:-1], int(it[-1])) for first, words in ((32, REPLIES), (64, REFUSED)) for place, it in enumerate(words)}
-SH_UNFINISHED = 10
+# answers that are no replies: memory was refused, a call on the file has failed
+REPLY_WORDS.update({1: ("nomemory", 0), 4: ("diskfault", 0)})
+SH_OK, SH_UNFINISHED, SH_NO_MEMORY = 0, 10, 19
+# an event by how many numbers it has, and a reply
+ASKED = [struct.Struct("=2Q24x"), struct.Struct("=3Q16x"), struct.Struct("=4Q8x"), struct.Struct("=5Q")]
+ANSWERED = struct.Struct("=4Q")
 
 
 def open_library() -> ctypes.CDLL:
@@ -441,15 +540,25 @@ def open_library() -> ctypes.CDLL:
     library.sh_open_here.restype = ctypes.c_void_p
     library.sh_close.argtypes = [ctypes.c_void_p]
     library.sh_reopen.argtypes = [ctypes.c_void_p]
-    library.sh_batch.argtypes = [
-        ctypes.c_void_p,
-        ctypes.POINTER(EventNumbers),
-        ctypes.c_size_t,
-        ctypes.c_bool,
-        ctypes.POINTER(ReplyNumbers),
-        ctypes.POINTER(ctypes.c_size_t),
-    ]
+    library.sh_batch.argtypes = [ctypes.c_void_p, ctypes.c_char_p, ctypes.c_size_t, ctypes.c_bool, ctypes.c_void_p, ctypes.c_void_p]
     return library
+
+
+class Room:
+    """Where the library puts its replies, and how many."""
+
+    def __init__(self):
+        self.replies = bytearray(ANSWERED.size * MOST_KEPT)
+        self.made = ctypes.c_size_t()
+        self._kept = (ctypes.c_char * len(self.replies)).from_buffer(self.replies)
+        self.places = ctypes.addressof(self._kept), ctypes.addressof(self.made)
+
+    def reply(self, place: int) -> Reply:
+        numbers = ANSWERED.unpack_from(self.replies, ANSWERED.size * place)
+        if numbers[0] not in REPLY_WORDS:
+            raise Protocol(f"the heap answered {numbers[0]}")
+        word, count = REPLY_WORDS[numbers[0]]
+        return word, numbers[1 : 1 + count]
 
 
 class Here:
@@ -457,7 +566,10 @@ class Here:
 
     def __init__(self, folder: pathlib.Path, pages: int, log_bytes: int):
         error = ErrorNumbers()
+        # (a thread that finds none here makes one more)
+        self._rooms: List[Room] = []
         self._library = open_library()
+        self._batch = self._library.sh_batch
         self._heap = self._library.sh_open_here(os.fsencode(folder), pages, log_bytes, ctypes.byref(error))
         if not self._heap:
             raise ENDS.get(error.status, Ended)(error.status)
@@ -467,31 +579,54 @@ class Here:
         if heap:
             self._library.sh_close(heap)
 
-    def exchange(self, event: str) -> List[str]:
-        """Makes the event of a line, and gives the words of the reply."""
+    def exchange(self, event: Event) -> Reply:
+        """Makes the call, and gives the reply."""
+        if event[1] == "reopen":
+            return self._reopen()
+        return self._make(self.spell(event), 1)[0]
+
+    def exchange_all(self, calls: Sequence[Spelled]) -> List[Reply]:
+        """Makes the calls, up to the first one that is refused."""
+        return self._make(b"".join([it for _, it in calls]), len(calls))
+
+    @staticmethod
+    def spell(event: Event) -> bytes:
+        session, name, numbers = event
+        try:
+            return ASKED[len(numbers)].pack(EVENT_NUMBERS[name], session, *numbers)
+        except (struct.error, OverflowError, TypeError):
+            # (it has a number that is not whole or not within all limits)
+            whole(event)
+            raise
+
+    def _make(self, events: bytes, count: int) -> List[Reply]:
+        try:
+            room = self._rooms.pop()
+        except IndexError:
+            room = Room()
+        # (in a forked child nothing is answered)
+        room.replies[0] = 0
+        self._batch(self._open(), events, count, False, *room.places)
+        replies = [room.reply(0)] if count == 1 else [room.reply(place) for place in range(room.made.value or 1)]
+        self._rooms.append(room)
+        return replies
+
+    def _open(self) -> int:
         if not self._heap:
             raise Protocol("the heap was closed")
-        if event == "reopen":
-            return ["unfinished"] if self._library.sh_reopen(self._heap) == SH_UNFINISHED else ["closed"]
-        reply = self._reply(event.split())
-        if reply.code not in REPLY_WORDS:
-            raise Ended(1) if reply.code == 1 else DiskFault(6) if reply.code == 4 else Protocol(f"the heap answered {reply.code} to {event!r}")
-        word, count = REPLY_WORDS[reply.code]
-        return [word, *map(str, reply.numbers[:count])]
+        return self._heap
 
-    def _reply(self, words: List[str]) -> ReplyNumbers:
-        session = int(words.pop(0)) if words[0].isdigit() else 0
-        numbers = (ctypes.c_uint64 * 3)(*map(int, words[1:]))
-        event, reply = EventNumbers(EVENT_NUMBERS[words[0]], session, numbers), ReplyNumbers()
-        self._library.sh_batch(self._heap, ctypes.byref(event), 1, False, ctypes.byref(reply), None)
-        return reply
+    def _reopen(self) -> Reply:
+        words = {SH_OK: "closed", SH_UNFINISHED: "unfinished", SH_NO_MEMORY: "nomemory"}
+        return words.get(self._library.sh_reopen(self._open()), "diskfault"), ()
 
 
 class Heap:
     """An open heap, in a process that works on the file `heap.img` of a folder or in this one. No other program can open it meanwhile."""
 
-    def __init__(self, way: Union[Pipe, Here]):
+    def __init__(self, way: Union[Pipe, Here], buffered: bool = False):
         self._way = way
+        self._buffered = buffered
         self._sessions = list(range(SESSIONS, 0, -1))
         self._has_session = threading.Condition()
 
@@ -503,13 +638,17 @@ class Heap:
         log_bytes: int = 16_777_216,
         command: Sequence[str] = (str(LAUNCHER),),
         here: bool = False,
+        buffered: bool = False,
     ) -> "Heap":
         """Opens the heap in that folder. Where the folder has no `heap.img`, or an empty one, a heap is made, of these sizes; what
         holds something else is never written over, but raises NotAHeap. `command` is the launcher with its options: without `--quick`
-        it proves the program before its first run, which takes many minutes. With `here` there is no such process: the heap is in this one."""
+        it proves the program before its first run, which takes many minutes. With `here` there is no such process: the heap is in this one.
+
+        With `buffered` a transaction keeps its writes, and makes them together, which takes a fraction of the time: before its next read, or at its
+        end. A refusal is raised there, and says of which write it is; after one the transaction can only end."""
         folder = pathlib.Path(folder)
         folder.mkdir(parents=True, exist_ok=True)
-        heap = cls(Here(folder, pages, log_bytes) if here else Pipe(folder, pages, log_bytes, command))
+        heap = cls(Here(folder, pages, log_bytes) if here else Pipe(folder, pages, log_bytes, command), buffered)
         try:
             # The first answer says that the heap is open.
             heap.force()
@@ -548,7 +687,7 @@ class Heap:
 
     def force(self) -> int:
         """Puts all that was sealed on the disk: the number of commits there, since the heap was opened."""
-        return int(self._ask("force")[1])
+        return self._ask("force")[1][0]
 
     def flush(self, page: int) -> bool:
         """Stores a page, so that the next opening redoes less: whether it had changed."""
@@ -586,16 +725,6 @@ class Heap:
             self._sessions.append(session)
             self._has_session.notify()
 
-    def _ask(self, what: str, *numbers: int) -> List[str]:
-        """Sends a line, and gives the words of the answer. What is no whole number is a TypeError, and nothing is sent."""
-        wholes = [int(operator.index(number)) for number in numbers]
-        event = " ".join([what, *map(str, wholes)])
-        # (such a number is not of the grammar, so the heap can't be asked)
-        if any(not 0 <= number < 2**64 for number in wholes):
-            raise OutOfRange(event, "range", [])
-        word, *numbers = self._way.exchange(event)
-        if word in FAULTS:
-            raise DiskFault(6)
-        if word in REFUSALS:
-            raise REFUSALS[word](event, word, list(map(int, numbers)))
-        return [word, *numbers]
+    def _ask(self, what: str, *numbers: int) -> Reply:
+        event = 0, what, numbers
+        return judged(event, self._way.exchange(event))

@@ -1,5 +1,6 @@
 #!/bin/sh
-# Tries the heap in a program's own process, and compares it with the client over a pipe: the same tests, drawn events, kills, calls on the file that fail.
+# Tries the heap in a program's own process, and compares it with the client over a pipe: the same tests, drawn events, kills, calls on the file that
+# fail, memory that is refused.
 #
 #     make -C clients/lib
 #     examples/clients/lib.sh [--quick]
@@ -42,6 +43,15 @@ for seed in 1 2 3; do
         echo "$(wc -l <here.out) drawn events: the same answers and the same file as through the pipe"
 done
 
+# two libraries that open their heap again by themselves after 60 events, and after each transaction
+make -s -C "$library" BUILD="$room/eager" CFLAGS="-O1 -g -DMOST_EVENTS=60" || exit
+over_library memory eager memory.c -Wl,--wrap=malloc,--wrap=realloc,--wrap=free,--wrap=pthread_mutex_unlock
+mkdir refused
+./memory refused
+make -s -C "$library" BUILD="$room/restless" CFLAGS="-O1 -g -DMOST_EVENTS=1" || exit
+over_library restless_tests restless c_client.c
+tried restless_tests ", where the heap is opened again after each transaction"
+
 make -s -C "$library" BUILD="$room/raced" CFLAGS="-O1 -g -fsanitize=thread" || exit
 over_library threads raced threads.c -fsanitize=thread
 mkdir counted_by_four
@@ -54,7 +64,10 @@ if command -v rustc >/dev/null; then
 fi
 
 # (a test that kills the heap's process is left out)
-PYTHONDONTWRITEBYTECODE=1 HEAP=here "$here/python_client.py" >log 2>&1 && echo "the tests for Python pass" || cat log
+cc -shared -fPIC -O1 -o no_memory.so "$here/no_memory.c" -ldl || exit
+LD_PRELOAD=$room/no_memory.so PYTHONDONTWRITEBYTECODE=1 HEAP=here "$here/python_client.py" >log 2>&1 && echo "the tests for Python pass" || cat log
+STABLE_HEAP_LIBRARY=$room/restless/libstable_heap.so PYTHONDONTWRITEBYTECODE=1 HEAP=here "$here/python_client.py" >log 2>&1 &&
+    echo "the tests for Python pass, where the heap is opened again after each transaction" || cat log
 
 over_library counter "$library/build" counter.c
 cc -shared -fPIC -O1 -o faults.so "$here/faults.c" -ldl || exit

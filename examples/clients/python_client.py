@@ -1,10 +1,11 @@
 #!/usr/bin/env python3
-"""Tries clients/python/stable_heap.py. Where the variable HEAP is set, it is the launcher with its options; where it is "here", the heap is in this
-process.
+"""Tries clients/python/stable_heap.py, with writes that are made at once and with writes that are kept. Where the variable HEAP is set, it is the
+launcher with its options; where it is "here", the heap is in this process.
 
     HEAP="./heap --quick" examples/clients/python_client.py
     HEAP=here examples/clients/python_client.py
 """
+import ctypes
 import os
 import pathlib
 import sys
@@ -20,9 +21,13 @@ import stable_heap as sh  # noqa: E402
 
 COMMAND = os.environ.get("HEAP", str(sh.LAUNCHER)).split()
 HERE = COMMAND == ["here"]
+# (where no_memory.c is preloaded)
+REFUSE_MEMORY = getattr(ctypes.CDLL(None), "refuse_memory", None)
 
 
 class Client(unittest.TestCase):
+    BUFFERED = False
+
     def setUp(self):
         room = tempfile.TemporaryDirectory()
         self.addCleanup(room.cleanup)
@@ -30,7 +35,7 @@ class Client(unittest.TestCase):
         self.heap = self.open()
 
     def open(self):
-        heap = sh.Heap.open(self.folder, pages=1, log_bytes=65_536, command=COMMAND, here=HERE)
+        heap = sh.Heap.open(self.folder, pages=1, log_bytes=65_536, command=COMMAND, here=HERE, buffered=self.BUFFERED)
         self.addCleanup(heap.close)
         return heap
 
@@ -45,6 +50,12 @@ class Client(unittest.TestCase):
     def put(self, number, durable=True):
         with self.heap.transaction(durable) as t:
             t.root.put(0, number)
+
+    @staticmethod
+    def put_now(transaction, number):
+        """Writes, and reads: a write that is kept has locked nothing yet."""
+        transaction.root.put(0, number)
+        transaction.root.get(0)
 
     def test_commit_outlives_the_process(self):
         with self.heap.transaction() as t:
@@ -79,6 +90,7 @@ class Client(unittest.TestCase):
                 t.root.put(0, 70)
                 try:
                     t.root.put(4, 30)
+                    t.root.get(0)
                 except sh.BadField:
                     pass
         self.assertEqual(self.root_fields(), [None] * 4)
@@ -115,7 +127,7 @@ class Client(unittest.TestCase):
 
     def test_busy_names_the_holder(self):
         with self.heap.transaction() as first:
-            first.root.put(0, 1)
+            self.put_now(first, 1)
             with self.assertRaises(sh.Busy) as busy:
                 with self.heap.transaction() as second:
                     second.root.get(0)
@@ -125,7 +137,7 @@ class Client(unittest.TestCase):
     def test_run_tries_again(self):
         first = self.heap.transaction()
         first.__enter__()
-        first.root.put(0, 1)
+        self.put_now(first, 1)
         tries = []
 
         def add(t):
@@ -141,7 +153,7 @@ class Client(unittest.TestCase):
 
     def test_run_gives_up(self):
         with self.heap.transaction() as first:
-            first.root.put(0, 1)
+            self.put_now(first, 1)
             with self.assertRaises(sh.Busy):
                 self.heap.run(lambda t: t.root.get(0), attempts=3)
 
@@ -241,6 +253,67 @@ class Client(unittest.TestCase):
         for thread in threads:
             thread.join()
         self.assertEqual(self.root_fields()[0], 40)
+
+    @unittest.skipUnless(HERE, "a child of the pipe's client would share the pipe")
+    def test_forked_child(self):
+        self.put(7)
+        transaction = self.heap.transaction().__enter__()
+        transaction.root.put(0, 8)
+        child = os.fork()
+        if child == 0:
+            protocols = 0
+            for call in (self.heap.force, self.heap.reopen, lambda: self.put(9), lambda: transaction.__exit__(None, None, None)):
+                try:
+                    call()
+                except sh.Protocol:
+                    protocols += 1
+            os._exit(protocols)
+        self.assertEqual(os.waitpid(child, 0)[1], 4 << 8)
+        transaction.__exit__(None, None, None)
+        self.assertEqual(self.root_fields()[0], 8)
+
+    @unittest.skipUnless(REFUSE_MEMORY, "memory can't be refused here")
+    def test_no_memory(self):
+        self.put(7, durable=False)
+        REFUSE_MEMORY(True)
+        self.assertRaises(sh.NoMemory, self.heap.reopen)
+        self.assertRaises(sh.NoMemory, self.put, 8)
+        REFUSE_MEMORY(False)
+        self.assertEqual(self.root_fields()[0], 7)
+        refusals = 0
+        with self.assertRaises(sh.NoMemory), self.heap.transaction() as t:
+            t.root.put(0, 9)
+            REFUSE_MEMORY(True)
+            while not refusals:
+                try:
+                    t.root.get(0)
+                except sh.NoMemory:
+                    refusals += 1
+            REFUSE_MEMORY(False)
+        self.assertEqual(self.root_fields()[0], 7)
+
+
+class Buffered(Client):
+    BUFFERED = True
+
+    def test_refusal_names_its_write(self):
+        with self.assertRaises(sh.BadField) as refusal:
+            with self.heap.transaction() as t:
+                t.root.put(0, 1)
+                t.root.put(4, 2)
+                t.root.put(1, 3)
+        self.assertTrue(refusal.exception.event.endswith("put 63 4 2"), refusal.exception.event)
+        self.assertEqual(self.root_fields(), [None] * 4)
+
+    def test_many_writes(self):
+        with self.heap.transaction() as t:
+            made = t.new(510)
+            for field in range(510):
+                made.put(field, field)
+            for field in range(510):
+                self.assertEqual(made.get(field), field)
+                made.put(field, made.get(field) + 1)
+            self.assertEqual([made.get(field) for field in range(510)], list(range(1, 511)))
 
 
 if __name__ == "__main__":

@@ -23,7 +23,7 @@ heap_in other (Image bytes) = other
 heap_in other (Closed disk) = other
 heap_in other (Open heap) = heap
 
-same_heap : (was heap : OpenHeap) (state : State) → state ≡ Open was → state ≡ Open heap → was ≡ heap
+pub same_heap : (was heap : OpenHeap) (state : State) → state ≡ Open was → state ≡ Open heap → was ≡ heap
 same_heap was heap state first second = ap (heap_in was) (sym first ∙ second)
 
 abbrev HasHeap : State → Type 0
@@ -66,14 +66,16 @@ module _ (g : Ghosts Memory) where
       record {
         synced = subst (λ (d : Memory). (now_of d).pending ≡ []) same synced;
         anew = ap disk_of second ∙ ap Some (anew ∙ ap begun_anew same);
+        closed = λ closed is. (now, second);
         heap = λ heap is. absurd (subst HasHeap (sym (sym first ∙ is)) tt);
       }
 
-  pub open_forgets : (old new : State) (was now : OpenHeap) (disk : Memory) → old ≡ Open was → new ≡ Open now → disk_of old ≡ Some disk → (now_of was.disk).pending ≡ [] → now.disk ≡ begun_anew was.disk → StaysHeap g was.core was.disk now.core now.disk → Forgets g old new disk
-  open_forgets old new was now disk first second there synced anew stays =
+  pub open_forgets : (old new : State) (was now : OpenHeap) (disk : Memory) → old ≡ Open was → new ≡ Open now → disk_of old ≡ Some disk → (now_of was.disk).pending ≡ [] → now.disk ≡ begun_anew was.disk → now.core ≡ was.core → StaysHeap g was.core was.disk now.core now.disk → Forgets g old new disk
+  open_forgets old new was now disk first second there synced anew core stays =
       let same : was.disk ≡ disk = same_disk was.disk disk old (ap disk_of first) there in
       record {
         synced = subst (λ (d : Memory). (now_of d).pending ≡ []) same synced;
         anew = ap disk_of second ∙ ap Some (anew ∙ ap begun_anew same);
-        heap = λ heap is. (now, second, subst (λ (h : OpenHeap). StaysHeap g h.core h.disk now.core now.disk) (same_heap was heap old first is) stays);
+        closed = λ closed is. absurd (subst HasHeap (sym first ∙ is) tt);
+        heap = λ heap is. (now, second, core ∙ ap (λ (h : OpenHeap). h.core) (same_heap was heap old first is), subst (λ (h : OpenHeap). StaysHeap g h.core h.disk now.core now.disk) (same_heap was heap old first is) stays);
       }

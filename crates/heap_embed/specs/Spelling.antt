@@ -11,6 +11,7 @@ use Rattle.heap_recovery.specs.declared.at.At.{At}
 use Rattle.heap_recovery.specs.declared.at.At.TheVariants as place
 use Rattle.heap_embed.specs.declared.answer.Answer.{Answer}
 use Rattle.heap_embed.specs.declared.answer.Answer.TheVariants as answer
+use Rattle.heap_embed.specs.declared.answer.Numbers.{Numbers}
 use Rattle.heap_embed.specs.declared.answer.Spelled.{Spelled}
 use Rattle.heap_embed.specs.declared.ask.Ask.{Ask}
 use Rattle.heap_embed.specs.declared.ask.Ask.TheVariants as ask
@@ -129,3 +130,7 @@ spelled answer.NoItem = bare 11
 spelled answer.Unsynced = bare 12
 spelled (answer.Number n) = with 13 n 0 0
 spelled (answer.Reply reply) = spelled_reply reply
+
+-- number i of an answer, from 0
+abbrev pub last_number : Numbers → ℕ → ℕ
+last_number numbers i = if i == 0 then numbers.first else if i == 1 then numbers.second else if i == 2 then numbers.third else 0

@@ -1,7 +1,9 @@
--- What a host is told of a change of the disk, and of an opening that failed.
+-- What a host is told of a change of the disk, and of an opening or a format that failed.
 use Rattle.std.specs.Prelude.{ℕ, ◌+◌, List, [], ◌∷◌, length, slice_index}
 use Rattle.std.specs.Int.{w64, from_le_bytes}
 use Rattle.disk_model.specs.Memory.{Change, Write, Sync, Restart}
+use Rattle.heap_core.specs.declared.errors.FormatError.{FormatError}
+use Rattle.heap_core.specs.declared.errors.FormatError.TheVariants as making
 use Rattle.heap_core.specs.declared.errors.OpenError.{OpenError}
 use Rattle.heap_core.specs.declared.errors.OpenError.TheVariants as opening
 use Rattle.heap_embed.specs.declared.answer.Answer.{Answer}
@@ -20,6 +22,12 @@ open_answer opening.NotHeap = answer.NotHeap
 open_answer (opening.Damaged at) = answer.Damaged at
 open_answer opening.DiskFault = answer.Failed
 open_answer opening.Stopped = answer.Failed
+
+-- why an empty heap could not be made
+abbrev pub format_answer : FormatError → Answer
+format_answer (making.TooSmall size need) = answer.TooSmall size need
+format_answer making.DiskFault = answer.Failed
+format_answer making.Stopped = answer.Failed
 
 -- eight bytes from a place on, the lowest first, with zeros past the end
 abbrev pub word_of : List ℕ → ℕ → ℕ

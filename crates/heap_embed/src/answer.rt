@@ -79,6 +79,11 @@ impl From<OpenError> for Answer {
 }
 
 impl From<FormatError> for Answer {
+    ghost use Rattle.std.specs.Prelude.{◌≡◌};
+    ghost use Rattle.heap_embed.specs.Told.{format_answer};
+
+    ghost from_gives = { λ e answer. answer ≡ format_answer e };
+
     fn from(e: FormatError) -> Self {
         match e {
             FormatError::TooSmall { size, need } => Answer::TooSmall { size, need },

@@ -4,10 +4,11 @@ ghost use Rattle.disk_model.specs.Memory.{Memory, Write, Sync, MightHaveLeft, ch
 ghost use Rattle.heap_embed.specs.Told.{change_answer, word_of};
 ghost use Rattle.disk_model.specs.declared.memory.Pick.TheVariants.{Newest};
 ghost use Rattle.image_plan.specs.Super.{IsSuper};
+ghost use Rattle.heap_embed.specs.Formats.{WasFormatted};
 ghost use Rattle.heap_embed.specs.Host.{HostMayLeave, begins_with};
 
 use crate::answer::Answer;
-use disk_model::{MemoryDisk, Pick};
+use disk_model::{Disk, MemoryDisk, Pick};
 use heap_core::Heap;
 use image_plan::Super;
 use std::alloc::{AllocError, Global};
@@ -36,6 +37,7 @@ impl HostDisk {
     /// Makes an empty heap on it.
     pub fn format(self, of: &Super) -> (Answer, HostDisk)
         requires { IsSuper of.now }
+        ensures { WasFormatted ⟦<MemoryDisk as Disk>⟧ of.now self.disk result.0 result.1.disk }
     {
         match Heap::format(self.disk, of.pages, of.log_bytes, of.first) {
             Ok(disk) => (Answer::Done, HostDisk { disk }),

@@ -49,6 +49,7 @@ impl OpenHeap {
 
     /// Forgets what was told, where nothing is pending: all of it is on the host's disk.
     pub fn forget(&mut self) -> bool
+        ensures core { self.new.core ≡ self.old.core }
         ensures heap { StaysHeap ⟦<MemoryDisk as Disk>⟧ self.old.core self.old.disk self.new.core self.new.disk }
         ensures pending { IsTrue result ↔ ((now_of self.old.disk).pending ≡ []) }
         ensures anew { IsTrue result → self.new.disk ≡ begun_anew self.old.disk }

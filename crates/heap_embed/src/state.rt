@@ -1,8 +1,13 @@
 //! What there is of the heap.
-ghost use Rattle.std.specs.Prelude.{◌≡◌, ◌≢◌, ◌<◌, ◌≤◌, Some, IfSome, IsSome, IfOk, IfErr, slice_index_or, ℕ, List, length};
-ghost use Rattle.disk_model.specs.Memory.{Write, Sync, changes_of};
+ghost use Rattle.std.specs.Prelude.{◌≡◌, ◌≢◌, ◌⊎◌, ◌↔◌, [], ◌<◌, ◌≤◌, None, Some, IfSome, IsSome, IfOk, IfErr, slice_index_or, ℕ, List, length, take, replicate};
+ghost use Rattle.std.specs.Int.{w64, to_le_bytes};
+ghost use Rattle.disk_model.specs.Memory.{Write, Sync, changes_of, now_of};
 ghost use Rattle.graph_model.specs.History.{IsOfSession};
 ghost use Rattle.heap_embed.specs.Told.{change_answer, word_of};
+ghost use Rattle.heap_core.specs.Format.{heap_of};
+ghost use Rattle.heap_core.specs.Refinement.{IsCoreInMemory};
+ghost use Rattle.heap_embed.specs.Figures.{IsFigure, active_upto};
+ghost use Rattle.heap_model.specs.Core.{Core};
 ghost use Rattle.image_plan.specs.Super.{IsSuper};
 
 use crate::answer::Answer;
@@ -13,7 +18,7 @@ use disk_model::{Disk, MemoryDisk};
 use graph_model::{Event, FIRST_SESSION, LAST_SESSION};
 use heap_core::HeapCore;
 use image_plan::Super;
-use std::alloc::{AllocError, Global};
+use std::alloc::Global;
 use std::mem;
 
 /// The heap, so far.
@@ -28,7 +33,7 @@ pub enum State {
 }
 
 impl State {
-    ghost use Rattle.heap_embed.specs.Embedding.{disk_of, Answers, MakesEvent, Opens, Forgets, Hands};
+    ghost use Rattle.heap_embed.specs.Embedding.{disk_of, Answers, MakesEvent, Opens, IsRefused, Formats, Forgets, Hands, HasNoDisk, HasDisk, IsFigureOf, IsNotOpen, IsClosedOn, TakesUp};
 
     /// Answers what is asked of the heap.
     pub fn answer(&mut self, alloc: Global, ask: Ask) -> Answer
@@ -58,7 +63,9 @@ impl State {
 
     /// Makes an event on the open heap. One that has no reply has changed nothing.
     fn step(&mut self, event: Event) -> Answer
-        ensures { (heap : _) → self.old ≡ State.Open heap → IsOfSession event → MakesEvent ⟦<MemoryDisk as Disk>⟧ event result self.new heap }
+        ensures made { (heap : _) → self.old ≡ State.Open heap → IsOfSession event → MakesEvent ⟦<MemoryDisk as Disk>⟧ event result self.new heap }
+        ensures stranger { ¬ IsOfSession event → (result ≡ Answer.NotAnAsk) × (self.new ≡ self.old) }
+        ensures closed { IsNotOpen self.old → IsOfSession event → (result ≡ Answer.NotNow) × (self.new ≡ self.old) }
     {
         if !event.is_of_session() {
             return Answer::NotAnAsk;
@@ -72,34 +79,53 @@ impl State {
         }
     }
 
-    fn take_bytes(&mut self, word: u64, count: u64) -> Answer {
+    /// Takes up bytes of the image, which are handed in: at most eight.
+    fn take_bytes(&mut self, word: u64, count: u64) -> Answer
+        ensures taken { (bytes : _) → self.old ≡ State.Image bytes → count ≤ 8 → TakesUp bytes.items (take count (to_le_bytes w64 word)) result self.new }
+        ensures refused { (bytes : _) → self.old ≡ State.Image bytes → 8 < count → (result ≡ Answer.NotAnAsk) × (self.new ≡ self.old) }
+        ensures late { HasDisk self.old → (result ≡ Answer.NotNow) × (self.new ≡ self.old) }
+    {
         let State::Image(bytes) = self else {
             return Answer::NotNow;
         };
-        let more = word.to_le_bytes();
-        match more.get(..count as usize) {
-            Some(more) => done(bytes.extend_from_slice(more)),
-            None => Answer::NotAnAsk,
+        let word = word.to_le_bytes();
+        let Some(more) = word.get(..count as usize) else {
+            return Answer::NotAnAsk;
+        };
+        match bytes.extend_from_slice(more) {
+            Ok(()) => Answer::Done,
+            Err(_) => Answer::NoMemory,
         }
     }
 
-    fn take_zeros(&mut self, count: u64) -> Answer {
+    /// Takes up that many zeros of the image.
+    fn take_zeros(&mut self, count: u64) -> Answer
+        ensures taken { (bytes : _) → self.old ≡ State.Image bytes → TakesUp bytes.items (replicate count 0) result self.new }
+        ensures late { HasDisk self.old → (result ≡ Answer.NotNow) × (self.new ≡ self.old) }
+    {
         let State::Image(bytes) = self else {
             return Answer::NotNow;
         };
-        match bytes.len().checked_add(count as usize) {
-            Some(size) => done(bytes.resize(size, 0)),
-            None => Answer::NoMemory,
+        let Some(size) = bytes.len().checked_add(count as usize) else {
+            return Answer::NoMemory;
+        };
+        match bytes.resize(size, 0) {
+            Ok(()) => Answer::Done,
+            Err(_) => Answer::NoMemory,
         }
     }
 
-    /// The disk of what was handed in, or of the closed heap, which is taken out.
+    /// The disk of what was handed in, or of the closed heap, which is taken out. What was handed in is let go where memory for its disk is refused.
     fn take_disk(&mut self, alloc: Global) -> Result<HostDisk, Answer>
         ensures hands { IfOk result (λ taken. Hands self.old taken.disk) }
+        ensures none { IfErr result (λ answer. HasNoDisk self.old answer self.new) }
         ensures error { IfErr result (λ answer. answer ≢ Answer.Done) }
     {
         match mem::replace(self, State::Image(Vec::new(alloc))) {
-            State::Image(bytes) => HostDisk::of(alloc, bytes).map_err(|_| Answer::NoMemory),
+            State::Image(bytes) => match HostDisk::of(alloc, bytes) {
+                Ok(disk) => Ok(disk),
+                Err(_) => Err(Answer::NoMemory),
+            },
             State::Closed(disk) => Ok(disk),
             State::Open(heap) => {
                 *self = State::Open(heap);
@@ -109,7 +135,10 @@ impl State {
     }
 
     /// Makes an empty heap in what was handed in.
-    fn format(&mut self, alloc: Global, pages: u64, log_bytes: u64, first: u64) -> Answer {
+    fn format(&mut self, alloc: Global, pages: u64, log_bytes: u64, first: u64) -> Answer
+        ensures limits { ¬ IsSuper (heap_of pages log_bytes first) → (result ≡ Answer.PastLimits) × (self.new ≡ self.old) }
+        ensures made { IsSuper (heap_of pages log_bytes first) → HasNoDisk self.old result self.new ⊎ Formats ⟦<MemoryDisk as Disk>⟧ (heap_of pages log_bytes first) self.old result self.new }
+    {
         let Some(of) = read_numbers(pages, log_bytes, first) else {
             return Answer::PastLimits;
         };
@@ -124,7 +153,8 @@ impl State {
     }
 
     fn open(&mut self, alloc: Global) -> Answer
-        ensures { result ≡ Answer.Done → Opens ⟦<MemoryDisk as Disk>⟧ self.old self.new }
+        ensures opened { result ≡ Answer.Done → Opens ⟦<MemoryDisk as Disk>⟧ self.old self.new }
+        ensures refused { result ≢ Answer.Done → HasNoDisk self.old result self.new ⊎ IsRefused ⟦<MemoryDisk as Disk>⟧ self.old result self.new }
     {
         let disk = match self.take_disk(alloc) {
             Ok(disk) => disk,
@@ -144,7 +174,8 @@ impl State {
 
     /// The open heap is closed as it is.
     fn close(&mut self, alloc: Global) -> Answer
-        ensures { (heap : _) → self.old ≡ State.Open heap → disk_of self.new ≡ Some heap.disk }
+        ensures closed { (heap : _) → self.old ≡ State.Open heap → (result ≡ Answer.Done) × IsClosedOn self.new heap.disk }
+        ensures none { IsNotOpen self.old → (result ≡ Answer.NotNow) × (self.new ≡ self.old) }
     {
         match mem::replace(self, State::Image(Vec::new(alloc))) {
             State::Open(heap) => {
@@ -162,6 +193,8 @@ impl State {
     fn forget(&mut self) -> Answer
         ensures forgets { result ≡ Answer.Done → (disk : _) → disk_of self.old ≡ Some disk → Forgets ⟦<MemoryDisk as Disk>⟧ self.old self.new disk }
         ensures kept { result ≢ Answer.Done → self.new ≡ self.old }
+        ensures none { disk_of self.old ≡ None → result ≡ Answer.NotNow }
+        ensures synced { (disk : _) → disk_of self.old ≡ Some disk → (result ≡ Answer.Done ↔ ((now_of disk).pending ≡ [])) × ((result ≡ Answer.Done) ⊎ (result ≡ Answer.Unsynced)) }
     {
         let forgotten = match self {
             State::Image(_) => return Answer::NotNow,
@@ -216,7 +249,9 @@ impl State {
     }
 
     /// Figure `i` of the open heap.
-    pub fn figure(&self, i: u64) -> u64 {
+    pub fn figure(&self, i: u64) -> u64
+        ensures { IsFigureOf ⟦<MemoryDisk as Disk>⟧ self.now i result }
+    {
         match self {
             State::Open(heap) => figure(heap.core(), i),
             _ => 0,
@@ -224,17 +259,10 @@ impl State {
     }
 }
 
-/// Whether memory sufficed.
-fn done(made: Result<(), AllocError>) -> Answer {
-    match made {
-        Ok(()) => Answer::Done,
-        Err(_) => Answer::NoMemory,
-    }
-}
-
 /// The numbers of a heap, if they are within their limits.
 fn read_numbers(pages: u64, log_bytes: u64, first: u64) -> Option<Super>
-    ensures { IfSome result IsSuper }
+    ensures within { IfSome result (λ of. (of ≡ heap_of pages log_bytes first) × IsSuper of) }
+    ensures past { IsSuper (heap_of pages log_bytes first) → IsSome result }
 {
     let of = Super {
         pages: u32::try_from(pages).ok()?,
@@ -250,7 +278,9 @@ fn read_numbers(pages: u64, log_bytes: u64, first: u64) -> Option<Super>
 
 /// The figures of an open heap, by their numbers: the entries of its history, the commits since it was made, whether records are pending, at which
 /// entry it failed, and how many sessions have a transaction.
-fn figure(core: &HeapCore, i: u64) -> u64 {
+fn figure(core: &HeapCore, i: u64) -> u64
+    ensures { (c : Core) → IsCoreInMemory c core.now → IsFigure c i result }
+{
     match i {
         0 => core.history().len() as u64,
         1 => core.commits(),
@@ -262,7 +292,9 @@ fn figure(core: &HeapCore, i: u64) -> u64 {
 }
 
 /// How many sessions have a transaction.
-fn active(core: &HeapCore) -> u64 {
+fn active(core: &HeapCore) -> u64
+    ensures { (c : Core) → IsCoreInMemory c core.now → result ≡ active_upto c 32 }
+{
     let mut count: u64 = 0;
     for s in FIRST_SESSION..=LAST_SESSION {
         count = count.saturating_add(u64::from(core.active(s)));

@@ -170,9 +170,9 @@ module _ {D : Type 0} (moment : D → ℕ) (left_since : D → ℕ → List ℕ 
         weaker moment left_since old new _ (IsLogLeft stored image) (joined moment left_since old mid new _ _ first second)
         (λ c. ⊎_elim (λ left. subst (IsLogLeft stored image) (sym (only c left)) (left_same stored read.state image readable))
         (λ found. ⊎_elim
-            (λ holds. (stored, inl refl, log_with stored stored.batches image c here (outside c found.0) (in_log stored read is (λ n m. HoldsBatches (part c n m) stored.batches) holds) here.good, outside c found.0))
-            (λ holds. (rolled_back stored, inr refl, log_with stored (rolled_back stored).batches image c here (outside c found.0) (rolled_held stored read is c holds) spelled, outside c found.0))
-            found.1))
+        (λ holds. (stored, inl refl, log_with stored stored.batches image c here (outside c found.0) (in_log stored read is (λ n m. HoldsBatches (part c n m) stored.batches) holds) here.good, outside c found.0))
+        (λ holds. (rolled_back stored, inr refl, log_with stored (rolled_back stored).batches image c here (outside c found.0) (rolled_held stored read is c holds) spelled, outside c found.0))
+        found.1))
 
   -- So it leaves of an image whose log can be read,
   module _ (stored : StoredHeap) (state : State) (image : List ℕ) (readable : IsReadable stored state image) (old new : D) (run : LeavesOnly moment left_since old new (IsLogLeft stored image)) where
