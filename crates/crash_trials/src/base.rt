@@ -3,7 +3,7 @@ use crate::difference::Difference;
 use disk_model::{MemoryDisk, Pick};
 use graph_model::{Entry, Event, Refusal, Reply};
 use heap_core::Heap;
-use image_plan::Plan;
+use image_plan::Super;
 use script_text::{Line, ScriptError, read_script};
 use slow_heap::SlowHeap;
 use std::alloc::{AllocError, Global};
@@ -109,8 +109,15 @@ fn events_in(alloc: Global, lines: &[Line]) -> Result<Vec<Event>, AllocError> {
 
 /// The image of an empty heap.
 fn image_of(alloc: Global, settings: Settings) -> Result<Vec<u8>, TrialError> {
-    let plan = Plan::of(settings.pages, settings.log_bytes);
-    let size = usize::try_from(plan.size()).map_err(|_| TrialError::Settings)?;
+    let of = Super {
+        pages: settings.pages,
+        log_bytes: settings.log_bytes,
+        first: 1,
+    };
+    if !of.is_within_limits() {
+        return Err(TrialError::Settings);
+    }
+    let size = usize::try_from(of.plan().size()).map_err(|_| TrialError::Settings)?;
     let zeros = vec![in alloc; 0u8; size]?;
     let none = Vec::new(alloc);
     let room = RECORD_BYTES.saturating_add(size.saturating_mul(2));
