@@ -12,18 +12,11 @@
 #include <sys/socket.h>
 #include <sys/stat.h>
 #include <sys/wait.h>
-#include <time.h>
 #include <unistd.h>
 
-enum { SESSIONS = 32, HANDLES = 64, LINE = 128, MOST_WORDS = 32 };
+#include "heap_runs.h"
 
-struct sh_transaction {
-    sh_heap *heap;
-    bool active;
-    uint64_t number;
-    bool taken[HANDLES];
-    sh_error refusal;
-};
+enum { LINE = 128, MOST_WORDS = 32 };
 
 struct sh_heap {
     pid_t child;
@@ -55,11 +48,12 @@ static const struct {
     {"failed", SH_DISK_FAULT},
 };
 
-static sh_result fail(sh_error *error, sh_result result, const char *text) {
-    memset(error, 0, sizeof *error);
-    error->result = result;
-    snprintf(error->text, sizeof error->text, "%s", text);
-    return result;
+static sh_error error_of(sh_heap *heap) {
+    return heap->error;
+}
+
+static void set_error(sh_heap *heap, const sh_error *error) {
+    heap->error = *error;
 }
 
 /* ---- the process */
@@ -517,34 +511,5 @@ sh_result sh_drop(sh_transaction *transaction, sh_object object) {
     char reply[LINE];
     sh_result result = ask_in(transaction, reply, "drop %d", object.handle);
     if (result == SH_OK) transaction->taken[object.handle] = false;
-    return result;
-}
-
-/* ---- work that is tried again */
-
-static void pause_after(int attempt) {
-    long most = 1000000L << (attempt < 8 ? attempt : 8);
-    struct timespec pause = {0, rand() % most};
-    nanosleep(&pause, NULL);
-}
-
-static sh_result run_once(sh_heap *heap, sh_work work, void *context, bool durable) {
-    sh_transaction *transaction;
-    sh_result result = sh_begin(heap, &transaction);
-    if (result != SH_OK) return result;
-    result = work(transaction, context);
-    if (result == SH_OK) return sh_commit(transaction, durable);
-    sh_error error = heap->error;
-    sh_abort(transaction);
-    heap->error = error;
-    return result;
-}
-
-sh_result sh_run(sh_heap *heap, sh_work work, void *context, bool durable, int attempts) {
-    sh_result result = SH_BUSY;
-    for (int attempt = 0; attempt < attempts && result == SH_BUSY; attempt++) {
-        if (attempt > 0) pause_after(attempt);
-        result = run_once(heap, work, context, durable);
-    }
     return result;
 }

@@ -13,23 +13,16 @@
 #include <string.h>
 #include <sys/file.h>
 #include <sys/stat.h>
-#include <time.h>
 #include <unistd.h>
 
-enum { SESSIONS = 32, HANDLES = 64, PIECE = 65536, SUPER = 64 };
+#include "heap_runs.h"
+
+enum { PIECE = 65536, SUPER = 64 };
 
 /* After so many events the heap is opened again, which frees what its history takes. */
 #ifndef MOST_EVENTS
 #define MOST_EVENTS UINT64_C(2000000)
 #endif
-
-struct sh_transaction {
-    sh_heap *heap;
-    bool active;
-    uint64_t number;
-    bool taken[HANDLES];
-    sh_error refusal;
-};
 
 struct sh_heap {
     void *room;      /* where the heap lies */
@@ -62,13 +55,6 @@ static const struct {
     {"diskfault", SH_DISK_FAULT},
     {"stopped", SH_DISK_FAULT},
 };
-
-static sh_result fail(sh_error *error, sh_result result, const char *text) {
-    memset(error, 0, sizeof *error);
-    error->result = result;
-    snprintf(error->text, sizeof error->text, "%s", text);
-    return result;
-}
 
 static uint64_t call(sh_heap *heap, uint64_t op, uint64_t a, uint64_t b, uint64_t c) {
     return heap_c_call(heap->room, op, 0, a, b, c);
@@ -694,34 +680,5 @@ sh_result sh_drop(sh_transaction *transaction, sh_object object) {
     sh_reply reply;
     sh_result result = ask_in(transaction, &reply, SH_EVENT_DROP, held(object), 0, 0);
     if (result == SH_OK) transaction->taken[object.handle] = false;
-    return result;
-}
-
-/* ---- work that is tried again */
-
-static void pause_after(int attempt) {
-    long most = 1000000L << (attempt < 8 ? attempt : 8);
-    struct timespec pause = {0, rand() % most};
-    nanosleep(&pause, NULL);
-}
-
-static sh_result run_once(sh_heap *heap, sh_work work, void *context, bool durable) {
-    sh_transaction *transaction;
-    sh_result result = sh_begin(heap, &transaction);
-    if (result != SH_OK) return result;
-    result = work(transaction, context);
-    if (result == SH_OK) return sh_commit(transaction, durable);
-    sh_error error = error_of(heap);
-    sh_abort(transaction);
-    set_error(heap, &error);
-    return result;
-}
-
-sh_result sh_run(sh_heap *heap, sh_work work, void *context, bool durable, int attempts) {
-    sh_result result = SH_BUSY;
-    for (int attempt = 0; attempt < attempts && result == SH_BUSY; attempt++) {
-        if (attempt > 0) pause_after(attempt);
-        result = run_once(heap, work, context, durable);
-    }
     return result;
 }
