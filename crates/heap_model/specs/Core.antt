@@ -20,7 +20,7 @@ use Rattle.log_records.specs.declared.Record.TheVariants.{Update}
 use Rattle.log_records.specs.Record.{spellings}
 use Rattle.log_machine.specs.declared.UndoEntry.{UndoEntry}
 use Rattle.log_machine.specs.Machine.{State, space_words, owed, put_record, undo_of, undo_bytes, abort_records}
-use Rattle.log_machine.specs.Origin.{Origin, heap_origin, next_lsn, state_from, commits_in}
+use Rattle.page_redo.specs.Origin.{Origin, heap_origin, next_lsn, state_from, commits_in}
 use Rattle.page_redo.specs.Pages.{pages_in}
 use Rattle.page_redo.specs.Redo.{last_lsn}
 use Rattle.gated_log.specs.Log.{records_of, batches_bytes, pending_batch}

@@ -4,7 +4,7 @@ use Rattle.graph_model.specs.Graph.{Graph}
 use Rattle.log_records.specs.declared.Record.{Record}
 use Rattle.gated_log.specs.Log.{with_batch}
 use Rattle.log_machine.specs.Machine.{State, put_record, number_of, next_with, rollback}
-use Rattle.log_machine.specs.Origin.{commits_in}
+use Rattle.page_redo.specs.Origin.{commits_in}
 use Rattle.page_redo.specs.Pages.{lsn_of}
 use Rattle.graph_words.specs.Places.{Places, AreOld}
 use Rattle.collection_words.specs.Completed.{in_other_space}

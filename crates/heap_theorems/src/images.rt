@@ -16,12 +16,12 @@ ghost use Rattle.image_laws.specs.Kinds.{AreBytes, IsOfOneKind};
 ghost use Rattle.image_plan.specs.Super.{IsSuper, superblock};
 ghost use Rattle.image_plan.specs.declared.superblock.Super.{Super};
 ghost use Rattle.log_machine.specs.Machine.{State, commits, spaces_of};
-ghost use Rattle.log_machine.specs.Origin.{Origin, state_from, words_from, commits_in};
 ghost use Rattle.log_records.specs.Record.{IsRecord, spellings};
 ghost use Rattle.log_records.specs.declared.Record.{Record};
+ghost use Rattle.page_redo.specs.Origin.{Origin, state_from, commits_in};
 ghost use Rattle.page_redo.specs.Pages.{Pages};
 ghost use Rattle.page_redo.specs.Prefix.{HasAllWords, EachHoldsPrefix};
-ghost use Rattle.page_redo.specs.Redo.{redone};
+ghost use Rattle.page_redo.specs.Redo.{redone, words_from};
 
 /// A superblock spells the numbers of one heap.
 pub fn one_superblock()
