@@ -151,7 +151,7 @@ words_from-new o records lacking = redo_all-words o.lsn o.pages records lacking
 pub first_lsns : (pages p : ℕ) → lsn_of (first_pages pages) p ≡ 0
 first_lsns pages p = elim (cases_lt p (pages_in pages)) [
   | inl lt ↦ get_or-replicate (pages_in pages) p 0 0 lt
-  | inr past ↦ get_or_past (first_pages pages).lsns p 0 (omega (arith, length-replicate (pages_in pages) 0))
+  | inr past ↦ get_or_past (first_pages pages).lsns p 0 (omega (arith, length-replicate {A = ℕ} (pages_in pages) 0))
 ]
 
 pub first_pages-lack : (pages lsn : ℕ) → 1 ≤ lsn → EachLacks lsn (first_pages pages)

@@ -68,7 +68,7 @@ module _ (o : Origin) (whole : HasAllWords o) (records : List Record) where
     put_high : (p a : ℕ) → page_of a ≡ p → lsn ≤ lsn_of o.pages p → word_at a (n + 1) ≡ word_at a n
     put_high p a there high =
         let has : lsn ≤ lsn_of (pages_after n) p = omega (arith, lsn-rises_any o.lsn o.pages (take n records) p, high) in
-        ap (λ (ps : Pages). get_or ps.words a 0) next ∙ put_left (lacks (pages_after n) lsn) p a there (le-ltb lsn (lsn_of (pages_after n) p) has) (effect (words_after n) r) (words_after n)
+        ap (λ (ps : Pages). get_or ps.words a 0) next ∙ put_left (lacks (pages_after n) lsn) p a there (le-ltb (lsn_of (pages_after n) p) lsn has) (effect (words_after n) r) (words_after n)
 
     -- a record that does not touch a page leaves it
     put_apart : (p a : ℕ) → page_of a ≡ p → touches r p ≡ false → word_at a (n + 1) ≡ word_at a n
