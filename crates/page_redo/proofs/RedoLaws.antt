@@ -168,4 +168,3 @@ EachLacks-prefixes o records at some is p = elim (cases_lt p (length at.lsns)) [
   | inl lt ↦ omega (arith, (is.each p (omega (arith, is.lsns_size))).reached)
   | inr past ↦ omega (arith, get_or_past at.lsns p 0 past)
 ]
-

@@ -152,6 +152,6 @@ redone_to_end o whole done [] all n lsn at place joined so_far is =
 redone_to_end o whole done (r ∷ rest) all n lsn at place joined so_far is =
     let more : n + 1 ≤ length all = omega (arith, ap (λ (l : List Record). length l) joined, length-append done (r ∷ rest)) in
     let next : redo_all o.lsn o.pages (take (n + 1) all) ≡ redo_record lsn (redo_all o.lsn o.pages (take n all)) r =
-        pages_next_of o done r rest all n joined so_far ∙ ap (λ (k : ℕ). redo_record k (redo_all o.lsn o.pages (take n all)) r) (sym place) in
+    pages_next_of o done r rest all n joined so_far ∙ ap (λ (k : ℕ). redo_record k (redo_all o.lsn o.pages (take n all)) r) (sym place) in
     let one : length (done ++ r ∷ []) ≡ n + 1 = omega (arith, length-append done (r ∷ [])) in
     redone_to_end o whole (done ++ r ∷ []) rest all (n + 1) (lsn + 1) (redo_record lsn at r) (omega (arith, place)) (append_assoc done (r ∷ []) rest ∙ joined) one (step o whole all n lsn r at place next more is)
