@@ -44,7 +44,7 @@ next_of stored = next_in (state_in stored)
 abbrev pub commits_of : StoredHeap → ℕ
 commits_of stored = commits_in (state_in stored)
 
--- the greater of a heap's first number and one more than the greatest among these records
+-- the greater of a first number and one more than the greatest among these records
 abbrev pub next_behind : ℕ → List Record → ℕ
 next_behind first records = fold (λ n rec. next_with n (number_of rec)) first records
 
