@@ -72,6 +72,7 @@ opened stored gates born places g =
       born = born;
       before = commits_of stored;
       history = [];
+      truncated = [];
       batches = (rolled_back stored).batches;
       words = rolled_words stored;
       pending = [];
