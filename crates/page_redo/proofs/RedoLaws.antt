@@ -5,7 +5,7 @@ use Rattle.std.specs.List.{filter}
 use Rattle.std.proofs.lemmas.Bool.{cases_Bool, cases_lt, lt-ltb, cond-true, cond-false}
 use Rattle.std.proofs.lemmas.List.{get_or_past, get_or-replicate, length-replicate, take_more, length-take-le}
 use Rattle.log_records.specs.declared.Record.{Record}
-use Rattle.log_machine.specs.Machine.{effect, put_all, put_record}
+use Rattle.log_machine.specs.Machine.{effect, first_contents, put_all, put_record}
 use Rattle.page_redo.specs.Origin.{Origin, heap_origin, next_lsn}
 use Rattle.log_machine.proofs.WordsLaws.{length-put_all}
 use Rattle.page_redo.specs.Pages.{Pages, pages_in, page_of, lsn_of, first_pages, touched, touches}
@@ -157,7 +157,11 @@ first_lsns pages p = elim (cases_lt p (pages_in pages)) [
 pub first_pages-lack : (pages lsn : ℕ) → 1 ≤ lsn → EachLacks lsn (first_pages pages)
 first_pages-lack pages lsn some p = omega (arith, first_lsns pages p)
 
--- so the words of a new heap's log continue with more records
+-- so the words that records leave of a new heap are those with the effect of each, one after the other
+pub heap_words : (pages first : ℕ) (records : List Record) → words_from (heap_origin pages first) records ≡ fold put_record (first_contents pages) records
+heap_words pages first records = words_from-new (heap_origin pages first) records (first_pages-lack pages (heap_origin pages first).lsn (omega arith))
+
+-- and they continue with more records
 pub heap_words-append : (pages first : ℕ) (records more : List Record) → words_from (heap_origin pages first) (records ++ more) ≡ fold put_record (words_from (heap_origin pages first) records) more
 heap_words-append pages first records more =
     words_from-append (heap_origin pages first) records more (first_pages-lack pages (next_lsn (heap_origin pages first) records) (omega arith))
