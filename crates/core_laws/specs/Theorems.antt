@@ -34,7 +34,7 @@ use Rattle.page_redo.specs.Prefix.{EachHoldsPrefix}
 use Rattle.commit_order.specs.Heard.{replies_of_commits}
 use Rattle.heap_model.specs.Core.{Core, log_origin, commits_on_disk, words_refusal, log_refusal, answer, IsRun}
 use Rattle.heap_model.specs.CoreCrash.{HasLogWords, IsOnDisk, IsSuperOf, IsCommitPrefix, StandsForFirst}
-use Rattle.heap_model.specs.Image.{StoredHeap, IsShapedLog, IsLegal, Holds, records_in}
+use Rattle.heap_model.specs.Image.{StoredHeap, IsShapedLog, IsLegal, Holds, origin_of, records_in}
 use Rattle.heap_model.specs.Opening.{next_behind, opened, IsFound}
 use Rattle.graph_words.specs.Places.{Places}
 use Rattle.core_laws.specs.Valid.{IsReached, IsSound}
@@ -72,7 +72,7 @@ RepliesTheorem = (c : Core) → IsReached c → replies_of_commits c.history ≡
 -- stands at these places.
 pub record Opens (stored : StoredHeap) (gates : ℕ → ℕ) (born : Bool) (places : Places) (g : Graph) : Type 0 where
   pub reached : IsReached (opened stored gates born places g)
-  pub next : (opened stored gates born places g).first ≡ next_behind stored.super.first (records_in stored)  -- the number of the next transaction
+  pub next : (opened stored gates born places g).first ≡ next_behind (origin_of stored).state.next (records_in stored)  -- the number of the next transaction
 
 -- A heap that is opened on any shaped log continues, under any names of its objects and with any gates open.
 abbrev pub OpeningTheorem : Type 0

@@ -16,7 +16,7 @@ use Rattle.log_records.specs.declared.Record.{Record}
 use Rattle.log_machine.specs.Machine.{State}
 use Rattle.log_machine.proofs.ListLaws.{AllByRecursion-append}
 use Rattle.heap_model.specs.Collecting.{copied_in, next_page, scan_reply, scan_reply_in, words_copied}
-use Rattle.heap_model.specs.Core.{Core, IsRun, IsStep, after, after_refusal, all_records, answer, core_refusal, event_records, granted_by, ground, own_records}
+use Rattle.heap_model.specs.Core.{Core, IsRun, IsStep, after, after_refusal, every_record, answer, core_refusal, event_records, granted_by, ground, own_records}
 use Rattle.heap_model.proofs.Run.Calls.{after_history}
 use Rattle.core_laws.specs.Valid.{IsReached}
 use Rattle.core_laws.specs.Unseen.{since}
@@ -24,22 +24,22 @@ use Rattle.core_laws.proofs.Collecting.Few.{pause_law}
 use Rattle.limit_laws.specs.Progress.{BeganNone, BeginsNone}
 use Rattle.limit_laws.proofs.Copies.Exact.{exact_law}
 use Rattle.limit_laws.proofs.Copies.Garbage.{no_garbage_law}
-use Rattle.limit_laws.proofs.Events.Appended.{all_done}
+use Rattle.limit_laws.proofs.Events.Appended.{every_done}
 use Rattle.limit_laws.proofs.Runs.{run_entries, run_history, since_run}
 use Rattle.heap_core.specs.Collects.{CollectsAsTold, ScansAsTold}
 
 -- What an event appends.
 
 abbrev added : (d : Core) → Event → Option Refusal → List Record
-added d event o = drop (length (all_records d)) (all_records (after_refusal o d event))
+added d event o = drop (length (every_record d)) (every_record (after_refusal o d event))
 
 -- one that is granted appends its records
 added_granted : (d : Core) (event : Event) → added d event None ≡ event_records d event
-added_granted d event = ap (drop (length (all_records d))) (all_done d event) ∙ drop-append_seam (all_records d) (event_records d event)
+added_granted d event = ap (drop (length (every_record d))) (every_done d event) ∙ drop-append_seam (every_record d) (event_records d event)
 
 -- and one that is refused or cut short none
-pub none_added : (d : Core) → drop (length (all_records d)) (all_records d) ≡ []
-none_added d = drop_all (length (all_records d)) (all_records d) (omega arith)
+pub none_added : (d : Core) → drop (length (every_record d)) (every_record d) ≡ []
+none_added d = drop_all (length (every_record d)) (every_record d) (omega arith)
 
 few_of : (d : Core) (event : Event) (o : Option Refusal) → length (copied_in (event_records d event)) ≤ 576 → length (copied_in (added d event o)) ≤ 576
 few_of d event None most = subst (λ (l : List Record). length (copied_in l) ≤ 576) (sym (added_granted d event)) most

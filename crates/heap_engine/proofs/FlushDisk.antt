@@ -7,7 +7,7 @@ use Rattle.gated_log.specs.Log.{records_of, HoldsBatches}
 use Rattle.image_plan.specs.declared.superblock.Super.{Super}
 use Rattle.image_plan.specs.Plan.{log_offset}
 use Rattle.log_records.specs.declared.Record.{Record}
-use Rattle.log_machine.specs.Origin.{Origin, heap_origin, next_lsn}
+use Rattle.page_redo.specs.Origin.{Origin, heap_origin, next_lsn}
 use Rattle.log_machine.proofs.WordsLaws.{length-first_contents}
 use Rattle.page_cache.specs.Stored.{stored_pages}
 use Rattle.page_cache.proofs.StoredLaws.{EachHoldsPrefix-storing, flushed_stored}

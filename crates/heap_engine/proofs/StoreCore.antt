@@ -23,7 +23,7 @@ use Rattle.page_redo.specs.Pages.{pages_in, page_words}
 use Rattle.page_redo.specs.Prefix.{EachHoldsPrefix}
 use Rattle.page_store.specs.declared.frame.Stored.{Stored}
 use Rattle.page_store.specs.Gates.{open_gates}
-use Rattle.log_machine.specs.Origin.{Origin, next_lsn}
+use Rattle.page_redo.specs.Origin.{Origin, next_lsn}
 use Rattle.page_store.specs.Page.{HasPage, SamePage, SameButPage, IsStoring}
 use Rattle.page_store.specs.StoreState.{store_plan, stored_entry, stored_lsn, has_failed, Knows}
 use Rattle.heap_memory.specs.Memory.{Memory}

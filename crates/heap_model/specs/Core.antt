@@ -20,7 +20,7 @@ use Rattle.log_records.specs.declared.Record.TheVariants.{Update}
 use Rattle.log_records.specs.Record.{spellings}
 use Rattle.log_machine.specs.declared.UndoEntry.{UndoEntry}
 use Rattle.log_machine.specs.Machine.{State, space_words, owed, put_record, undo_of, undo_bytes, abort_records}
-use Rattle.log_machine.specs.Origin.{Origin, heap_origin, next_lsn, state_from, commits_in}
+use Rattle.page_redo.specs.Origin.{Origin, heap_origin, next_lsn, state_from, commits_in}
 use Rattle.page_redo.specs.Pages.{pages_in}
 use Rattle.page_redo.specs.Redo.{last_lsn}
 use Rattle.gated_log.specs.Log.{records_of, batches_bytes, pending_batch}
@@ -45,6 +45,7 @@ pub record Core : Type 0 where
   pub born : Bool  -- whether its objects are named by their births
   pub before : ℕ  -- how many transactions were committed at the opening
   pub history : List Entry  -- the events since then and their replies
+  pub truncated : List Record  -- the records that the log has had since then in front of where it begins
   pub batches : List (List Record)  -- the log's batches on the disk
   pub words : List ℕ  -- the words of both spaces after these
   pub pending : List Record  -- the pending records after them
@@ -60,6 +61,10 @@ next_number c = c.first + (account c.history).begun
 -- the records on the disk and the pending ones
 abbrev pub all_records : Core → List Record
 all_records c = records_of c.batches ++ c.pending
+
+-- these, and before them those that were in the log since the opening and are truncated
+abbrev pub every_record : Core → List Record
+every_record c = c.truncated ++ all_records c
 
 -- the words after all of them
 abbrev pub all_words : Core → List ℕ

@@ -6,9 +6,9 @@ use Rattle.image_plan.specs.declared.superblock.Super.{Super}
 use Rattle.image_plan.specs.Super.{IsSuper}
 use Rattle.log_records.specs.declared.Record.{Record}
 use Rattle.gated_log.specs.Log.{records_of}
-use Rattle.log_machine.specs.Origin.{words_from}
 use Rattle.page_redo.specs.Pages.{Pages, pages_in, lsn_of}
 use Rattle.page_redo.specs.Prefix.{EachHoldsPrefix}
+use Rattle.page_redo.specs.Redo.{words_from}
 use Rattle.heap_model.specs.Core.{Core, log_origin, commits_on_disk, stages}
 use Rattle.heap_model.specs.Image.{StoredHeap, StandsFor}
 use Rattle.heap_model.specs.Opening.{next_of}

@@ -10,7 +10,7 @@ use Rattle.image_plan.specs.Plan.{log_offset, image_size}
 use Rattle.image_plan.specs.Super.{IsSuper, superblock}
 use Rattle.log_records.specs.Record.{IsRecord}
 use Rattle.log_machine.specs.Machine.{State, words_in, each_taken_back, losing_in, reserve}
-use Rattle.log_machine.specs.Origin.{Origin, heap_origin, next_lsn, state_from}
+use Rattle.page_redo.specs.Origin.{Origin, heap_origin, next_lsn, state_from}
 use Rattle.page_redo.specs.Pages.{Pages, pages_in}
 use Rattle.page_redo.specs.Redo.{EachLacks, redone}
 use Rattle.page_redo.specs.Prefix.{EachHoldsPrefix}

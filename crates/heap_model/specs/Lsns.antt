@@ -2,7 +2,7 @@
 use Rattle.std.specs.Prelude.{ℕ, ◌+◌}
 use Rattle.gated_log.specs.declared.log.Log.{Log}
 use Rattle.gated_log.specs.LogState.{log_count}
-use Rattle.log_machine.specs.Origin.{first_lsn}
+use Rattle.page_redo.specs.Origin.{first_lsn}
 
 -- the LSN of the record that is appended next
 abbrev pub log_next_lsn : Log → ℕ

@@ -4,7 +4,7 @@ use Rattle.graph_model.specs.Graph.{Graph}
 use Rattle.log_records.specs.declared.Record.{Record}
 use Rattle.gated_log.specs.Log.{with_batch}
 use Rattle.log_machine.specs.Machine.{State, put_record, number_of, next_with, rollback}
-use Rattle.log_machine.specs.Origin.{commits_in}
+use Rattle.page_redo.specs.Origin.{commits_in}
 use Rattle.page_redo.specs.Pages.{lsn_of}
 use Rattle.graph_words.specs.Places.{Places, AreOld}
 use Rattle.collection_words.specs.Completed.{in_other_space}
@@ -44,7 +44,7 @@ next_of stored = next_in (state_in stored)
 abbrev pub commits_of : StoredHeap → ℕ
 commits_of stored = commits_in (state_in stored)
 
--- the greater of a heap's first number and one more than the greatest among these records
+-- the greater of a first number and one more than the greatest among these records
 abbrev pub next_behind : ℕ → List Record → ℕ
 next_behind first records = fold (λ n rec. next_with n (number_of rec)) first records
 
@@ -72,6 +72,7 @@ opened stored gates born places g =
       born = born;
       before = commits_of stored;
       history = [];
+      truncated = [];
       batches = (rolled_back stored).batches;
       words = rolled_words stored;
       pending = [];

@@ -21,14 +21,14 @@ use Rattle.log_records.specs.declared.Record.TheVariants as record_of
 use Rattle.log_machine.specs.Machine.{State}
 use Rattle.log_machine.proofs.ListLaws.{AllByRecursion-append}
 use Rattle.heap_model.specs.Collecting.{flip_records, flip_records_in, flip_reply, next_page, scan_reply, scan_reply_in}
-use Rattle.heap_model.specs.Core.{Core, Ground, IsRun, IsStep, after, after_refusal, all_records, all_words, answer, calls_if, core_refusal, event_records, granted_by, ground, log_refusal, own_records, room_refusal, roots, words_refusal}
+use Rattle.heap_model.specs.Core.{Core, Ground, IsRun, IsStep, after, after_refusal, every_record, all_words, answer, calls_if, core_refusal, event_records, granted_by, ground, log_refusal, own_records, room_refusal, roots, words_refusal}
 use Rattle.core_laws.specs.Unseen.{since}
 use Rattle.core_laws.specs.Valid.{IsReached}
 use Rattle.limit_laws.specs.Bytes.{appended, begun_by, left_by, left_in}
 use Rattle.limit_laws.specs.Progress.{BeganNone, BeginsNone, IsCollecting, scanned_pages}
 use Rattle.limit_laws.proofs.Bytes.Runs.{bytes_law}
 use Rattle.limit_laws.proofs.Copies.Begun.{flip_begins}
-use Rattle.limit_laws.proofs.Events.Appended.{all_done}
+use Rattle.limit_laws.proofs.Events.Appended.{every_done}
 use Rattle.limit_laws.proofs.Events.Kinds.{IsNoFlip}
 use Rattle.limit_laws.proofs.Progress.Ends.{end_law}
 use Rattle.limit_laws.proofs.Progress.Scans.{no_flips}
@@ -48,11 +48,11 @@ none_begun (r ∷ rs) all = omega (arith, sum_by-cons begun_by r rs, no_flip_beg
 -- From c to d none of those was appended.
 record IsAlone (c d : Core) : Type 0 where
   more : List Record
-  all : all_records d ≡ all_records c ++ more
+  all : every_record d ≡ every_record c ++ more
   none : AllByRecursion IsNoFlip more
 
 nothing_more : (c : Core) → IsAlone c c
-nothing_more c = record { more = []; all = sym (append-nil (all_records c)); none = tt }
+nothing_more c = record { more = []; all = sym (append-nil (every_record c)); none = tt }
 
 -- a flip that is not answered `flipped` has no record
 flip_alone : (rs : List Record) → BeginsNone (flip_reply rs) → AllByRecursion IsNoFlip rs
@@ -61,8 +61,8 @@ flip_alone (r ∷ rs) none = absurd none
 
 event_alone : (c : Core) (event : Event) (o : Option Refusal) → BeginsNone (reply_of o (granted_by c event)) → IsAlone c (after_refusal o c event)
 event_alone c event (Some why) none = nothing_more c
-event_alone c Flip None none = record { more = event_records c Flip; all = all_done c Flip; none = flip_alone (own_records c Flip) none }
-event_alone c event None none = record { more = event_records c event; all = all_done c event; none = no_flips c event (λ never. cc never) }
+event_alone c Flip None none = record { more = event_records c Flip; all = every_done c Flip; none = flip_alone (own_records c Flip) none }
+event_alone c event None none = record { more = event_records c event; all = every_done c event; none = no_flips c event (λ never. cc never) }
 
 step_alone : (c d : Core) (event : Event) (answered : Reply) → IsStep c event answered d → BeginsNone answered → IsAlone c d
 step_alone c d event answered step none = ⊎_elim
@@ -73,7 +73,7 @@ step_alone c d event answered step none = ⊎_elim
 both_alone : (c m d : Core) → IsAlone c m → IsAlone m d → IsAlone c d
 both_alone c m d first second = record {
   more = first.more ++ second.more;
-  all = second.all ∙ ap (λ (rs : List Record). rs ++ second.more) first.all ∙ append_assoc (all_records c) first.more second.more;
+  all = second.all ∙ ap (λ (rs : List Record). rs ++ second.more) first.all ∙ append_assoc (every_record c) first.more second.more;
   none = AllByRecursion-append IsNoFlip first.more second.more first.none second.none;
 }
 
@@ -99,8 +99,8 @@ few_bytes c d events objects words reached flipped sessions run alone =
     let begun = flip_begins c objects words reached flipped in
     let on = all_alone f d events run (subst (AllByRecursion (λ (entry : Entry). BeginsNone entry.reply)) (since_run f d events run) alone) in
     let own = own_records c Flip in
-    let all : all_records d ≡ all_records c ++ (own ++ on.more) = on.all ∙ ap (λ (rs : List Record). rs ++ on.more) begun.all ∙ append_assoc (all_records c) own on.more in
-    let is : appended c d ≡ own ++ on.more = ap (drop (length (all_records c))) all ∙ drop-append_seam (all_records c) (own ++ on.more) in
+    let all : every_record d ≡ every_record c ++ (own ++ on.more) = on.all ∙ ap (λ (rs : List Record). rs ++ on.more) begun.all ∙ append_assoc (every_record c) own on.more in
+    let is : appended c d ≡ own ++ on.more = ap (drop (length (every_record c))) all ∙ drop-append_seam (every_record c) (own ++ on.more) in
     let left : left_in (ground c).state ≡ 0 = ap left_in begun.valid.told.reached ∙ ap left_by begun.none in
     let cost = bytes_law c d (Flip ∷ events) reached (tt, sessions) (answer c Flip, f, inl (refl, refl), run) in
     omega (arith, cost, left, ap (sum_by begun_by) is, sum_by-append begun_by own on.more, one_begun (ground c).state (all_words c) (roots (ground c) c.g0 (account c.history)), none_begun on.more on.none)

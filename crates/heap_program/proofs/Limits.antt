@@ -9,7 +9,7 @@ use Rattle.graph_model.specs.declared.reply.Reply.TheVariants as reply
 use Rattle.graph_model.specs.History.{account, IsOfSession}
 use Rattle.log_records.specs.declared.Record.{Record}
 use Rattle.heap_model.specs.Collecting.{copied_in, words_copied}
-use Rattle.heap_model.specs.Core.{Core, IsRun, all_records}
+use Rattle.heap_model.specs.Core.{Core, IsRun, every_record}
 use Rattle.heap_model.proofs.ListLaws.{AllByRecursion-behind}
 use Rattle.core_laws.proofs.Run.Calls.{of_session_front}
 use Rattle.core_laws.proofs.Run.Events.{run_reached}
@@ -54,7 +54,7 @@ each_is_a_step first last (e ∷ before) event behind run =
     )
 
 -- what a step that was cut short appends
-few_none : (c : Core) → length (copied_in (drop (length (all_records c)) (all_records c))) ≤ 576
+few_none : (c : Core) → length (copied_in (drop (length (every_record c)) (every_record c))) ≤ 576
 few_none c = subst (λ (l : List Record). length (copied_in l) ≤ 576) (sym (none_added c)) (omega arith)
 
 module _ (first : Core) (reached : IsReached first) (nothing : first.history ≡ []) (made : List Event) (sessions : AllByRecursion IsOfSession made) (last : Core) where

@@ -35,7 +35,7 @@ use Rattle.core_laws.proofs.Step.Sound.{reached_agrees}
 use Rattle.commit_order.specs.Heard.{replies_of_commits}
 use Rattle.heap_model.specs.CoreRuns.{after_events, total_calls}
 use Rattle.core_laws.specs.Valid.{IsReached}
-use Rattle.log_machine.specs.Origin.{commits_in}
+use Rattle.page_redo.specs.Origin.{commits_in}
 use Rattle.command_words.specs.declared.commands.Stop.{Stop}
 use Rattle.heap_program.specs.Headline.{lasting, graph_text, end_text, stop_after, let_through, HasMade, StopsLast, IsExact, StopsInPlace, IsEndOfPlay, IsOfDisk, MakesEvents, KeepsThroughout, IsFollowed, Reopens, StartsAgain, EndsUnopened, Prints, IsPlayed}
 use Rattle.heap_program.proofs.Playable.{IsPlayable}

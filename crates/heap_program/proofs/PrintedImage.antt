@@ -8,7 +8,7 @@ use Rattle.graph_model.specs.History.{sealed, commits, IsOfSession}
 use Rattle.graph_model.specs.Transaction.{Transaction, serial}
 use Rattle.gated_log.specs.Log.{records_of}
 use Rattle.log_records.specs.declared.Record.{Record}
-use Rattle.log_machine.specs.Origin.{commits_in}
+use Rattle.page_redo.specs.Origin.{commits_in}
 use Rattle.heap_model.specs.Core.{Core, commits_on_disk, state_behind, all_records}
 use Rattle.heap_model.specs.CoreCrash.{IsCommitPrefix}
 use Rattle.heap_model.specs.CoreRuns.{after_events}

@@ -16,7 +16,7 @@ use Rattle.graph_model.specs.declared.reply.Reply.TheVariants.{Begun, Sealed, Ab
 use Rattle.graph_model.specs.History.{Account, account, done, cut_short, answered, acknowledged, IsOfSession}
 use Rattle.graph_model.proofs.Runs.History.{account-append}
 use Rattle.log_machine.specs.Machine as machine
-use Rattle.log_machine.specs.Origin.{commits_in}
+use Rattle.page_redo.specs.Origin.{commits_in}
 use Rattle.log_machine.proofs.MachineLaws.{commits-append}
 use Rattle.log_machine.proofs.StateLaws.{commits-start}
 use Rattle.heap_model.specs.Core.{Core, barrier_records, moved, own_records, commits_on_disk, core_refusal, Transfer, Lands, Stores, made, noted, transfers, after_refusal, with_entry, cut, IsStep, IsRun}

@@ -16,7 +16,7 @@ use Rattle.log_machine.specs.Machine.{settled, State, after_all, losing_in, all_
 use Rattle.log_machine.specs.declared.UndoEntry.{UndoEntry}
 use Rattle.log_machine.proofs.MapLaws.{entries_empty}
 use Rattle.log_machine.proofs.MachineLaws.{after_all-append2}
-use Rattle.log_machine.specs.Origin.{Origin}
+use Rattle.page_redo.specs.Origin.{Origin}
 use Rattle.log_machine.specs.Replay.{IsFirstUnshaped}
 use Rattle.log_machine.proofs.ReplayLaws.{none_follow}
 use Rattle.log_machine.proofs.AbortLaws.{rollback_reaches, rollback_good}
@@ -88,20 +88,20 @@ take_front (suc a) (suc b) [] le = refl
 take_front (suc a) (suc b) (r ∷ rs) le = ap (λ (l : List Record). r ∷ l) (take_front a b rs (omega arith))
 
 -- a record after the first that can't follow is not the first
-never_later : (o : Origin) (rs : List Record) (a b : ℕ) → a < b → IsFirstUnshaped o rs a → IsFirstUnshaped o rs b → ⊥
+never_later : (o : Origin) (rs : List Record) (a b : ℕ) → a < b → IsFirstUnshaped o.lsn o.state rs a → IsFirstUnshaped o.lsn o.state rs b → ⊥
 never_later o rs a b less first other =
     let Stuck : List Record → Type 0 = λ l. after_all o.state l ≡ None in
     let Goes : List Record → Type 0 = λ l. is_some (after_all o.state l) ≡ true in
-    let front : IsFirstUnshaped o (take (b - o.lsn) rs) a = record {
+    let front : IsFirstUnshaped o.lsn o.state (take (b - o.lsn) rs) a = record {
       before = subst Goes (sym (take_front (a - o.lsn) (b - o.lsn) rs (omega (arith, less)))) first.before;
       stuck = subst Stuck (sym (take_front (a + 1 - o.lsn) (b - o.lsn) rs (omega (arith, less)))) first.stuck;
     } in
-    let none = none_follow o (take (b - o.lsn) rs) a front in
+    let none = none_follow o.lsn o.state (take (b - o.lsn) rs) a front in
     let never = sym (ap is_some none) ∙ other.before in
     cc never
 
 -- one record is the first that can't follow
-pub one_unshaped : (o : Origin) (rs : List Record) (a b : ℕ) → IsFirstUnshaped o rs a → IsFirstUnshaped o rs b → a ≡ b
+pub one_unshaped : (o : Origin) (rs : List Record) (a b : ℕ) → IsFirstUnshaped o.lsn o.state rs a → IsFirstUnshaped o.lsn o.state rs b → a ≡ b
 one_unshaped o rs a b first other = elim (cases_order a b) [
   | inl same ↦ same
   | inr (inl less) ↦ absurd (never_later o rs a b less first other)
@@ -118,7 +118,7 @@ one_state stored other m n image mine its =
 -- where all records follow one another none is reported
 pub replayed_unstuck : (stored : StoredHeap) (state : State) (image : List ℕ) (lsn : ℕ) → IsReplayed stored state image → IsFaultAt (Rec lsn) image → ⊥
 replayed_unstuck stored state image lsn replayed (other, log, first) =
-    let stuck = none_follow (origin_of other) (records_in other) lsn first in
+    let stuck = none_follow (origin_of other).lsn (origin_of other).state (records_in other) lsn first in
     let reached = as_held (λ (x : StoredHeap). state_in x ≡ Some state) other stored image log replayed.log replayed.reached in
     let never : None ≡ Some state = sym stuck ∙ reached in
     cc never
@@ -228,7 +228,7 @@ one_fault image (Batch a) (Page b) fault (stored, m, roomy, first) = absurd (log
 one_fault image (Batch a) (Address b) fault (stored, m, readable, walk) = absurd (log_unbroken stored image a readable.roomy.replayed.log fault)
 one_fault image (Rec a) (Batch b) (stored, log, first) other = absurd (log_unbroken stored image b log other)
 one_fault image (Rec a) (Rec b) (stored, log, first) (other, its, there) =
-    let mine = as_held (λ (x : StoredHeap). IsFirstUnshaped (origin_of x) (records_in x) b) stored other image log its there in
+    let mine = as_held (λ (x : StoredHeap). IsFirstUnshaped (origin_of x).lsn (origin_of x).state (records_in x) b) stored other image log its there in
     ap Rec (one_unshaped (origin_of stored) (records_in stored) a b first mine)
 one_fault image (Rec a) Reserve fault (stored, m, replayed, lack) = absurd (replayed_unstuck stored m image a replayed fault)
 one_fault image (Rec a) (Page b) fault (stored, m, roomy, first) = absurd (replayed_unstuck stored m image a roomy.replayed fault)

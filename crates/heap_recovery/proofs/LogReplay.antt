@@ -14,7 +14,7 @@ use Rattle.gated_log.specs.LogState.{log_place, log_room, log_used, log_count, K
 use Rattle.image_plan.specs.declared.superblock.Super.{Super}
 use Rattle.log_records.specs.declared.Record.{Record}
 use Rattle.log_machine.specs.Machine.{State, start, after, after_all, reserve}
-use Rattle.log_machine.specs.Origin.{heap_origin}
+use Rattle.page_redo.specs.Origin.{heap_origin}
 use Rattle.log_machine.proofs.MachineLaws.{after_all-append}
 use Rattle.log_machine.specs.Replay.{Bounds}
 use Rattle.log_machine.proofs.ReplayLaws.{bounds_on}

@@ -63,7 +63,7 @@ pub record IsReadable (stored : StoredHeap) (state : State) (image : List ℕ) :
 -- Where an image is damaged: what comes first in the order in which it is checked.
 abbrev pub IsFaultAt : At → List ℕ → Type 0
 IsFaultAt (Batch offset) image = (s : Super) × HasSuper s image × BreaksAt (log_part s image) offset
-IsFaultAt (Rec lsn) image = (stored : StoredHeap) × HoldsLog stored image × IsFirstUnshaped (origin_of stored) (records_in stored) lsn
+IsFaultAt (Rec lsn) image = (stored : StoredHeap) × HoldsLog stored image × IsFirstUnshaped (origin_of stored).lsn (origin_of stored).state (records_in stored) lsn
 IsFaultAt Reserve image = (stored : StoredHeap) × (state : State) × IsReplayed stored state image × (stored.super.log_bytes < length (batches_bytes stored.batches) + 1 + reserve state)
 IsFaultAt (Page page) image = (stored : StoredHeap) × (state : State) × HasRoom stored state image × IsFirstPast (next_lsn_of stored - 1) page stored.pages
 IsFaultAt (Address address) image = (stored : StoredHeap) × (state : State) × IsReadable stored state image × IsWalkFaultBeside (words_of stored) state.base state.used (from_space state) address

@@ -9,7 +9,7 @@ use Rattle.image_plan.specs.Super.{IsSuper}
 use Rattle.log_records.specs.declared.Record.{Record}
 use Rattle.log_records.specs.Record.{IsRecord}
 use Rattle.log_machine.specs.Machine.{words_in}
-use Rattle.log_machine.specs.Origin.{heap_origin, next_lsn, state_from}
+use Rattle.page_redo.specs.Origin.{heap_origin, next_lsn, state_from}
 use Rattle.log_machine.specs.Replay.{IsFirstUnshaped, Bounds}
 use Rattle.page_redo.specs.Pages.{Pages, pages_in, lsn_of}
 use Rattle.page_redo.specs.Redo.{redone}
@@ -31,7 +31,7 @@ pub record AllFollow (s : Super) (at : Pages) (records : List Record) (replay : 
 -- The record of this LSN is the first of them that can't follow.
 pub record OneStuck (s : Super) (records : List Record) (lsn : ℕ) : Type 0 where
   pub reached : lsn < next_lsn (heap_origin s.pages s.first) records
-  pub first : IsFirstUnshaped (heap_origin s.pages s.first) records lsn
+  pub first : IsFirstUnshaped (heap_origin s.pages s.first).lsn (heap_origin s.pages s.first).state records lsn
 
 -- These records of a heap with these numbers were replayed on pages that were stored so.
 pub record HasReplayed (s : Super) (at : Pages) (records : List Record) (replay : Replay) : Type 0 where

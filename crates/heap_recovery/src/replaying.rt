@@ -32,7 +32,7 @@ impl Replay {
     ghost use Rattle.image_plan.specs.Super.{IsSuper};
     ghost use Rattle.log_records.specs.declared.Record.{Record};
     ghost use Rattle.log_machine.specs.Machine.{reserve};
-    ghost use Rattle.log_machine.specs.Origin.{heap_origin, next_lsn};
+    ghost use Rattle.page_redo.specs.Origin.{heap_origin, next_lsn};
     ghost use Rattle.heap_model.specs.Image.{StoredHeap};
     ghost use Rattle.heap_model.specs.Lsns.{log_next_lsn};
     ghost use Rattle.page_redo.specs.Pages.{Pages, pages_in, lsn_of};

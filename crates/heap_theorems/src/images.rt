@@ -1,6 +1,6 @@
 //! What bytes and images mean: one thing, or one fault.
 ghost use Rattle.std.specs.List.{AllByRecursion};
-ghost use Rattle.std.specs.Prelude.{◌≡◌, List, length, ℕ, ◌+◌, ◌^◌, ◌<◌, Some, false};
+ghost use Rattle.std.specs.Prelude.{◌≡◌, List, length, fold, ℕ, ◌+◌, ◌^◌, ◌<◌, Some, false};
 ghost use Rattle.gated_log.specs.Log.{HoldsBatches, records_of, BreaksAt};
 ghost use Rattle.graph_model.specs.Graph.{Graph};
 ghost use Rattle.graph_words.specs.Places.{Places};
@@ -15,13 +15,13 @@ ghost use Rattle.heap_recovery.specs.declared.at.At.{At};
 ghost use Rattle.image_laws.specs.Kinds.{AreBytes, IsOfOneKind};
 ghost use Rattle.image_plan.specs.Super.{IsSuper, superblock};
 ghost use Rattle.image_plan.specs.declared.superblock.Super.{Super};
-ghost use Rattle.log_machine.specs.Machine.{State, commits, spaces_of};
-ghost use Rattle.log_machine.specs.Origin.{Origin, state_from, words_from, commits_in};
+ghost use Rattle.log_machine.specs.Machine.{State, commits, first_contents, put_record, spaces_of};
 ghost use Rattle.log_records.specs.Record.{IsRecord, spellings};
 ghost use Rattle.log_records.specs.declared.Record.{Record};
+ghost use Rattle.page_redo.specs.Origin.{Origin, heap_origin, state_from, commits_in};
 ghost use Rattle.page_redo.specs.Pages.{Pages};
 ghost use Rattle.page_redo.specs.Prefix.{HasAllWords, EachHoldsPrefix};
-ghost use Rattle.page_redo.specs.Redo.{redone};
+ghost use Rattle.page_redo.specs.Redo.{EachLacks, redone, words_from};
 
 /// A superblock spells the numbers of one heap.
 pub fn one_superblock()
@@ -66,6 +66,16 @@ pub fn no_fault_in_a_shaped_image()
 /// Redo of a log on stored pages, each of which holds its records up to its LSN, leaves the words of the whole log, wherever the log begins.
 pub fn redo_makes_pages_present()
     ensures { (o : Origin) → HasAllWords o → (records : List Record) (stored : Pages) → EachHoldsPrefix o records stored → (redone o stored records).words ≡ words_from o records }
+{}
+
+/// Where the pages in front of a log lack all of its records, the words that these leave are those with the effect of each, one after the other.
+pub fn words_of_a_log()
+    ensures { (o : Origin) (records : List Record) → EachLacks o.lsn o.pages → words_from o records ≡ fold put_record o.pages.words records }
+{}
+
+/// So they are in the log of a new heap.
+pub fn words_of_a_new_log()
+    ensures { (pages first : ℕ) (records : List Record) → words_from (heap_origin pages first) records ≡ fold put_record (first_contents pages) records }
 {}
 
 /// Redo of a log on stored pages, repeated, changes nothing.

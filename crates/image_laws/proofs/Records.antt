@@ -3,12 +3,12 @@ use Rattle.std.proofs.Common.{◌≡◌, ◌⊎◌, inl, inr, ℕ, zero, suc, �
 use Rattle.std.proofs.lemmas.List.{take_all}
 use Rattle.log_records.specs.declared.Record.{Record}
 use Rattle.log_machine.specs.Machine.{State, after_all}
-use Rattle.log_machine.specs.Origin.{Origin, state_from}
+use Rattle.page_redo.specs.Origin.{Origin, state_from}
 use Rattle.log_machine.specs.Replay.{IsFirstUnshaped}
 use Rattle.image_laws.proofs.Walk.{some_or_none}
 
 -- so do the first of them, or one of these is the first that can't
-front_or_stuck : (o : Origin) (records : List Record) (n : ℕ) → (is_some (after_all o.state (take n records)) ≡ true) ⊎ ((lsn : ℕ) × IsFirstUnshaped o records lsn)
+front_or_stuck : (o : Origin) (records : List Record) (n : ℕ) → (is_some (after_all o.state (take n records)) ≡ true) ⊎ ((lsn : ℕ) × IsFirstUnshaped o.lsn o.state records lsn)
 front_or_stuck o records zero = inl refl
 front_or_stuck o records (suc n) = elim (front_or_stuck o records n) [
   | inr found ↦ inr found
@@ -24,7 +24,7 @@ front_or_stuck o records (suc n) = elim (front_or_stuck o records n) [
 ]
 
 -- all of them, or one is the first that can't
-pub follow_or_stuck : (o : Origin) (records : List Record) → ((s : State) × (state_from o records ≡ Some s)) ⊎ ((lsn : ℕ) × IsFirstUnshaped o records lsn)
+pub follow_or_stuck : (o : Origin) (records : List Record) → ((s : State) × (state_from o records ≡ Some s)) ⊎ ((lsn : ℕ) × IsFirstUnshaped o.lsn o.state records lsn)
 follow_or_stuck o records = elim (front_or_stuck o records (length records)) [
   | inr found ↦ inr found
   | inl goes ↦ elim (some_or_none (state_from o records)) [

@@ -10,7 +10,7 @@ use Rattle.log_records.specs.declared.Record.TheVariants.{Scan, Flip}
 use Rattle.log_records.specs.Record.{spelling}
 use Rattle.log_records.specs.Copied.{copies_in, copied_size}
 use Rattle.log_machine.specs.Machine.{State, number_of}
-use Rattle.heap_model.specs.Core.{Core, IsRun, all_records, state_behind}
+use Rattle.heap_model.specs.Core.{Core, IsRun, all_records, every_record, state_behind}
 use Rattle.core_laws.specs.Valid.{IsReached}
 
 -- the bytes of a record of a collection, and none of a transaction's
@@ -33,7 +33,7 @@ begun_by rec = 0
 
 -- the records that were appended since a core was this one
 abbrev pub appended : Core → Core → List Record
-appended c d = drop (length (all_records c)) (all_records d)
+appended c d = drop (length (every_record c)) (every_record d)
 
 abbrev pub left_by : Option Collection → ℕ
 left_by None = 0

@@ -1,19 +1,18 @@
 -- Laws of the state and the words after a list of records: with more records after it, record by record, and what holds of
 -- every state that records reach.
 use Rattle.std.proofs.Common.{◌≡◌, ◌≢◌, ℕ, ◌+◌, ◌≤◌, Bool, true, false, cond, List, [], ◌∷◌, ◌++◌, length, Option, None, Some, is_some, refl, ap, ◌∙◌}
-use Rattle.std.specs.Prelude.{◌&&◌, fold, option_and_then, unwrap_or}
+use Rattle.std.specs.Prelude.{◌&&◌, option_and_then, unwrap_or}
 use Rattle.std.specs.Ordering.{nat_cmp}
 use Rattle.std.specs.FinMap.{FinMap, get, entries}
 use Rattle.std.proofs.lemmas.Bool.{eq-eqb, eqb-true, lt-ltb, ltb-true, le-leb, leb-true, and_parts, and_from}
 use Rattle.std.proofs.lemmas.Option.{cond_some}
-use Rattle.std.proofs.lemmas.List.Sums.{fold-append, sum_by-append}
+use Rattle.std.proofs.lemmas.List.Sums.{sum_by-append}
 use Rattle.log_records.specs.declared.Record.{Record}
 use Rattle.log_records.specs.declared.Record.TheVariants.{Update, Base, Fix, Undo, Commit, End}
 use Rattle.heap_words.specs.Word.{is_stable}
 use Rattle.log_machine.specs.declared.UndoEntry.{UndoEntry}
 use Rattle.log_machine.specs.UndoEntry.{LiesInside, undo_entry}
-use Rattle.log_machine.specs.Machine.{State, undo_in, undo_of, with_entries, number_of, is_number, is_number_or_none, owed, lies_inside, is_same_write, without_newest, has_none, space_words, is_next_free, is_promoted_by, turned, promoted, row_after, after, after_all, put_record, is_commit, commits}
-use Rattle.log_machine.specs.Origin.{Origin, words_from}
+use Rattle.log_machine.specs.Machine.{State, undo_in, undo_of, with_entries, number_of, is_number, is_number_or_none, owed, lies_inside, is_same_write, without_newest, has_none, space_words, is_next_free, is_promoted_by, turned, promoted, row_after, after, after_all, is_commit, commits}
 use Rattle.log_machine.proofs.MapLaws.{get_inserted, get_removed, get_beside, get_kept, insert_insert, remove_insert, insert_remove, remove_remove}
 
 -- Records after records.
@@ -38,10 +37,6 @@ one_after (Some s) = refl
 -- what records say with one more record
 pub after_all-append : (s m : State) (rs : List Record) (r : Record) → after_all s rs ≡ Some m → after_all s (rs ++ r ∷ []) ≡ after m r
 after_all-append s m rs r e = after_all-append2 s m rs (r ∷ []) e ∙ one_after (after m r)
-
--- the words with more records after these
-pub words_from-append : (o : Origin) (rs more : List Record) → words_from o (rs ++ more) ≡ fold put_record (words_from o rs) more
-words_from-append o rs more = fold-append put_record o.words rs more
 
 -- and how many commits
 pub commits-append : (rs more : List Record) → commits (rs ++ more) ≡ commits rs + commits more

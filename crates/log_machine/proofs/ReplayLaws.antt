@@ -9,7 +9,6 @@ use Rattle.log_machine.proofs.MachineLaws.{after_all-append}
 use Rattle.log_machine.specs.Effect.{WritesBelow, EachWritesBelow}
 use Rattle.log_machine.proofs.StateLaws.{sound_start, sound_after, leads_after, commits_few}
 use Rattle.log_machine.proofs.ReserveLaws.{reserve-start, reserve-after}
-use Rattle.log_machine.specs.Origin.{Origin}
 use Rattle.log_machine.specs.Replay.{Bounds, IsFirstUnshaped}
 
 -- before the first record
@@ -37,7 +36,7 @@ stuck_behind s [] rest stuck = absurd (cc stuck)
 stuck_behind s (r ∷ rs) rest stuck = stuck_in (after s r) rs rest (λ n. stuck_behind n rs rest) stuck
 
 -- and then the records can't all follow one another
-pub none_follow : (o : Origin) (rs : List Record) (lsn : ℕ) → IsFirstUnshaped o rs lsn → after_all o.state rs ≡ None
-none_follow o rs lsn first =
-    let n = lsn + 1 - o.lsn in
-    ap (λ (l : List Record). after_all o.state l) (sym (take-append-drop n rs)) ∙ stuck_behind o.state (take n rs) (drop n rs) first.stuck
+pub none_follow : (first : ℕ) (s : State) (rs : List Record) (lsn : ℕ) → IsFirstUnshaped first s rs lsn → after_all s rs ≡ None
+none_follow first s rs lsn unshaped =
+    let n = lsn + 1 - first in
+    ap (λ (l : List Record). after_all s l) (sym (take-append-drop n rs)) ∙ stuck_behind s (take n rs) (drop n rs) unshaped.stuck

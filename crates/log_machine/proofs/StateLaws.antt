@@ -14,7 +14,7 @@ use Rattle.log_machine.specs.declared.UndoEntry.{UndoEntry}
 use Rattle.log_machine.proofs.Entries.{IsEntry}
 use Rattle.log_machine.specs.UndoEntry.{LiesInside, undo_entry}
 use Rattle.log_machine.specs.Machine.{State, start, undo_in, undo_of, with_entries, number_of, is_number, is_number_or_none, next_with, owed, turned, promoted, row_after, after, after_all, is_commit, commits, space_words, words_in}
-use Rattle.log_machine.specs.Origin.{Origin, state_from, commits_in}
+use Rattle.log_machine.specs.Replay.{commits_in}
 use Rattle.log_machine.specs.Entries.{EachKeyed}
 use Rattle.log_machine.proofs.MapLaws.{each_empty, each_insert, each_remove}
 use Rattle.log_machine.proofs.MachineLaws.{told_if, free_told, newest_told, inside_told, number_small}
@@ -263,9 +263,9 @@ commits-after_all s m (r ∷ rs) e = option_and_then_some (λ next. after_all ne
     let more = sum_by-cons (λ x. cond (is_commit x) 1 0) r rs in
     omega arith)
 
--- so does the state that they leave from an origin: its commits are those of the origin and their own
-pub commits-from : (o : Origin) (m : State) (rs : List Record) → state_from o rs ≡ Some m → commits_in (state_from o rs) ≡ o.state.commits + commits rs
-commits-from o m rs e = let all = commits-after_all o.state m rs e in let same = ap commits_in e in omega arith
+-- so the commits of the state that they leave are those before them and their own
+pub commits-from : (s m : State) (rs : List Record) → after_all s rs ≡ Some m → commits_in (after_all s rs) ≡ s.commits + commits rs
+commits-from s m rs e = let all = commits-after_all s m rs e in let same = ap commits_in e in omega arith
 
 -- from a new heap on they are their own
 pub commits-start : (pages first : ℕ) (m : State) (rs : List Record) → after_all (start pages first) rs ≡ Some m → m.commits ≡ commits rs

@@ -5,7 +5,6 @@ use Rattle.std.specs.Prelude.{fold}
 use Rattle.log_records.specs.declared.Record.{Record}
 use Rattle.log_machine.specs.declared.UndoEntry.{UndoEntry}
 use Rattle.log_machine.specs.Machine.{Loser, first_contents, words_in, effect, put_all, put_record, with_word, field_at, taken_back, each_taken_back}
-use Rattle.log_machine.specs.Origin.{Origin, words_from}
 
 pub length-put_all : (writes : List (ℕ × ℕ)) (now : List ℕ) → length (put_all now writes) ≡ length now
 length-put_all [] now = refl
@@ -20,9 +19,6 @@ length-put_records (r ∷ rs) now = length-put_records rs (put_record now r) ∙
 
 pub length-first_contents : (pages : ℕ) → length (first_contents pages) ≡ words_in pages
 length-first_contents pages = length-set (replicate (words_in pages) 0) 0 17 ∙ length-replicate (words_in pages) 0
-
-pub length-words_from : (o : Origin) (records : List Record) → length (words_from o records) ≡ length o.words
-length-words_from o records = length-put_records records o.words
 
 pub length-taken_back : (us : List UndoEntry) (now : List ℕ) → length (taken_back us now) ≡ length now
 length-taken_back [] now = refl

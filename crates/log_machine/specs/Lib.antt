@@ -6,7 +6,6 @@ pub mod Effect
 pub mod Entries
 pub mod Kept
 pub mod Machine
-pub mod Origin
 pub mod Replay
 pub mod RunWords
 pub mod Runs

@@ -7,7 +7,7 @@ use Rattle.gated_log.specs.LogRoom.{used_bytes}
 use Rattle.gated_log.specs.LogState.{log_used, log_used_with, HasSpare, Keeps}
 use Rattle.log_machine.proofs.WordsLaws.{length-put_records}
 use Rattle.log_machine.specs.Machine.{put_record}
-use Rattle.log_machine.specs.Origin.{Origin, next_lsn}
+use Rattle.page_redo.specs.Origin.{Origin, next_lsn}
 use Rattle.log_records.specs.declared.Record.{Record}
 use Rattle.log_records.specs.Record.{spellings}
 use Rattle.page_redo.proofs.PrefixLaws.{present-append}

@@ -10,7 +10,7 @@ use Rattle.gated_log.specs.Log.{records_of, with_batch, HoldsBatches}
 use Rattle.gated_log.specs.LogState.{log_forced, log_place, log_room, Keeps}
 use Rattle.image_plan.specs.declared.plan.Plan.{Plan}
 use Rattle.image_plan.specs.Plan.{frame_offset, log_offset}
-use Rattle.log_machine.specs.Origin.{Origin, records_below}
+use Rattle.page_redo.specs.Origin.{Origin, records_below}
 use Rattle.log_records.specs.declared.Record.{Record}
 use Rattle.page_cache.proofs.Flushing.{still_legal}
 use Rattle.page_cache.proofs.ImageLaws.{stored_behind_log}

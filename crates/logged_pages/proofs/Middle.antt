@@ -2,7 +2,7 @@
 use Rattle.std.proofs.Common.{◌≡◌, ℕ, ◌+◌, ◌<◌, List, ◌++◌, length, get_or, take, drop, sym, ap, subst, ◌∙◌, arith, inl, inr, append_assoc}
 use Rattle.std.proofs.lemmas.Bool.{cases_lt}
 use Rattle.std.proofs.lemmas.List.{take-append-drop}
-use Rattle.log_machine.specs.Origin.{Origin, next_lsn}
+use Rattle.page_redo.specs.Origin.{Origin, next_lsn}
 use Rattle.log_records.specs.declared.Record.{Record}
 use Rattle.page_redo.proofs.PageLaws.{alike_page}
 use Rattle.page_redo.proofs.PrefixLaws.{present-append, EachHoldsPrefix-append}

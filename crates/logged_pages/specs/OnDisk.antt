@@ -4,7 +4,7 @@ use Rattle.disk_model.specs.Disk.{part, SameOutside}
 use Rattle.gated_log.specs.Log.{records_of, with_batch, HoldsBatches}
 use Rattle.gated_log.specs.LogState.{log_forced, log_place, log_room}
 use Rattle.image_plan.specs.Plan.{log_offset}
-use Rattle.log_machine.specs.Origin.{Origin}
+use Rattle.page_redo.specs.Origin.{Origin}
 use Rattle.log_records.specs.declared.Record.{Record}
 use Rattle.page_cache.specs.CacheState.{cache_log, cache_pages, cache_size, cached_lsn, cached_page, MayStandBeside}
 use Rattle.page_store.specs.Gates.{open_gates}

@@ -3,7 +3,7 @@ use Rattle.std.specs.Prelude.{◌≡◌, ℕ, ◌+◌, ◌≤◌, Bool, List, �
 use Rattle.gated_log.specs.declared.log.Log.{Log}
 use Rattle.gated_log.specs.Log.{records_of}
 use Rattle.gated_log.specs.LogState.{Keeps, log_count}
-use Rattle.log_machine.specs.Origin.{Origin, first_lsn}
+use Rattle.page_redo.specs.Origin.{Origin, first_lsn}
 use Rattle.log_records.specs.declared.Record.{Record}
 use Rattle.page_cache.specs.CacheState.{cached, cache_size, cache_store}
 use Rattle.page_cache.specs.declared.cache.PageCache.{PageCache}

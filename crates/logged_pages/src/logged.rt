@@ -8,7 +8,7 @@ ghost use Rattle.gated_log.specs.Log.{with_batch};
 ghost use Rattle.gated_log.specs.LogState.{log_count, log_forced, log_place, log_room, log_used, log_used_with, is_waiting, HasSpare, IsBufferEmpty, IsSameLog, Keeps, KeepsMemory};
 ghost use Rattle.image_plan.specs.Plan.{log_offset};
 ghost use Rattle.log_machine.specs.Effect.{EachWritesBelow, WritesBelow};
-ghost use Rattle.log_machine.specs.Origin.{Origin};
+ghost use Rattle.page_redo.specs.Origin.{Origin};
 ghost use Rattle.log_records.specs.declared.Record.{Record};
 ghost use Rattle.log_records.specs.Record.{spellings};
 ghost use Rattle.page_cache.specs.ByPage.{put_page};

@@ -2,7 +2,7 @@
 use Rattle.std.proofs.Common.{◌≡◌, ◌≢◌, ℕ, ◌+◌, ◌-◌, ◌<◌, ◌≤◌, List, Result, Ok, Err, OnOk, sym, subst, inr, arith}
 use Rattle.log_records.specs.declared.Record.{Record}
 use Rattle.disk_model.specs.declared.disk.DiskError.{DiskError}
-use Rattle.log_machine.specs.Origin.{Origin, records_below}
+use Rattle.page_redo.specs.Origin.{Origin, records_below}
 use Rattle.page_redo.specs.Pages.{Pages, pages_in, page_words, lsn_of}
 use Rattle.page_redo.specs.Prefix.{HoldsPrefix, EachHoldsPrefix}
 use Rattle.page_redo.proofs.PrefixLaws.{HoldsPrefix-take}

@@ -7,7 +7,7 @@ use Rattle.disk_model.specs.Disk.{SameOutside}
 use Rattle.image_plan.specs.Plan.{log_offset}
 use Rattle.log_records.specs.declared.Record.{Record}
 use Rattle.log_machine.specs.Machine.{first_contents, words_in}
-use Rattle.log_machine.specs.Origin.{heap_origin}
+use Rattle.page_redo.specs.Origin.{heap_origin}
 use Rattle.log_machine.proofs.WordsLaws.{length-first_contents}
 use Rattle.page_redo.specs.Pages.{Pages, pages_in, page_words, lsn_of, first_pages}
 use Rattle.page_redo.proofs.PageLaws.{alike_pages}

@@ -4,7 +4,7 @@ use Rattle.std.proofs.Common.{◌≡◌, ◌≢◌, ℕ, ◌<◌, List, sym, ap,
 use Rattle.std.proofs.lemmas.Bool.{cases_eq, eq-eqb, ne_eqb, cond-true, cond-false}
 use Rattle.std.proofs.lemmas.List.FromFn.{get_or-map-range_with_len, length-map-range_with_len}
 use Rattle.log_records.specs.declared.Record.{Record}
-use Rattle.log_machine.specs.Origin.{Origin}
+use Rattle.page_redo.specs.Origin.{Origin}
 use Rattle.page_redo.specs.Pages.{pages_in, page_words, lsn_of}
 use Rattle.page_redo.specs.Prefix.{HoldsPrefix, EachHoldsPrefix}
 use Rattle.page_store.specs.Page as store

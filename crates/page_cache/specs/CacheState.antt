@@ -1,7 +1,7 @@
 -- A page cache, as its callers see it.
 use Rattle.std.specs.Prelude.{◌≡◌, ℕ, ◌<◌, ◌≤◌, ◌==◌, Bool, not, List, length}
 use Rattle.log_records.specs.declared.Record.{Record}
-use Rattle.log_machine.specs.Origin.{Origin}
+use Rattle.page_redo.specs.Origin.{Origin}
 use Rattle.page_redo.specs.Pages.{Pages, page_words, lsn_of}
 use Rattle.page_redo.specs.Prefix.{EachHoldsPrefix}
 use Rattle.page_store.specs.declared.store.PageStore.{PageStore}

@@ -41,7 +41,7 @@ pub struct PageCache {
 impl PageCache {
     ghost use Rattle.page_store.specs.StoreState.{store_plan, stored_frame, Knows};
     ghost use Rattle.page_cache.specs.CacheState.{cached, cache_store, cache_pages, cache_size, cache_log, cached_page, cached_lsn, flushed_lsn, is_dirty, cache_failed, IsFirstPast, IsOriginOf, MayStandBeside};
-    ghost use Rattle.log_machine.specs.Origin.{Origin, records_below};
+    ghost use Rattle.page_redo.specs.Origin.{Origin, records_below};
 
     /// Reads the pages that are stored after the log of an image.
     pub fn open<D: Disk>(

@@ -2,15 +2,16 @@
 use Rattle.std.proofs.Common.{◌≡◌, ℕ, ◌+◌, ◌-◌, ◌*◌, ◌<◌, ◌≤◌, List, [], ◌++◌, length, get_or, take, refl, sym, ap, subst, ◌∙◌, arith, inl, inr, length-set, length-append, length-take, get_or-set_same, get_or-set_other}
 use Rattle.std.specs.Prelude.{max}
 use Rattle.std.proofs.lemmas.Bool.{cases_eq}
-use Rattle.std.proofs.lemmas.List.{take_all, take_at, take-take, take-append-le, length-replicate, get_or-replicate}
+use Rattle.std.proofs.lemmas.List.{ext_get_or, take_all, take_at, take-take, take-append-le, length-replicate}
 use Rattle.log_records.specs.declared.Record.{Record}
-use Rattle.log_machine.specs.Origin.{Origin, heap_origin, next_lsn, records_below, words_from}
-use Rattle.log_machine.proofs.WordsLaws.{length-words_from, length-first_contents}
+use Rattle.page_redo.specs.Origin.{Origin, heap_origin, next_lsn, records_below}
+use Rattle.log_machine.proofs.WordsLaws.{length-first_contents}
 use Rattle.page_redo.specs.Pages.{Pages, pages_in, page_of, page_words, lsn_of, first_pages}
 use Rattle.page_redo.proofs.OnePage.{with_page}
-use Rattle.page_redo.specs.Redo.{redo_all, redone}
+use Rattle.page_redo.specs.Redo.{redo_all, redone, words_from}
 use Rattle.page_redo.specs.Prefix.{HasAllWords, HoldsPrefix, EachHoldsPrefix, IsPresent}
 use Rattle.page_redo.proofs.PageLaws.{page_alike, alike_page, alike_pages, length-with_words, with_words-same, with_words-other}
+use Rattle.page_redo.proofs.RedoLaws.{length-words_from, first_lsns, lsn-redo_all, lsns-redo_all}
 use Rattle.page_redo.proofs.RedoSteps.{count_to, IsRedoneTo, redone_to_end}
 
 -- Redo.
@@ -20,6 +21,7 @@ from_stored : (o : Origin) (records : List Record) (stored : Pages) → EachHold
 from_stored o records stored legal = record {
   size = legal.size;
   lsns_size = legal.lsns_size;
+  from = λ p lt. (legal.each p lt).from;
   reached = λ p lt. (legal.each p lt).reached;
   same = λ p a lt there.
       let now : count_to o (lsn_of stored p) ≡ max 0 (count_to o (lsn_of stored p)) = omega arith in
@@ -44,6 +46,7 @@ at_end o all_words records at is =
         size = is.size;
         lsns_size = is.lsns_size;
         each = λ p lt. record {
+          from = is.from p lt;
           reached = is.reached p lt;
           same = alike_page p at.words (words_from o (take (count_to o (lsn_of at p)) records)) (long (take (count_to o (lsn_of at p)) records))
               (λ a there. same_word p a lt there ∙ is.own p a lt (reached p lt) there);
@@ -62,6 +65,19 @@ redone-present o whole records stored legal = at_end o whole records (redone o s
 pub redone-words : (o : Origin) → HasAllWords o → (records : List Record) (stored : Pages) → EachHoldsPrefix o records stored → (redone o stored records).words ≡ words_from o records
 redone-words o whole records stored legal = (redone-present o whole records stored legal).present
 
+-- redo is repeated without an effect
+pub redone-redone : (o : Origin) → HasAllWords o → (records : List Record) (stored : Pages) → EachHoldsPrefix o records stored → redone o (redone o stored records) records ≡ redone o stored records
+redone-redone o whole records stored legal =
+    let now : Pages = redone o stored records in
+    let once = redone-present o whole records stored legal in
+    let twice = redone-present o whole records now once.prefixes in
+    let same_lsns : (redone o now records).lsns ≡ now.lsns =
+    ext_get_or 0 (redone o now records).lsns now.lsns (lsns-redo_all o.lsn now records)
+    (λ p lt. let within : p < length stored.lsns = omega (arith, lsns-redo_all o.lsn now records, lsns-redo_all o.lsn stored records) in
+    omega (arith, lsn-redo_all o.lsn now records p (omega (arith, lsns-redo_all o.lsn stored records)), lsn-redo_all o.lsn stored records p within)) in
+    let made : List ℕ → List ℕ → Pages = λ words lsns. record { words = words; lsns = lsns } in
+    ap (λ (l : List ℕ). made l (redone o now records).lsns) (twice.present ∙ sym once.present) ∙ ap (made now.words) same_lsns
+
 -- where more records follow those of present pages, these are the ones that have been redone
 from_present : (o : Origin) (records more : List Record) (at : Pages) → IsPresent o records at → IsRedoneTo o (records ++ more) (length records) at
 from_present o records more at is =
@@ -72,6 +88,7 @@ from_present o records more at is =
     record {
       size = is.prefixes.size;
       lsns_size = is.prefixes.lsns_size;
+      from = λ p lt. (is.prefixes.each p lt).from;
       reached = λ p lt. omega (arith, longer, (is.prefixes.each p lt).reached);
       same = λ p a lt there.
           let last : length records ≡ max (length records) (count_to o (lsn_of at p)) = omega (arith, (is.prefixes.each p lt).reached) in
@@ -102,6 +119,7 @@ stored_is_present o whole records stored p legal lt same =
 -- one page may stand beside more records
 pub HoldsPrefix-append : (o : Origin) (records more : List Record) (p lsn : ℕ) (page : List ℕ) → HoldsPrefix o records p lsn page → HoldsPrefix o (records ++ more) p lsn page
 HoldsPrefix-append o records more p lsn page is = record {
+  from = is.from;
   reached = omega (arith, length-append records more, is.reached);
   same = is.same ∙ ap (λ (l : List Record). page_words (words_from o l) p) (sym (take-append-le (count_to o lsn) records more (omega (arith, is.reached))));
 }
@@ -109,6 +127,7 @@ HoldsPrefix-append o records more p lsn page is = record {
 -- and beside fewer, if these reach its LSN
 pub HoldsPrefix-take : (o : Origin) (records : List Record) (n p lsn : ℕ) (page : List ℕ) → HoldsPrefix o records p lsn page → lsn < n + o.lsn → HoldsPrefix o (take n records) p lsn page
 HoldsPrefix-take o records n p lsn page is le = record {
+  from = is.from;
   reached = omega (arith, length-take n records, is.reached, le);
   same = is.same ∙ ap (λ (l : List Record). page_words (words_from o l) p) (sym (take-take (count_to o lsn) n records (omega (arith, le))));
 }
@@ -116,6 +135,7 @@ HoldsPrefix-take o records n p lsn page is le = record {
 -- and as many as the LSN of the page says
 pub HoldsPrefix-own : (o : Origin) (records : List Record) (at : Pages) (p : ℕ) → IsPresent o records at → p < pages_in o.state.pages → HoldsPrefix o records p (lsn_of at p) (page_words (words_from o records) p)
 HoldsPrefix-own o records at p is lt = record {
+  from = (is.prefixes.each p lt).from;
   reached = (is.prefixes.each p lt).reached;
   same = ap (λ (l : List ℕ). page_words l p) (sym is.present) ∙ (is.prefixes.each p lt).same;
 }
@@ -126,8 +146,9 @@ first_pages-prefixes pages first records = record {
   size = length-first_contents pages;
   lsns_size = length-replicate (pages_in pages) 0;
   each = λ p lt.
-      let none : lsn_of (first_pages pages) p ≡ 0 = get_or-replicate (pages_in pages) p 0 0 lt in
+      let none = first_lsns pages p in
       record {
+        from = omega arith;
         reached = omega (arith, none);
         same = ap (λ (k : ℕ). page_words (words_from (heap_origin pages first) (records_below (heap_origin pages first) (k + 1) records)) p) (sym none);
       };

@@ -3,16 +3,15 @@ use Rattle.std.proofs.Common.{◌≡◌, ℕ, ◌+◌, ◌<◌, ◌≤◌, Bool,
 use Rattle.std.specs.Prelude.{max, fold}
 use Rattle.std.specs.List.{filter}
 use Rattle.std.proofs.lemmas.Bool.{cases_Bool, cases_lt, lt-ltb, cond-true, cond-false}
-use Rattle.std.proofs.lemmas.List.{ext_get_or, get_or_past, take_more, length-take-le}
+use Rattle.std.proofs.lemmas.List.{get_or_past, get_or-replicate, length-replicate, take_more, length-take-le}
 use Rattle.log_records.specs.declared.Record.{Record}
-use Rattle.log_machine.specs.Machine.{effect, put_all, put_record}
-use Rattle.log_machine.specs.Origin.{Origin, next_lsn}
+use Rattle.log_machine.specs.Machine.{effect, first_contents, put_all, put_record}
+use Rattle.page_redo.specs.Origin.{Origin, heap_origin, next_lsn}
 use Rattle.log_machine.proofs.WordsLaws.{length-put_all}
-use Rattle.page_redo.specs.Pages.{Pages, pages_in, page_of, lsn_of, touched, touches}
-use Rattle.page_redo.specs.Redo.{lacks, EachLacks, redo_record, redo_all, redone, last_lsn}
+use Rattle.page_redo.specs.Pages.{Pages, pages_in, page_of, lsn_of, first_pages, touched, touches}
+use Rattle.page_redo.specs.Redo.{lacks, EachLacks, redo_record, redo_all, redone, words_from, last_lsn}
 use Rattle.page_redo.proofs.PageLaws.{length-raised_to, raised_to-touched, raised_to-other}
-use Rattle.page_redo.specs.Prefix.{HasAllWords, EachHoldsPrefix}
-use Rattle.page_redo.proofs.PrefixLaws.{redone-present}
+use Rattle.page_redo.specs.Prefix.{EachHoldsPrefix}
 
 -- records one after another
 pub redo_all-append : (lsn : ℕ) (at : Pages) (rs ss : List Record) → redo_all lsn at (rs ++ ss) ≡ redo_all (lsn + length rs) (redo_all lsn at rs) ss
@@ -39,6 +38,9 @@ words-redo_all lsn at (r ∷ rs) = words-redo_all (lsn + 1) (redo_record lsn at 
 -- so they do after a whole log
 pub length-redone : (o : Origin) (stored : Pages) (records : List Record) → length (redone o stored records).words ≡ length stored.words
 length-redone o stored records = words-redo_all o.lsn stored records
+
+pub length-words_from : (o : Origin) (records : List Record) → length (words_from o records) ≡ length o.pages.words
+length-words_from o records = length-redone o o.pages records
 
 filter_all : (test : ℕ × ℕ → Bool) (ws : List (ℕ × ℕ)) → ((w : ℕ × ℕ) → test w ≡ true) → filter test ws ≡ ws
 filter_all test [] each = refl
@@ -76,6 +78,13 @@ lsn-rises lsn at rec p lt = omega (arith, lsn-redo_record lsn at rec p lt)
 pub lsn-rises_all : (lsn : ℕ) (at : Pages) (rs : List Record) (p : ℕ) → p < length at.lsns → lsn_of at p ≤ lsn_of (redo_all lsn at rs) p
 lsn-rises_all lsn at rs p lt = omega (arith, lsn-redo_all lsn at rs p lt)
 
+-- nor does that of a page which there is not
+pub lsn-rises_any : (lsn : ℕ) (at : Pages) (rs : List Record) (p : ℕ) → lsn_of at p ≤ lsn_of (redo_all lsn at rs) p
+lsn-rises_any lsn at rs p = elim (cases_lt p (length at.lsns)) [
+  | inl lt ↦ lsn-rises_all lsn at rs p lt
+  | inr past ↦ omega (arith, get_or_past at.lsns p 0 past)
+]
+
 -- each page lacks what follows
 pub EachLacks-next : (lsn : ℕ) (at : Pages) (rec : Record) → EachLacks lsn at → EachLacks (lsn + 1) (redo_record lsn at rec)
 EachLacks-next lsn at rec lacking p = elim (cases_lt p (length at.lsns)) [
@@ -109,12 +118,16 @@ last_lsn-reached p lsn (r ∷ rs) = elim (cases_Bool (touches r p)) [
   | inr none ↦ omega (arith, cond-false (touches r p) lsn 0 none, last_lsn-reached p (lsn + 1) rs)
 ]
 
--- so pages that lack the record after some others lack it still once these are redone, whatever the pages hold
-pub EachLacks-redo_all : (lsn : ℕ) (at : Pages) (rs : List Record) → EachLacks (length rs + lsn) at → EachLacks (length rs + lsn) (redo_all lsn at rs)
-EachLacks-redo_all lsn at rs lacking p = elim (cases_lt p (length at.lsns)) [
-  | inl lt ↦ omega (arith, lsn-redo_all lsn at rs p lt, last_lsn-reached p lsn rs, lacking p)
-  | inr past ↦ omega (arith, get_or_past (redo_all lsn at rs).lsns p 0 (omega (arith, lsns-redo_all lsn at rs)), get_or_past at.lsns p 0 past, lacking p)
+-- so a page that lacks the record after some others lacks it still once these are redone, whatever the pages hold
+pub lacks-redo_all : (lsn : ℕ) (at : Pages) (rs : List Record) (p : ℕ) → lsn_of at p < length rs + lsn → lsn_of (redo_all lsn at rs) p < length rs + lsn
+lacks-redo_all lsn at rs p low = elim (cases_lt p (length at.lsns)) [
+  | inl lt ↦ omega (arith, lsn-redo_all lsn at rs p lt, last_lsn-reached p lsn rs, low)
+  | inr past ↦ omega (arith, get_or_past (redo_all lsn at rs).lsns p 0 (omega (arith, lsns-redo_all lsn at rs)), get_or_past at.lsns p 0 past, low)
 ]
+
+-- and so do all pages
+pub EachLacks-redo_all : (lsn : ℕ) (at : Pages) (rs : List Record) → EachLacks (length rs + lsn) at → EachLacks (length rs + lsn) (redo_all lsn at rs)
+EachLacks-redo_all lsn at rs lacking p = lacks-redo_all lsn at rs p (lacking p)
 
 -- so do those after a whole log, if no LSN of the stored pages is above that of its last record
 pub EachLacks-redone : (o : Origin) (records : List Record) (stored : Pages) → EachLacks (next_lsn o records) stored → EachLacks (next_lsn o records) (redone o stored records)
@@ -126,22 +139,36 @@ redone_words-append o stored records more lacking =
     ap (λ (at : Pages). at.words) (redo_all-append o.lsn stored records more)
     ∙ redo_all-words (o.lsn + length records) (redone o stored records) more (λ p. omega (arith, EachLacks-redone o records stored lacking p))
 
+-- so the words after records continue, where the pages in front of the log lack what follows
+pub words_from-append : (o : Origin) (records more : List Record) → EachLacks (next_lsn o records) o.pages → words_from o (records ++ more) ≡ fold put_record (words_from o records) more
+words_from-append o records more lacking = redone_words-append o o.pages records more lacking
+
+-- where they lack all of it, the words are those in front of the log with all records
+pub words_from-new : (o : Origin) (records : List Record) → EachLacks o.lsn o.pages → words_from o records ≡ fold put_record o.pages.words records
+words_from-new o records lacking = redo_all-words o.lsn o.pages records lacking
+
+-- pages that were never stored lack each record
+pub first_lsns : (pages p : ℕ) → lsn_of (first_pages pages) p ≡ 0
+first_lsns pages p = elim (cases_lt p (pages_in pages)) [
+  | inl lt ↦ get_or-replicate (pages_in pages) p 0 0 lt
+  | inr past ↦ get_or_past (first_pages pages).lsns p 0 (omega (arith, length-replicate {A = ℕ} (pages_in pages) 0))
+]
+
+pub first_pages-lack : (pages lsn : ℕ) → 1 ≤ lsn → EachLacks lsn (first_pages pages)
+first_pages-lack pages lsn some p = omega (arith, first_lsns pages p)
+
+-- so the words that records leave of a new heap are those with the effect of each, one after the other
+pub heap_words : (pages first : ℕ) (records : List Record) → words_from (heap_origin pages first) records ≡ fold put_record (first_contents pages) records
+heap_words pages first records = words_from-new (heap_origin pages first) records (first_pages-lack pages (heap_origin pages first).lsn (omega arith))
+
+-- and they continue with more records
+pub heap_words-append : (pages first : ℕ) (records more : List Record) → words_from (heap_origin pages first) (records ++ more) ≡ fold put_record (words_from (heap_origin pages first) records) more
+heap_words-append pages first records more =
+    words_from-append (heap_origin pages first) records more (first_pages-lack pages (next_lsn (heap_origin pages first) records) (omega arith))
+
 -- each of the pages that may stand beside records lacks the next one, if the first does not have the LSN 0
 pub EachLacks-prefixes : (o : Origin) (records : List Record) (at : Pages) → 1 ≤ o.lsn → EachHoldsPrefix o records at → EachLacks (next_lsn o records) at
 EachLacks-prefixes o records at some is p = elim (cases_lt p (length at.lsns)) [
   | inl lt ↦ omega (arith, (is.each p (omega (arith, is.lsns_size))).reached)
   | inr past ↦ omega (arith, get_or_past at.lsns p 0 past)
 ]
-
--- redo is repeated without an effect
-pub redone-redone : (o : Origin) → HasAllWords o → (records : List Record) (stored : Pages) → EachHoldsPrefix o records stored → redone o (redone o stored records) records ≡ redone o stored records
-redone-redone o whole records stored legal =
-    let now : Pages = redone o stored records in
-    let once = redone-present o whole records stored legal in
-    let twice = redone-present o whole records now once.prefixes in
-    let same_lsns : (redone o now records).lsns ≡ now.lsns =
-    ext_get_or 0 (redone o now records).lsns now.lsns (lsns-redo_all o.lsn now records)
-    (λ p lt. let within : p < length stored.lsns = omega (arith, lsns-redo_all o.lsn now records, lsns-redo_all o.lsn stored records) in
-    omega (arith, lsn-redo_all o.lsn now records p (omega (arith, lsns-redo_all o.lsn stored records)), lsn-redo_all o.lsn stored records p within)) in
-    let made : List ℕ → List ℕ → Pages = λ words lsns. record { words = words; lsns = lsns } in
-    ap (λ (l : List ℕ). made l (redone o now records).lsns) (twice.present ∙ sym once.present) ∙ ap (made now.words) same_lsns

@@ -1,3 +1,4 @@
+pub mod Origin
 pub mod Pages
 pub mod Prefix
 pub mod Ranges

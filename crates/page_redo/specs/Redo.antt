@@ -2,7 +2,7 @@
 use Rattle.std.specs.Prelude.{ℕ, ◌+◌, ◌<◌, nat_lt, Bool, List, [], ◌∷◌, fold, filter, max, slice_index, slice_set, if◌then◌else◌}
 use Rattle.log_records.specs.declared.Record.{Record}
 use Rattle.log_machine.specs.Machine.{effect, put_all}
-use Rattle.log_machine.specs.Origin.{Origin}
+use Rattle.page_redo.specs.Origin.{Origin}
 use Rattle.page_redo.specs.Pages.{Pages, page_of, lsn_of, touched, touches}
 
 -- whether a page lacks the record of an LSN: its own is less
@@ -32,6 +32,10 @@ redo_all lsn at (r ∷ rs) = redo_all (lsn + 1) (redo_record lsn at r) rs
 -- the pages after a whole log is redone on those that were stored
 abbrev pub redone : Origin → Pages → List Record → Pages
 redone o stored records = redo_all o.lsn stored records
+
+-- the words after these records: those of the pages in front of them, once they are redone there
+abbrev pub words_from : Origin → List Record → List ℕ
+words_from o records = (redone o o.pages records).words
 
 -- the LSN of the last of these records that touches a page, or 0 if none does; the first of them has this LSN
 abbrev pub last_lsn : ℕ → ℕ → List Record → ℕ

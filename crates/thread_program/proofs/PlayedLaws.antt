@@ -16,7 +16,7 @@ use Rattle.heap_core.proofs.StepsLaws.{heap_leaves}
 use Rattle.heap_model.specs.Core.{Core, commits_on_disk}
 use Rattle.heap_model.specs.CoreCrash.{IsCommitPrefix}
 use Rattle.heap_model.specs.CoreRuns.{total_calls}
-use Rattle.log_machine.specs.Origin.{commits_in}
+use Rattle.page_redo.specs.Origin.{commits_in}
 use Rattle.core_laws.specs.Ended.{IsUnfailed}
 use Rattle.core_laws.specs.Valid.{IsReached}
 use Rattle.core_laws.proofs.Run.Calls.{unfailed_events}

@@ -9,9 +9,10 @@ use Rattle.graph_model.specs.History.{Account, account, sealed, commits, acknowl
 use Rattle.log_records.specs.declared.Record.{Record}
 use Rattle.gated_log.specs.Log.{batches_bytes, records_of, with_batch}
 use Rattle.log_machine.specs.Machine.{State, start, reserve}
-use Rattle.log_machine.specs.Origin.{Origin, words_from, commits_in}
+use Rattle.page_redo.specs.Origin.{Origin, commits_in}
 use Rattle.page_redo.specs.Pages.{Pages}
 use Rattle.page_redo.specs.Prefix.{EachHoldsPrefix}
+use Rattle.page_redo.specs.Redo.{words_from}
 use Rattle.page_redo.proofs.PrefixLaws.{EachHoldsPrefix-append}
 use Rattle.graph_words.specs.Places.{Places}
 use Rattle.heap_model.specs.Core.{Core, log_origin, log_start, commits_on_disk, all_words}

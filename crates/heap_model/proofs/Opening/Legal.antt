@@ -5,10 +5,10 @@ use Rattle.graph_model.specs.Graph.{Graph}
 use Rattle.image_plan.specs.Super.{IsSuper}
 use Rattle.log_machine.specs.declared.UndoEntry.{UndoEntry}
 use Rattle.log_machine.specs.Machine.{State, all_taken_back, each_taken_back, losing, losing_in, reserve, taken_back}
-use Rattle.log_machine.specs.Origin.{words_from}
 use Rattle.log_machine.proofs.WordsLaws.{length-first_contents}
 use Rattle.gated_log.specs.Log.{batches_bytes}
 use Rattle.page_redo.specs.Prefix.{EachHoldsPrefix}
+use Rattle.page_redo.specs.Redo.{words_from}
 use Rattle.page_redo.proofs.PrefixLaws.{redone-words}
 use Rattle.page_redo.proofs.RedoLaws.{EachLacks-prefixes}
 use Rattle.graph_words.specs.Places.{Places}

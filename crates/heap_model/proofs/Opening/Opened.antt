@@ -17,7 +17,7 @@ use Rattle.heap_model.proofs.Opening.Held.{later_has, later_next, later_of}
 use Rattle.heap_model.specs.CoreCrash.{IsCommitPrefix}
 use Rattle.heap_model.proofs.Opening.Rolled.{next_is, commits_are, rolled_commits, rolled_says, shaped_spaces}
 use Rattle.heap_model.specs.Theorems.{SayingTheorem, SaysOn}
-use Rattle.heap_model.specs.Image.{StoredHeap, words_of, IsShapedLog, IsLegalLog, Shows, Says, records_in}
+use Rattle.heap_model.specs.Image.{StoredHeap, origin_of, words_of, IsShapedLog, IsLegalLog, Shows, Says, records_in}
 use Rattle.heap_model.specs.Opening.{rolled_back, next_of, commits_of, next_behind, opened, IsFound, IsLeftByOpening}
 
 -- The number of the next transaction.
@@ -30,9 +30,9 @@ next_all s x [] is = let same : Some s ≡ Some x = is in ap (λ o. (unwrap_or o
 next_all s x (r ∷ rs) is = option_and_then_some (λ next. after_all next rs) (after s r) x is (λ next first rest.
     next_all next x rs rest ∙ ap (λ n. next_behind n rs) (sym (next_after s next r first)))
 
--- a transaction begun after an opening has the greater of the heap's first number and one more than the greatest in the log
-pub next_pinned : (stored : StoredHeap) → IsShapedLog stored → next_of stored ≡ next_behind stored.super.first (records_in stored)
-next_pinned stored shaped = next_is stored shaped ∙ next_all (start stored.super.pages stored.super.first) shaped.state (records_in stored) shaped.reached
+-- a transaction begun after an opening has the greater of the next number with which the log begins and one more than the greatest in it
+pub next_pinned : (stored : StoredHeap) → IsShapedLog stored → next_of stored ≡ next_behind (origin_of stored).state.next (records_in stored)
+next_pinned stored shaped = next_is stored shaped ∙ next_all (origin_of stored).state shaped.state (records_in stored) shaped.reached
 
 -- What a legal log says.
 

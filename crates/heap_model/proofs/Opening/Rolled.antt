@@ -9,7 +9,7 @@ use Rattle.log_machine.specs.declared.UndoEntry.{UndoEntry}
 use Rattle.log_machine.specs.Machine.{settled, State, Loser, start, after_all, put_record, words_in, all_taken_back, each_taken_back, losing_in, losing, abort_each, rollback, reserve, undo_bytes}
 use Rattle.log_machine.proofs.ListLaws.{AllByRecursion-append}
 use Rattle.log_machine.proofs.MapLaws.{entries_empty}
-use Rattle.log_machine.specs.Origin.{next_lsn, commits_in}
+use Rattle.page_redo.specs.Origin.{next_lsn, commits_in}
 use Rattle.log_machine.proofs.MachineLaws.{after_all-append2}
 use Rattle.log_machine.proofs.StateLaws.{can_roll_back}
 use Rattle.log_machine.proofs.Bounds.{CanRollBack}

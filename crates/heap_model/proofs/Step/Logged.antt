@@ -9,12 +9,13 @@ use Rattle.graph_model.specs.declared.reply.Refusal.{Refusal}
 use Rattle.graph_model.specs.declared.reply.Reply.{Reply}
 use Rattle.log_records.specs.declared.Record.{Record}
 use Rattle.log_machine.specs.Machine.{put_record}
-use Rattle.log_machine.specs.Origin.{heap_origin, words_from}
-use Rattle.log_machine.proofs.MachineLaws.{words_from-append}
+use Rattle.page_redo.specs.Origin.{heap_origin}
 use Rattle.gated_log.specs.Log.{records_of}
 use Rattle.page_redo.specs.Pages.{Pages}
 use Rattle.page_redo.specs.Prefix.{EachHoldsPrefix}
+use Rattle.page_redo.specs.Redo.{words_from}
 use Rattle.page_redo.proofs.PrefixLaws.{EachHoldsPrefix-append}
+use Rattle.page_redo.proofs.RedoLaws.{heap_words-append}
 use Rattle.heap_model.specs.Core.{Core, log_origin, all_words, all_records, answer, core_refusal, with_entry, Transfer, Lands, Stores, batch_of, landed, made, transfers, noted, moved, own_records, barrier_records, done, after_refusal, IsStep}
 use Rattle.heap_model.specs.CoreCrash.{HasLogWords, IsLogged, IsSuperOf}
 use Rattle.heap_model.specs.Image.{StoredHeap, origin_of}
@@ -28,13 +29,13 @@ super_origin stored c of = ap (λ (pages : ℕ). heap_origin pages stored.super.
 
 -- the words after all records are those that all of them leave
 pub all_logged : (c : Core) → HasLogWords c → all_words c ≡ words_from (log_origin c) (all_records c)
-all_logged c logged = ap (λ (ws : List ℕ). fold put_record ws c.pending) logged ∙ sym (words_from-append (log_origin c) (records_of c.batches) c.pending)
+all_logged c logged = ap (λ (ws : List ℕ). fold put_record ws c.pending) logged ∙ sym (heap_words-append c.pages c.first_number (records_of c.batches) c.pending)
 
 words_landed : (c : Core) (waits : List (List Record)) → HasLogWords c → HasLogWords (landed c waits)
 words_landed c [] logged = logged
 words_landed c (next ∷ waits) logged =
     ap (λ (ws : List ℕ). fold put_record ws next) logged
-    ∙ sym (words_from-append (log_origin c) (records_of c.batches) next)
+    ∙ sym (heap_words-append c.pages c.first_number (records_of c.batches) next)
     ∙ ap (words_from (log_origin c)) (sym (records_of-append c.batches next))
 
 words_made : (c : Core) (t : Transfer) → HasLogWords c → HasLogWords (made c t)

@@ -21,7 +21,7 @@ use Rattle.graph_words.proofs.Places.Addresses.{some_address}
 use Rattle.collection_words.specs.Placing.{Placing, moved_by_all}
 use Rattle.collection_words.proofs.Copy.Named.{apart_of}
 use Rattle.heap_model.specs.Collecting.{flip_records, flip_records_in, flip_reply, next_page, scan_reply, scan_reply_in}
-use Rattle.heap_model.specs.Core.{Core, IsStep, after, after_refusal, all_records, all_words, answer, core_refusal, granted_by, ground, own_records, placing, roots}
+use Rattle.heap_model.specs.Core.{Core, IsStep, after, after_refusal, every_record, all_words, answer, core_refusal, granted_by, ground, own_records, placing, roots}
 use Rattle.heap_model.proofs.Run.Calls.{same_step, step_history}
 use Rattle.core_laws.proofs.Collecting.Flip as flip
 use Rattle.core_laws.proofs.Run.Events.{step_reached}
@@ -39,7 +39,7 @@ use Rattle.limit_laws.proofs.Copies.Scans.{AreKept}
 use Rattle.limit_laws.proofs.Copies.Steps.{not_made}
 use Rattle.limit_laws.proofs.Copies.Uncopied.{seen_refers}
 use Rattle.limit_laws.proofs.Copies.Within.{OwnOr}
-use Rattle.limit_laws.proofs.Events.Appended.{all_done}
+use Rattle.limit_laws.proofs.Events.Appended.{every_done}
 
 -- what is granted is granted by a core that has not failed
 pub unfailed : (o : Option ℕ) (why : Option Refusal) → refusal_of o why ≡ None → o ≡ None
@@ -64,7 +64,7 @@ pub record IsBegun (c f : Core) : Type 0 where
   pub active : (account f.history).active ≡ (account c.history).active
   pub sealed : (account f.history).sealed ≡ (account c.history).sealed
   pub g0 : f.g0 ≡ c.g0
-  pub all : all_records f ≡ all_records c ++ own_records c Flip
+  pub all : every_record f ≡ every_record c ++ own_records c Flip
   pub placed : placing f ≡ moved_by_all (placing c) (own_records c Flip)
 
 pub flip_begins : (c : Core) (objects words : ℕ) → IsReached c → answer c Flip ≡ reply.Flipped objects words → IsBegun c (after c Flip)
@@ -82,7 +82,7 @@ flip_begins c objects words reached is =
       active = ap (λ (a : Account). a.active) told ∙ ap (λ (r : Reply). (account_after (account c.history) (record { event = Flip; reply = r })).active) is;
       sealed = ap (λ (a : Account). a.sealed) told ∙ ap (λ (r : Reply). (account_after (account c.history) (record { event = Flip; reply = r })).sealed) is;
       g0 = (same_step c (after c Flip) Flip (answer c Flip) step).g0;
-      all = ap (λ (o : Option Refusal). all_records (after_refusal o c Flip)) parts.0 ∙ all_done c Flip;
+      all = ap (λ (o : Option Refusal). every_record (after_refusal o c Flip)) parts.0 ∙ every_done c Flip;
       placed = ap (λ (o : Option Refusal). placing (after_refusal o c Flip)) parts.0 ∙ place_done c Flip tt;
     }
 

@@ -26,7 +26,7 @@ use Rattle.graph_words.specs.Places.{Places, address_of}
 use Rattle.graph_words.proofs.Places.Addresses.{some_address}
 use Rattle.collection_words.specs.Placed.{HaveOwnNames}
 use Rattle.collection_words.specs.Placing.{Placing, moved_by, moved_by_all, placing_of}
-use Rattle.heap_model.specs.Core.{Core, IsRun, after, all_records, answer, core_refusal, done, event_records, granted_by, own_records, placing, with_entry}
+use Rattle.heap_model.specs.Core.{Core, IsRun, after, every_record, answer, core_refusal, done, event_records, granted_by, own_records, placing, with_entry}
 use Rattle.heap_model.proofs.Run.Calls.{step_history}
 use Rattle.core_laws.proofs.Run.Events.{step_reached}
 use Rattle.core_laws.proofs.Step.Events.{may_go}
@@ -45,7 +45,7 @@ use Rattle.limit_laws.proofs.Copies.Own.{own_all}
 use Rattle.limit_laws.proofs.Copies.Quiet.{IsStill}
 use Rattle.limit_laws.proofs.Copies.Scans.{AreKept}
 use Rattle.limit_laws.proofs.Copies.References.{GraysRefer, KeepsReferences, StaysReferring}
-use Rattle.limit_laws.proofs.Events.Appended.{all_done}
+use Rattle.limit_laws.proofs.Events.Appended.{every_done}
 use Rattle.limit_laws.proofs.Events.Steps.{IsDone, granted as is_granted, refused, step_done}
 use Rattle.limit_laws.proofs.Runs.{run_entries, since_run}
 
@@ -56,7 +56,7 @@ pub record IsFollowed (c e : Core) : Type 0 where
   pub reached : IsReached e
   pub led : KeepsLed (IsKept c) (sealed_graph c) (account e.history) e (reached_agrees e reached).behind
   pub more : List Record
-  pub all : all_records e ≡ all_records c ++ more
+  pub all : every_record e ≡ every_record c ++ more
   pub left : (moved_by_all (placing c) more).remaining ≡ e.remaining
   pub copied : AreKept (IsKept c) (moved_by_all (placing c) more).places
   pub ts : List Transaction  -- that were sealed since
@@ -137,7 +137,7 @@ module _ (c e f : Core) (event : Event) (r : Reply) (b : IsFollowed c e) (there 
             subst (KeepsLed (IsKept c) g (account f.history) f) (sym same)
             (subst (λ (x : Core). KeepsLed (IsKept c) g (account f.history) x before) (sym is) (led_entry (IsKept c) g (account f.history) e before event r (led_still (IsKept c) g (account e.history) (account f.history) e before still b.led)));
         more = b.more;
-        all = ap all_records is ∙ b.all;
+        all = ap every_record is ∙ b.all;
         left = b.left ∙ ap (λ (x : Core). x.remaining) (sym is);
         copied = b.copied;
         ts = b.ts;
@@ -202,7 +202,7 @@ module _ (c e f : Core) (event : Event) (r : Reply) (b : IsFollowed c e) (there 
       reached = there;
       led = stays.led.led;
       more = b.more ++ rs;
-      all = ap all_records is ∙ all_done e event ∙ ap (λ (x : List Record). x ++ rs) b.all ∙ append_assoc (all_records c) b.more rs;
+      all = ap every_record is ∙ every_done e event ∙ ap (λ (x : List Record). x ++ rs) b.all ∙ append_assoc (every_record c) b.more rs;
       left = ap (λ (p : Placing). p.remaining) split ∙ same_left M.places e.places e.remaining rs moves.plain ∙ sym remains;
       copied = subst (λ (p : Placing). AreKept (IsKept c) p.places) (sym split) (more_kept (IsKept c) e M.places rs moves.plain own (granted_new (IsKept c) g is_kept e valid b.reached.locked n led event none) b.copied);
       ts = b.ts ++ moves.seals.ts;
@@ -262,7 +262,7 @@ followed c d events objects words reached flips of run none =
 
 -- where its copies stand
 pub copied_is : (c d : Core) (b : IsFollowed c d) → copied_since c d ≡ (moved_by_all (placing c) b.more).places
-copied_is c d b = ap (λ (rs : List Record). (moved_by_all (placing c) rs).places) (ap (drop (length (all_records c))) b.all ∙ drop-append_seam (all_records c) b.more)
+copied_is c d b = ap (λ (rs : List Record). (moved_by_all (placing c) rs).places) (ap (drop (length (every_record c))) b.all ∙ drop-append_seam (every_record c) b.more)
 
 -- so it has copied nothing but what is kept
 pub copied_kept : (c d : Core) (b : IsFollowed c d) (id : Id) → is_some (address_of (copied_since c d) id) ≡ true → IsKept c id

@@ -4,7 +4,7 @@ use Rattle.gate_slot.specs.Passing.{Passes}
 use Rattle.page_store.specs.Frame.{spare}
 use Rattle.page_store.specs.Page.{store_calls}
 use Rattle.page_store.proofs.GateLaws.{calls_by_gates}
-use Rattle.log_machine.specs.Origin.{records_below}
+use Rattle.page_redo.specs.Origin.{records_below}
 use Rattle.page_redo.specs.Pages.{pages_in}
 use Rattle.page_redo.specs.Prefix.{EachHoldsPrefix}
 use Rattle.page_cache.specs.CacheState.{cache_log}
