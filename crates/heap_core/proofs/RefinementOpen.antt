@@ -1,6 +1,6 @@
 -- A heap that has just been opened.
 use Rattle.std.specs.Prelude.{IsTrue, IsFalse, MatchOption}
-use Rattle.std.proofs.Common.{◌≡◌, ℕ, ◌+◌, ◌<◌, ◌≤◌, max, get_or, Bool, true, false, List, [], length, Option, None, Some, refl, sym, ap, ◌∙◌, subst, arith}
+use Rattle.std.proofs.Common.{◌≡◌, ℕ, ◌+◌, ◌*◌, ◌<◌, ◌≤◌, max, get_or, Bool, true, false, List, [], length, Option, None, Some, refl, sym, ap, ◌∙◌, subst, arith}
 use Rattle.std.specs.FinMap.{get-empty}
 use Rattle.std.specs.FinSet as set
 use Rattle.std.specs.FinSet.{contains, contains-empty}
@@ -43,6 +43,12 @@ use Rattle.object_locks.specs.Holdings.{Holdings, holding_cmp}
 use Rattle.txn_table.specs.Table.{TransactionState, TableState, transaction_of, new_table}
 use Rattle.heap_engine.specs.declared.engine.Engine.{Engine}
 use Rattle.heap_engine.specs.EngineState as state
+use Rattle.image_plan.specs.declared.plan.Plan.{Plan}
+use Rattle.gated_log.specs.LogState.{log_room}
+use Rattle.page_cache.specs.CacheState.{cache_log, cache_pages}
+use Rattle.logged_pages.specs.declared.logged.LoggedPages.{LoggedPages}
+use Rattle.logged_pages.specs.State.{cache_of, log_of}
+use Rattle.page_cache.specs.declared.cache.PageCache.{PageCache}
 use Rattle.heap_engine.specs.EngineState.{memory}
 use Rattle.disk_model.specs.declared.disk.Disk.{Ghosts}
 use Rattle.heap_engine.specs.Refinement.{KnowsPages, IsEngine}
@@ -108,13 +114,14 @@ pub record IsFresh (found : Recovered) (m : Memory) : Type 0 where
   pub locks : m.locks ≡ set.empty
   pub sealed : m.sealed ≡ 0
 
-pub is_fresh : (found : Recovered) (spaces : SpacesState) (runs : Option Collection) (table first : TableState) (m : Memory) → m ≡ state.opened found.log found.cache spaces runs table.next
+pub is_fresh : (found : Recovered) (pages : LoggedPages) → log_of pages ≡ found.log → cache_of pages ≡ found.cache → (spaces : SpacesState) (runs : Option Collection) (table first : TableState) (m : Memory)
+    → m ≡ state.opened pages spaces runs table.next
     → spaces ≡ spaces_of found.state → runs ≡ found.state.collection → table ≡ record { next = found.state.next; active = first.active } → IsFresh found m
-is_fresh found spaces runs table first m is space run transactions = record {
-  log = ap (λ x. x.log) is;
-  words = ap (λ x. x.words) is;
-  lsns = ap (λ x. x.lsns) is;
-  store = ap (λ x. x.store) is;
+is_fresh found pages log cache spaces runs table first m is space run transactions = record {
+  log = ap (λ x. x.log) is ∙ log;
+  words = ap (λ x. x.words) is ∙ ap (λ (k : PageCache). (cached k).words) cache;
+  lsns = ap (λ x. x.lsns) is ∙ ap (λ (k : PageCache). (cached k).lsns) cache;
+  store = ap (λ x. x.store) is ∙ ap (λ (k : PageCache). cache_store k) cache;
   spaces = ap (λ x. x.spaces) is ∙ space;
   collection = ap (λ x. x.collection) is ∙ run;
   table = ap (λ x. x.table) is ∙ ap (λ t. new_table t.next) transactions;
@@ -209,12 +216,15 @@ opened_disk_holds stored gates places g new may_leave legal held only = record {
 }
 
 -- Numbers of every heap that was opened: there is a next transaction, the words are those of both spaces, the log's next record is new to each
--- page, and what is gray stands in the words that are used.
+-- page, the pages lie behind the log, and what is gray stands in the words that are used.
 pub record IsBounded (found : Recovered) : Type 0 where
   pub next : 1 ≤ found.state.next
   pub size : length (cached found.cache).words ≡ words_in found.state.pages
   pub new : EachLacks (log_count found.log + 1) (cached found.cache)
   pub few : found.state.pages ≤ 16384
+  pub whole : length (cached found.cache).words ≡ 64 * cache_pages found.cache
+  pub many : cache_pages found.cache ≤ 32768
+  pub behind : log_room found.log ≡ cache_log found.cache
   pub gray : (k : Collection) → found.state.collection ≡ Some k → (at : ℕ) → contains k.gray at ≡ true → at < found.state.base + found.state.used
   pub within : (k : Collection) → found.state.collection ≡ Some k → IsWithin found.state.pages k
 
@@ -241,6 +251,9 @@ opened_bounds stored found shaped recovered =
       size = size;
       new = next_is_new stored found shaped recovered;
       few = omega arith;
+      whole = omega (arith, size, pages, ap (λ (of : Plan). of.pages) recovered.plan);
+      many = omega (arith, few, ap (λ (of : Plan). of.pages) recovered.plan);
+      behind = recovered.room ∙ sym (ap (λ (of : Plan). of.log_bytes) recovered.plan);
       gray = λ k run at gray.
           let graph = address_found stored shaped in
           let laid = graph.2.whole.holds.laid in

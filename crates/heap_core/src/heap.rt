@@ -34,6 +34,7 @@ use graph_model::{Event, Reply};
 use heap_engine::Engine;
 use heap_history::History;
 use heap_recovery::{Recovered, recover};
+use logged_pages::LoggedPages;
 use std::alloc::{AllocError, Global};
 use txn_table::TxnTable;
 
@@ -78,7 +79,8 @@ impl<D: Disk> Heap<D> {
                 let commits = state.commits();
                 let spaces = state.spaces();
                 let collection = state.into_collection();
-                let engine = Engine::new(alloc, log, cache, spaces, collection, table);
+                let pages = LoggedPages::new(log, cache);
+                let engine = Engine::new(alloc, pages, spaces, collection, table);
                 let core = HeapCore::new(alloc, engine, commits);
                 Ok(Heap { disk, core })
             }

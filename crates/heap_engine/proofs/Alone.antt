@@ -24,7 +24,7 @@ use Rattle.graph_model.specs.Plain.{first_of_two}
 use Rattle.graph_model.specs.declared.reply.Refusal.TheVariants.{Exhausted, LogFull}
 use Rattle.heap_spaces.specs.Spaces.{free_words, open_words}
 use Rattle.log_machine.specs.Machine.{end_bytes}
-use Rattle.page_cache.specs.CacheState.{cached}
+use Rattle.logged_pages.specs.State.{log_of, pages_in_memory}
 use Rattle.stability_tracker.specs.Promotion.{need}
 use Rattle.txn_table.specs.Table.{TransactionState, transaction_of}
 use Rattle.heap_memory.specs.Memory.{Memory}
@@ -104,14 +104,14 @@ alone_bytes m t alone = ap (λ (rs : List Record). length (spellings rs)) alone
 
 module _ (e : Engine) (s : ℕ) (t : TransactionState) (is : transaction_of e.table s ≡ Some t) where
   own : end_bytes (length t.undo) ≤ e.reserved
-  own = kept_own e.table (length (cached e.cache).words) e.reserved e.sealed s t e.sound is
+  own = kept_own e.table (length (pages_in_memory e.pages).words) e.reserved e.sealed s t e.sound is
 
   -- the log has room for its Commit, and for what ends the others
-  pub alone_room : log_used_with e.log 5 + reserved_without e.table t ≤ log_room e.log
-  alone_room = omega (arith, own, e.room, e.sound.kept, used_with_need e.log 5, need_little e.log 5)
+  pub alone_room : log_used_with (log_of e.pages) 5 + reserved_without e.table t ≤ log_room (log_of e.pages)
+  alone_room = omega (arith, own, e.room, e.sound.kept, used_with_need (log_of e.pages) 5, need_little (log_of e.pages) 5)
 
   -- and the memory
-  pub alone_spare : HasSpare e.log (5 + reserved_without e.table t)
+  pub alone_spare : HasSpare (log_of e.pages) (5 + reserved_without e.table t)
   alone_spare = omega (arith, own, e.spare, e.sound.kept)
 
   no_refusal : SealsAlone (memory e) (Some t) → seal_refusal_of (memory e) (Some t) ≡ None
@@ -119,10 +119,10 @@ module _ (e : Engine) (s : ℕ) (t : TransactionState) (is : transaction_of e.ta
       let space : space_refusal e.spaces (sealing_need (memory e) t) ≡ None =
       ap (space_refusal e.spaces) (alone_need (memory e) t alone) ∙ ap (λ b. if b then Some (Exhausted 0 (free_words e.spaces) e.spaces.owed) else None) (not_less (open_words e.spaces) 0 (omega arith)) in
       let five = alone_bytes (memory e) t alone in
-      let fits : log_used e.log + log_need e.log 5 + reserved_without e.table t ≤ log_room e.log = omega (arith, own, e.room, e.sound.kept, need_little e.log 5) in
-      let log : no_room e.log (log_need e.log 5) (reserved_without e.table t) ≡ None =
-      ap (λ b. if b then Some (LogFull (log_used e.log) (log_need e.log 5) (reserved_without e.table t)) else None) (not_less (log_room e.log) (log_used e.log + log_need e.log 5 + reserved_without e.table t) fits) in
-      (λ i. first_of_two (space i) (no_room e.log (log_need e.log (five i)) (reserved_without e.table t))) ∙ log
+      let fits : log_used (log_of e.pages) + log_need (log_of e.pages) 5 + reserved_without e.table t ≤ log_room (log_of e.pages) = omega (arith, own, e.room, e.sound.kept, need_little (log_of e.pages) 5) in
+      let log : no_room (log_of e.pages) (log_need (log_of e.pages) 5) (reserved_without e.table t) ≡ None =
+      ap (λ b. if b then Some (LogFull (log_used (log_of e.pages)) (log_need (log_of e.pages) 5) (reserved_without e.table t)) else None) (not_less (log_room (log_of e.pages)) (log_used (log_of e.pages) + log_need (log_of e.pages) 5 + reserved_without e.table t) fits) in
+      (λ i. first_of_two (space i) (no_room (log_of e.pages) (log_need (log_of e.pages) (five i)) (reserved_without e.table t))) ∙ log
 
   -- so it is granted
   pub alone_granted : SealsAlone (memory e) (transaction_of e.table s) → seal_refusal (memory e) s ≡ None

@@ -1,5 +1,5 @@
 -- A log to which records are appended, one after another.
-use Rattle.std.proofs.Common.{◌≡◌, ℕ, ◌+◌, ◌<◌, ◌≤◌, List, [], ◌∷◌, ◌++◌, length, refl, sym, ap, ◌∙◌, subst, arith, append_assoc, length-append}
+use Rattle.std.proofs.Common.{◌≡◌, ℕ, ◌+◌, ◌<◌, ◌≤◌, ◌^◌, List, [], ◌∷◌, ◌++◌, length, refl, sym, ap, ◌∙◌, subst, arith, append_assoc, length-append}
 use Rattle.std.proofs.lemmas.Bool.Decides.{nat_tests}
 use Rattle.std.proofs.lemmas.List.{append-nil}
 use Rattle.std.proofs.lemmas.List.Concat.{flat_map-append}
@@ -9,9 +9,8 @@ use Rattle.gated_log.specs.LogState.{log_room, log_tail, log_used, log_used_with
 use Rattle.log_records.specs.declared.Record.{Record}
 use Rattle.log_records.specs.Record.{spelling, spellings}
 use Rattle.log_records.proofs.RecordLaws.{some_spelling}
-use Rattle.heap_memory.specs.Leaves.{Adds}
-use Rattle.heap_engine.specs.Appended.{IsAppended}
-use Rattle.heap_engine.proofs.Spare.{size_after}
+use Rattle.logged_pages.specs.Appended.{IsAppended}
+use Rattle.logged_pages.proofs.Spare.{size_after}
 
 -- the bytes of records and more of them
 pub spelled_more : (records more : List Record) → length (spellings (records ++ more)) ≡ length (spellings records) + length (spellings more)
@@ -45,17 +44,6 @@ appended_more old mid new records rec before place added used count memory =
       count = omega (arith, count, before.count, length-append records (rec ∷ []));
       memory = omega (arith, memory, before.memory);
     }
-
--- the bytes that are used then
-pub used_appended : (old new : Log) (records : List Record) → IsAppended old new records → log_used new ≡ log_used_with old (length (spellings records))
-used_appended old new records is = λ i. used_bytes (is.place.tail i) (is.size i)
-
--- and the memory that is left
-pub spare_appended : (old new : Log) (records : List Record) (more : ℕ) → IsAppended old new records → HasSpare old (length (spellings records) + more) → HasSpare new more
-spare_appended old new records more is spare = omega (arith, is.size, is.memory, spare)
-
-pub adds_appended : (old new : Log) (records : List Record) → IsAppended old new records → Adds old new records
-adds_appended old new records is = record { place = is.place; kept = is.kept }
 
 used_next : (tail size own rest : ℕ) → 4 ≤ size → 0 < own → used_bytes tail size + need_bytes size own ≤ used_bytes tail (size + (own + rest))
 used_next tail size own rest head some = grind (arith, nat_tests)
@@ -98,3 +86,10 @@ appended_bytes old new records bytes count spelled counted place added size more
   count = omega (arith, more, counted);
   memory = memory;
 }
+
+few_bytes : (tail buffer room : ℕ) → used_bytes tail buffer ≤ room → room < 2 ^ 32 → tail + buffer < 2 ^ 33
+few_bytes tail buffer room fits small = grind (arith, nat_tests)
+
+-- a log has few records
+pub few_records : (log : Log) → log_count log < 2 ^ 33
+few_records log = let few = few_bytes (log_tail log) (buffer_size log) (log_room log) log.fits log.small in omega (arith, few, log.few_forced, log.few_waiting)

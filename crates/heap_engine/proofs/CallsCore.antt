@@ -1,7 +1,6 @@
 -- What an engine answers to a call, and leaves of memory, is what the core does.
 use Rattle.std.proofs.Common.{◌≡◌, ℕ, ◌+◌, ◌*◌, Option, Some, None, Result, Ok, Err, refl, sym, ap, ◌∙◌, subst}
 use Rattle.std.specs.Prelude.{IfOk, List, length, is_some, if◌then◌else◌}
-use Rattle.std.specs.declared.alloc.AllocError.{AllocError}
 use Rattle.graph_model.specs.declared.event.Event.{Event}
 use Rattle.graph_model.specs.declared.event.Event.TheVariants.{Begin, Root, New, Put, Clear, Link, Drop, Get, Same, Len, Seal, Abort, Flip, Scan}
 use Rattle.graph_model.specs.declared.reply.Refusal.{Refusal}
@@ -59,16 +58,16 @@ module _ (m n : Memory) (c : Core) (is : IsMemory m (account c.history) c) (vali
   abbrev DoesIt : Reply → Event → Type 0
   DoesIt reply event = Does c event reply n
 
-  abbrev DoesOr : Result Reply AllocError → Event → Type 0
+  abbrev DoesOr : {E : Type 0} → Result Reply E → Event → Type 0
   DoesOr result event = IfOk result (λ reply. Does c event reply n)
 
-  begin_result : (result : Result Reply AllocError) → IsOfSession (Begin s) → IfOk result (λ reply. reply ≡ reply_of (begin_refusal m s) (answer.Begun m.table.next))
+  begin_result : {E : Type 0} (result : Result Reply E) → IsOfSession (Begin s) → IfOk result (λ reply. reply ≡ reply_of (begin_refusal m s) (answer.Begun m.table.next))
       → ((k : ℕ) → result ≡ Ok (answer.Begun k) → Begins m n s) → ((why : Refusal) → result ≡ Ok (answer.Refused why) → n ≡ m) → DoesOr result (Begin s)
   begin_result (Err e) one replied done stays = tt
   begin_result (Ok reply) one replied done stays =
       begin_does m n c valid runs is s (begin_refused m c valid runs is s one) reply replied (λ k begun. done k (ap Ok begun)) (λ why refused. stays why (ap Ok refused))
 
-  pub begins : (result : Result Reply AllocError) → event ≡ Begin s → IsOfSession event → IfOk result (λ reply. reply ≡ reply_of (begin_refusal m s) (answer.Begun m.table.next))
+  pub begins : {E : Type 0} (result : Result Reply E) → event ≡ Begin s → IsOfSession event → IfOk result (λ reply. reply ≡ reply_of (begin_refusal m s) (answer.Begun m.table.next))
       → ((k : ℕ) → result ≡ Ok (answer.Begun k) → Begins m n s) → ((why : Refusal) → result ≡ Ok (answer.Refused why) → n ≡ m) → DoesOr result event
   begins result form one replied done stays = subst (DoesOr result) (sym form) (begin_result result (subst IsOfSession form one) replied done stays)
 
@@ -80,40 +79,39 @@ module _ (m n : Memory) (c : Core) (is : IsMemory m (account c.history) c) (vali
       → (reply ≡ answer.Done → SetsHandle m n s h None) → ((why : Refusal) → reply ≡ answer.Refused why → n ≡ m) → DoesIt reply event
   drops h reply form replied done stays = subst (DoesIt reply) (sym form) (drop_does m n c valid is s h (drop_refused m c valid runs is s h) reply replied done stays)
 
-  pub makes : (h len : ℕ) (result : Result Reply AllocError) → event ≡ New s h len → IfOk result (λ reply. reply ≡ reply_of (new_refusal (own m s) h len) answer.Done)
+  pub makes : {E : Type 0} (h len : ℕ) (result : Result Reply E) → event ≡ New s h len → IfOk result (λ reply. reply ≡ reply_of (new_refusal (own m s) h len) answer.Done)
       → (result ≡ Ok answer.Done → Makes m n s h len) → ((why : Refusal) → result ≡ Ok (answer.Refused why) → n ≡ m) → DoesOr result event
   makes h len result form replied done stays = subst (DoesOr result) (sym form) (new_does m n c valid is s h len (new_refused m c valid runs is s h len) result replied done stays)
 
-  pub puts : (h i v : ℕ) (result : Result Reply AllocError) → event ≡ Put s h i v → IfOk result (λ reply. reply ≡ reply_of (put_refusal m s h i v) answer.Done)
+  pub puts : {E : Type 0} (h i v : ℕ) (result : Result Reply E) → event ≡ Put s h i v → IfOk result (λ reply. reply ≡ reply_of (put_refusal m s h i v) answer.Done)
       → (result ≡ Ok answer.Done → WritesHeld m n s h i (4 * v + 1)) → ((why : Refusal) → result ≡ Ok (answer.Refused why) → IsAsItWas m n) → DoesOr result event
   puts h i v result form replied done stays = subst (DoesOr result) (sym form) (put_does m n c valid runs is s h i v (put_refused m c valid runs is s h i v) result replied done stays)
 
-  pub clears : (h i : ℕ) (result : Result Reply AllocError) → event ≡ Clear s h i → IfOk result (λ reply. reply ≡ reply_of (clear_refusal m s h i) answer.Done)
+  pub clears : {E : Type 0} (h i : ℕ) (result : Result Reply E) → event ≡ Clear s h i → IfOk result (λ reply. reply ≡ reply_of (clear_refusal m s h i) answer.Done)
       → (result ≡ Ok answer.Done → WritesHeld m n s h i 0) → ((why : Refusal) → result ≡ Ok (answer.Refused why) → IsAsItWas m n) → DoesOr result event
   clears h i result form replied done stays = subst (DoesOr result) (sym form) (clear_does m n c valid runs is s h i (clear_refused m c valid runs is s h i) result replied done stays)
 
-  pub links : (h i h2 : ℕ) (result : Result Reply AllocError) → event ≡ Link s h i h2 → IfOk result (λ reply. reply ≡ reply_of (link_refusal m s h i h2) answer.Done)
+  pub links : {E : Type 0} (h i h2 : ℕ) (result : Result Reply E) → event ≡ Link s h i h2 → IfOk result (λ reply. reply ≡ reply_of (link_refusal m s h i h2) answer.Done)
       → (result ≡ Ok answer.Done → Links m n s h i h2) → ((why : Refusal) → result ≡ Ok (answer.Refused why) → IsAsItWas m n) → DoesOr result event
   links h i h2 result form replied done stays = subst (DoesOr result) (sym form) (link_does m n c valid runs is s h i h2 (link_refused m c valid runs is s h i h2) result replied done stays)
 
-  get_result : (h i h2 : ℕ) (result : Result Reply AllocError) → IfOk result (λ reply. reply ≡ reply_of (get_refusal m s h i h2) (get_reply m s h i))
+  get_result : {E : Type 0} (h i h2 : ℕ) (result : Result Reply E) → IfOk result (λ reply. reply ≡ reply_of (get_refusal m s h i h2) (get_reply m s h i))
       → IfOk result (λ reply. IsGranted reply → Gets m n s h i h2) → ((why : Refusal) → result ≡ Ok (answer.Refused why) → IsAsItWas m n) → DoesOr result (Get s h i h2)
   get_result h i h2 (Err e) replied done stays = tt
   get_result h i h2 (Ok reply) replied done stays =
       get_does m n c valid runs is s h i h2 (get_refused m c valid runs is s h i h2) reply replied done (λ why refused. stays why (ap Ok refused))
 
-  pub gets : (h i h2 : ℕ) (result : Result Reply AllocError) → event ≡ Get s h i h2 → IfOk result (λ reply. reply ≡ reply_of (get_refusal m s h i h2) (get_reply m s h i))
+  pub gets : {E : Type 0} (h i h2 : ℕ) (result : Result Reply E) → event ≡ Get s h i h2 → IfOk result (λ reply. reply ≡ reply_of (get_refusal m s h i h2) (get_reply m s h i))
       → IfOk result (λ reply. IsGranted reply → Gets m n s h i h2) → ((why : Refusal) → result ≡ Ok (answer.Refused why) → IsAsItWas m n) → DoesOr result event
   gets h i h2 result form replied done stays = subst (DoesOr result) (sym form) (get_result h i h2 result replied done stays)
 
-  pub seals : (result : Result Reply AllocError) → event ≡ Seal s → IfOk result (λ reply. reply ≡ reply_of (seal_refusal m s) (answer.Sealed (m.sealed + 1)))
+  pub seals : {E : Type 0} (result : Result Reply E) → event ≡ Seal s → IfOk result (λ reply. reply ≡ reply_of (seal_refusal m s) (answer.Sealed (m.sealed + 1)))
       → ((number : ℕ) → result ≡ Ok (answer.Sealed number) → Seals m n s) → ((why : Refusal) → result ≡ Ok (answer.Refused why) → IsAsItWas m n) → DoesOr result event
   seals result form replied done stays = subst (DoesOr result) (sym form) (seal_does m n c valid runs is s (seal_refused m c valid runs is s) result replied done stays)
 
-  pub aborts : (reply : Reply) → event ≡ Abort s → reply ≡ reply_of (end_refusal (own m s)) answer.Aborted
-      → (reply ≡ answer.Aborted → Aborts m n s) → ((why : Refusal) → reply ≡ answer.Refused why → n ≡ m) → DoesIt reply event
-  aborts reply form replied done stays =
-      subst (DoesIt reply) (sym form) (abort_does m n c valid runs is s (abort_refused m c valid runs is s) (Ok reply) replied (λ is. done (cc is)) (λ why is. as_was m n (stays why (cc is))))
+  pub aborts : {E : Type 0} (result : Result Reply E) → event ≡ Abort s → IfOk result (λ reply. reply ≡ reply_of (end_refusal (own m s)) answer.Aborted)
+      → (result ≡ Ok answer.Aborted → Aborts m n s) → ((why : Refusal) → result ≡ Ok (answer.Refused why) → n ≡ m) → DoesOr result event
+  aborts result form replied done stays = subst (DoesOr result) (sym form) (abort_does m n c valid runs is s (abort_refused m c valid runs is s) result replied done (λ why refused. as_was m n (stays why refused)))
 
 module _ (m : Memory) (c : Core) (is : IsMemory m (account c.history) c) (valid : IsValid c) (runs : RunsLocked c.g0 c.first c.history) (event : Event) (s : ℕ) where
   pub compares : (h h2 : ℕ) (reply : Reply) → event ≡ Same s h h2 → reply ≡ reply_of (same_refusal m s h h2) (same_reply m s h h2) → Does c event reply m
@@ -154,42 +152,42 @@ module _ (m : Memory) where
       either (scan_refusal m replied.0) (scan_reply m replied.0) reply P replied.2 (λ given. scan_granted reply P m.collection replied.0 given scanned collected still) refused
 
 -- a call that must have its memory does not lack it
-pub never_lacks : (result : Result Reply AllocError) (e : AllocError) (reply : Reply) → result ≡ Err e → result ≡ Ok reply → ⊥
+pub never_lacks : {E : Type 0} (result : Result Reply E) (e : E) (reply : Reply) → result ≡ Err e → result ≡ Ok reply → ⊥
 never_lacks result e reply is ok = cc (is, ok)
 
 -- So is one of a collection.
 module _ (m n : Memory) (c : Core) (is : IsMemory m (account c.history) c) (valid : IsValid c) (event : Event) where
-  abbrev CameTo : Result Reply AllocError → Event → Type 0
+  abbrev CameTo : {E : Type 0} → Result Reply E → Event → Type 0
   CameTo result event = IfOk result (λ reply. Does c event reply n)
 
-  flip_result : (result : Result Reply AllocError) → IfOk result (AnswersFlip m) → ((objects words : ℕ) → result ≡ Ok (answer.Flipped objects words) → (roots : List ℕ) × Flips m n roots)
+  flip_result : {E : Type 0} (result : Result Reply E) → IfOk result (AnswersFlip m) → ((objects words : ℕ) → result ≡ Ok (answer.Flipped objects words) → (roots : List ℕ) × Flips m n roots)
       → (result ≡ Ok answer.Collecting → n ≡ m) → ((why : Refusal) → result ≡ Ok (answer.Refused why) → IsAsItWas m n) → CameTo result Flip
   flip_result (Err e) replied flipped still stays = tt
   flip_result (Ok reply) replied flipped still stays =
       flip_does m c valid is n replied.0 replied.1 (flip_refused m c valid is replied.0 replied.1) reply replied.2 (λ objects words given. flipped objects words (ap Ok given)) (λ given. still (ap Ok given))
       (λ why given. stays why (ap Ok given))
 
-  pub flips : (result : Result Reply AllocError) → event ≡ Flip → IfOk result (AnswersFlip m) → ((objects words : ℕ) → result ≡ Ok (answer.Flipped objects words) → (roots : List ℕ) × Flips m n roots)
+  pub flips : {E : Type 0} (result : Result Reply E) → event ≡ Flip → IfOk result (AnswersFlip m) → ((objects words : ℕ) → result ≡ Ok (answer.Flipped objects words) → (roots : List ℕ) × Flips m n roots)
       → (result ≡ Ok answer.Collecting → n ≡ m) → ((why : Refusal) → result ≡ Ok (answer.Refused why) → IsAsItWas m n) → CameTo result event
   flips result form replied flipped still stays = subst (CameTo result) (sym form) (flip_result result replied flipped still stays)
 
-  scan_result : (result : Result Reply AllocError) → IfOk result (AnswersScan m) → ((page objects words : ℕ) → result ≡ Ok (answer.Scanned page objects words) → Scans m n (Some page))
+  scan_result : {E : Type 0} (result : Result Reply E) → IfOk result (AnswersScan m) → ((page objects words : ℕ) → result ≡ Ok (answer.Scanned page objects words) → Scans m n (Some page))
       → ((used : ℕ) → result ≡ Ok (answer.Collected used) → Scans m n None) → (result ≡ Ok answer.Idle → n ≡ m) → ((why : Refusal) → result ≡ Ok (answer.Refused why) → IsAsItWas m n) → CameTo result Scan
   scan_result (Err e) replied scanned collected still stays = tt
   scan_result (Ok reply) replied scanned collected still stays =
       scan_does m c valid is n replied.0 replied.1 (scan_refused m c valid is replied.0 replied.1) reply replied.2 (λ page objects words given. scanned page objects words (ap Ok given))
       (λ used given. collected used (ap Ok given)) (λ given. still (ap Ok given)) (λ why given. stays why (ap Ok given))
 
-  pub scans : (result : Result Reply AllocError) → event ≡ Scan → IfOk result (AnswersScan m) → ((page objects words : ℕ) → result ≡ Ok (answer.Scanned page objects words) → Scans m n (Some page))
+  pub scans : {E : Type 0} (result : Result Reply E) → event ≡ Scan → IfOk result (AnswersScan m) → ((page objects words : ℕ) → result ≡ Ok (answer.Scanned page objects words) → Scans m n (Some page))
       → ((used : ℕ) → result ≡ Ok (answer.Collected used) → Scans m n None) → (result ≡ Ok answer.Idle → n ≡ m) → ((why : Refusal) → result ≡ Ok (answer.Refused why) → IsAsItWas m n) → CameTo result event
   scans result form replied scanned collected still stays = subst (CameTo result) (sym form) (scan_result result replied scanned collected still stays)
 
 -- what follows for the answer of a call that had its memory
-pub answered : (result : Result Reply AllocError) (x : Reply) (P : Reply → Type 0) → result ≡ Ok x → IfOk result P → P x
+pub answered : {E : Type 0} (result : Result Reply E) (x : Reply) (P : Reply → Type 0) → result ≡ Ok x → IfOk result P → P x
 answered result x P was holds = subst (λ r. IfOk r P) was holds
 
 -- a call that may be refused was granted or refused
-pub granted_or : (o : Option Refusal) (gives : Reply) (result : Result Reply AllocError) (x : Reply) (P : Type 0) → result ≡ Ok x → IfOk result (λ reply. reply ≡ reply_of o gives) → (result ≡ Ok gives → P)
+pub granted_or : {E : Type 0} (o : Option Refusal) (gives : Reply) (result : Result Reply E) (x : Reply) (P : Type 0) → result ≡ Ok x → IfOk result (λ reply. reply ≡ reply_of o gives) → (result ≡ Ok gives → P)
     → ((why : Refusal) → result ≡ Ok (answer.Refused why) → P) → P
 granted_or o gives result x P was replied granted refused =
     either o gives x P (answered result x (λ reply. reply ≡ reply_of o gives) was replied) (λ done. granted (was ∙ ap Ok done)) (λ why stays. refused why (was ∙ ap Ok stays))

@@ -1,10 +1,9 @@
 -- An event that the disk did not cut short is a step of the core that an engine is.
 use Rattle.std.proofs.Common.{◌≡◌, inl, ℕ, ◌<◌, ◌≤◌, Bool, true, false, List, [], Option, Some, None, Result, Ok, Err, is_some, refl, sym, ap, ◌∙◌, subst, arith}
 use Rattle.std.specs.List.{AllByRecursion}
-use Rattle.std.specs.Prelude.{IsTrue, IsFalse, nat_lt, if◌then◌else◌}
+use Rattle.std.specs.Prelude.{IsTrue, nat_lt, if◌then◌else◌}
 use Rattle.disk_model.specs.declared.disk.Disk.{Ghosts}
 use Rattle.disk_model.specs.Moments.{LeavesOnly}
-use Rattle.gated_log.specs.LogState.{IsPlaced}
 use Rattle.graph_model.specs.declared.event.Event.{Event}
 use Rattle.graph_model.specs.declared.event.Event.TheVariants.{Force, Flip, Scan, Flush}
 use Rattle.graph_model.specs.declared.reply.Refusal.{Refusal}
@@ -22,10 +21,9 @@ use Rattle.image_plan.specs.declared.superblock.Super.{Super}
 use Rattle.image_plan.specs.Plan.{image_size}
 use Rattle.log_records.specs.declared.Record.{Record}
 use Rattle.page_redo.specs.Pages.{Pages}
-use Rattle.page_cache.specs.CacheState.{cache_store}
 use Rattle.page_store.specs.declared.store.PageStore.{PageStore}
 use Rattle.page_store.specs.Gates.{open_gates}
-use Rattle.page_store.specs.StoreState.{store_size, has_failed, Knows}
+use Rattle.page_store.specs.StoreState.{store_size, Knows}
 use Rattle.heap_model.specs.Core.{Core, core_refusal, answer, barrier_records, noted, transfers, done, after_refusal, after, calls, cut, with_entry, moved, own_records}
 use Rattle.heap_model.specs.CoreCrash.{held_of, IsLogged, IsSuperOf, IsCommitPrefix}
 use Rattle.heap_model.proofs.Step.Logged.{logged_step}
@@ -39,6 +37,7 @@ use Rattle.heap_memory.specs.Memory.{Memory}
 use Rattle.memory_laws.specs.CoreMemory.{IsMemory}
 use Rattle.memory_laws.proofs.Does.{Does}
 use Rattle.memory_laws.proofs.Step.Answered.{as_it_was}
+use Rattle.logged_pages.specs.State.{store_of}
 use Rattle.heap_engine.specs.declared.engine.Engine.{Engine}
 use Rattle.heap_engine.specs.declared.step_error.StepError.{StepError}
 use Rattle.heap_engine.specs.declared.step_error.StepError.TheVariants.{NoMemory}
@@ -177,14 +176,14 @@ cut_short c event old new is some sealed table = record {
   active = λ s. ap (λ (t : TableState). is_some (transaction_of t s)) table ∙ is_some_own (memory old) (account c.history) c is s;
 }
 
--- An event left the log where it was, and stored no page.
+-- An event stored no page, and the log and the pages have not failed.
 pub record LeavesStored (old new : Engine) : Type 0 where
-  pub log : IsPlaced old.log new.log
-  pub store : cache_store new.cache ≡ cache_store old.cache
+  pub store : store_of new.pages ≡ store_of old.pages
+  pub works : HasNotFailed old → HasNotFailed new
 
 -- so it did where it changed nothing
 pub leaves_same : (old new : Engine) → new ≡ old → LeavesStored old new
-leaves_same old new same = subst (λ (e : Engine). LeavesStored old e) (sym same) (record { log = record { at = refl; room = refl; tail = refl; forced = refl }; store = refl })
+leaves_same old new same = subst (λ (e : Engine). LeavesStored old e) (sym same) (record { store = refl; works = λ works. works })
 
 -- nothing but memory that was taken in advance is then other
 pub same_as_it_was : (old new : Engine) → new ≡ old → IsAsItWas (memory old) (memory new)
@@ -200,18 +199,12 @@ same_as_it_was old new same = subst (λ (e : Engine). IsAsItWas (memory old) (me
   sealed = refl;
 })
 
-pub leaves_as : (old new : Engine) → IsAsItWas (memory old) (memory new) → LeavesStored old new
-leaves_as old new same = record { log = same.log.place; store = same.store }
+pub leaves_as : (old new : Engine) → IsAsItWas (memory old) (memory new) → (HasNotFailed old → HasNotFailed new) → LeavesStored old new
+leaves_as old new same works = record { store = same.store; works = works }
 
 -- they still lie within the disk
 pub still_within : (old new : Engine) (extent : ℕ) → LeavesStored old new → LiesWithin old extent → LiesWithin new extent
-still_within old new extent leaves within = record {
-  log = omega (arith, leaves.log.at, leaves.log.room, within.log);
-  pages = subst (λ (x : PageStore). store_size x ≤ extent) (sym leaves.store) within.pages;
-}
-
-pub still_works : (old new : Engine) → LeavesStored old new → HasNotFailed old → HasNotFailed new
-still_works old new leaves works = subst (λ (x : PageStore). IsFalse (has_failed x)) (sym leaves.store) works
+still_within old new extent leaves within = subst (λ (x : PageStore). store_size x ≤ extent) (sym leaves.store) within
 
 module _ {D : Type 0} (g : Ghosts D) where
   -- an engine is a valid core
@@ -251,7 +244,7 @@ module _ {D : Type 0} (g : Ghosts D) where
         → ((c : Core) → IsMemory (memory old) (account c.history) c → IsValid c → RunsLocked c.g0 c.first c.history → Does c event reply (memory new)) → LeavesDisk event old new disk (Ok reply)
     call_leaves reply one moves leaves does = record {
       inside = still_within old new (g.extent disk) leaves;
-      works = still_works old new leaves;
+      works = leaves.works;
       core = record {
         core = λ c is reached.
             let valid = engine_valid c old disk is reached in
@@ -273,10 +266,10 @@ module _ {D : Type 0} (g : Ghosts D) where
     }
 
     -- one that had no memory
-    pub lack_leaves : IsAsItWas (memory old) (memory new) → LeavesDisk event old new disk (Err NoMemory)
-    lack_leaves same = record {
-      inside = still_within old new (g.extent disk) (leaves_as old new same);
-      works = still_works old new (leaves_as old new same);
+    pub lack_leaves : IsAsItWas (memory old) (memory new) → (HasNotFailed old → HasNotFailed new) → LeavesDisk event old new disk (Err NoMemory)
+    lack_leaves same works = record {
+      inside = still_within old new (g.extent disk) (leaves_as old new same works);
+      works = works;
       core = record {
         core = λ c is reached. tt;
         still = λ c is reached none. refl;

@@ -8,6 +8,7 @@ use Rattle.graph_model.specs.declared.reply.Reply.{Reply}
 use Rattle.graph_model.specs.History.{account}
 use Rattle.image_plan.specs.declared.plan.Plan.{Plan}
 use Rattle.image_plan.specs.declared.superblock.Super.{Super}
+use Rattle.logged_pages.specs.State.{cache_of}
 use Rattle.page_cache.specs.CacheState.{cache_pages}
 use Rattle.page_redo.specs.Pages.{pages_in}
 use Rattle.core_laws.proofs.Step.Flush.{flush_granted, flush_refused, calls-flushed}
@@ -25,10 +26,10 @@ use Rattle.heap_engine.specs.declared.engine.Engine.{Engine}
 use Rattle.heap_engine.specs.EngineState.{memory}
 
 -- a page of memory that is not there is not there in the core
-pub past : (c : Core) (w : Engine) (p n : ℕ) → IsMemory (memory w) (account c.history) c → n ≡ cache_pages w.cache → n ≤ p → pages_in c.pages ≤ p
+pub past : (c : Core) (w : Engine) (p n : ℕ) → IsMemory (memory w) (account c.history) c → n ≡ cache_pages (cache_of w.pages) → n ≤ p → pages_in c.pages ≤ p
 past c w p n works is le = subst (λ (k : ℕ). k ≤ p) (is ∙ ap (λ (of : Plan). 2 * of.pages) works.pages.plan) le
 
-pub is_there : (w : Engine) (p n : ℕ) → n ≡ cache_pages w.cache → p < n → p < cache_pages w.cache
+pub is_there : (w : Engine) (p n : ℕ) → n ≡ cache_pages (cache_of w.pages) → p < n → p < cache_pages (cache_of w.pages)
 is_there w p n is lt = subst (λ (k : ℕ). p < k) is lt
 
 -- What a flush leaves of a core but for its entry: nothing else where it is refused,

@@ -1,13 +1,13 @@
 pub mod Alone
-pub mod Applied
+pub mod Answered
 pub mod Appended
 pub mod CallsCore
+pub mod Carried
 pub mod DeviceCalls
 pub mod Ends
 pub mod EventCore
 pub mod FieldRefused
 pub mod FlushCore
-pub mod FlushDisk
 pub mod ForceCore
 pub mod FlipAlong
 pub mod FlipLeft
@@ -18,8 +18,8 @@ pub mod GrayPages
 pub mod Left
 pub mod Made
 pub mod ObjectFields
+pub mod OnPages
 pub mod PlannedScan
-pub mod ReadAnswer
 pub mod ReserveLaws
 pub mod Reserved
 pub mod Room
@@ -32,7 +32,6 @@ pub mod Scanned
 pub mod SealLaws
 pub mod SessionsCore
 pub mod SessionsLeft
-pub mod Spare
 pub mod Stepped
 pub mod StoreCore
 pub mod Tables

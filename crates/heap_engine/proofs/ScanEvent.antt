@@ -1,7 +1,6 @@
 -- The event that scans the next page: which page that is, its records and its answers.
 use Rattle.std.proofs.Common.{◌≡◌, ℕ, ◌/◌, ◌<◌, List, Option, None, Some, Result, Ok, refl, sym, ap, ◌∙◌, subst, arith}
 use Rattle.std.specs.Prelude.{IfOk}
-use Rattle.std.specs.declared.alloc.AllocError.{AllocError}
 use Rattle.heap_spaces.specs.Collection.{Collection}
 use Rattle.heap_spaces.specs.Spaces.{SpacesState, IsSpaces}
 use Rattle.flip_copy.proofs.CopiesLaws.{used_within}
@@ -53,8 +52,8 @@ answers_refused refusal why answer reply is told = told ∙ sym (ap (λ (r : Opt
 
 -- What the scan of a page answers.
 
-pub answered : (result : Result Reply AllocError) (reply wanted : Reply) → result ≡ Ok reply → IfOk result (λ told. told ≡ wanted) → reply ≡ wanted
-answered result reply wanted is told = subst (λ (r : Result Reply AllocError). IfOk r (λ x. x ≡ wanted)) is told
+pub answered : {E : Type 0} (result : Result Reply E) (reply wanted : Reply) → result ≡ Ok reply → IfOk result (λ told. told ≡ wanted) → reply ≡ wanted
+answered result reply wanted is told = let P : Result Reply _ → Type 0 = λ r. IfOk r (λ x. x ≡ wanted) in subst P is told
 
 by_page : (m : Memory) (refusal : Option Refusal) (runs : Option Collection) (page p objects words : ℕ) → Scanned p objects words ≡ reply_of refusal (scan_reply_of m runs (Some page)) → p ≡ page
 by_page m (Some why) runs page p objects words is = absurd (cc is)

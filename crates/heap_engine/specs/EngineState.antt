@@ -1,12 +1,11 @@
 -- An engine, as contracts see it.
-use Rattle.std.specs.Prelude.{List, ℕ, ◌+◌, ◌≤◌, IsFalse, fold, Option}
+use Rattle.std.specs.Prelude.{◌≡◌, List, ℕ, false, fold, Option}
 use Rattle.std.specs.FinSet as set
-use Rattle.gated_log.specs.declared.log.Log.{Log}
-use Rattle.gated_log.specs.LogState.{log_place, log_room}
 use Rattle.graph_model.specs.History.{sessions}
 use Rattle.log_machine.specs.Machine.{taken_back}
-use Rattle.page_cache.specs.declared.cache.PageCache.{PageCache}
-use Rattle.page_cache.specs.CacheState.{cached, cache_store, cache_size, cache_failed}
+use Rattle.logged_pages.specs.declared.logged.LoggedPages.{LoggedPages}
+use Rattle.logged_pages.specs.State.{has_failed, log_of, pages_in_memory, store_of}
+use Rattle.logged_pages.specs.State as logged
 use Rattle.heap_spaces.specs.Collection.{Collection}
 use Rattle.heap_spaces.specs.Spaces.{SpacesState}
 use Rattle.txn_table.specs.Table.{TableState, new_table, transaction_of}
@@ -17,10 +16,10 @@ use Rattle.heap_engine.specs.declared.engine.Engine.{Engine}
 -- what it keeps in memory
 abbrev pub memory : Engine → Memory
 memory e = record {
-  log = e.log;
-  words = (cached e.cache).words;
-  lsns = (cached e.cache).lsns;
-  store = cache_store e.cache;
+  log = log_of e.pages;
+  words = (pages_in_memory e.pages).words;
+  lsns = (pages_in_memory e.pages).lsns;
+  store = store_of e.pages;
   spaces = e.spaces;
   collection = e.collection;
   table = e.table;
@@ -29,12 +28,12 @@ memory e = record {
 }
 
 -- what that of a heap keeps that was just opened
-abbrev pub opened : Log → PageCache → SpacesState → Option Collection → ℕ → Memory
-opened log cache spaces collection next = record {
-  log = log;
-  words = (cached cache).words;
-  lsns = (cached cache).lsns;
-  store = cache_store cache;
+abbrev pub opened : LoggedPages → SpacesState → Option Collection → ℕ → Memory
+opened pages spaces collection next = record {
+  log = log_of pages;
+  words = (pages_in_memory pages).words;
+  lsns = (pages_in_memory pages).lsns;
+  store = store_of pages;
   spaces = spaces;
   collection = collection;
   table = new_table next;
@@ -42,14 +41,13 @@ opened log cache spaces collection next = record {
   sealed = 0;
 }
 
--- Its log and its pages lie within a disk of that size.
-pub record LiesWithin (e : Engine) (extent : ℕ) : Type 0 where
-  pub log : log_place e.log + log_room e.log ≤ extent
-  pub pages : cache_size e.cache ≤ extent
+-- its log and its pages lie within a disk of that size
+abbrev pub LiesWithin : Engine → ℕ → Type 0
+LiesWithin e extent = logged.LiesWithin e.pages extent
 
--- no store of a page has failed
+-- no force and no store of a page has failed
 abbrev pub HasNotFailed : Engine → Type 0
-HasNotFailed e = IsFalse (cache_failed e.cache)
+HasNotFailed e = has_failed e.pages ≡ false
 
 -- the words without what the transactions of these sessions wrote: the writes of each are taken back, session after session
 abbrev pub without_writes : TableState → List ℕ → List ℕ → List ℕ
@@ -57,4 +55,4 @@ without_writes table words ss = fold (λ now s. taken_back (undo_if (transaction
 
 -- the words without what active transactions wrote
 abbrev pub committed : Engine → List ℕ
-committed e = without_writes e.table (cached e.cache).words sessions
+committed e = without_writes e.table (pages_in_memory e.pages).words sessions

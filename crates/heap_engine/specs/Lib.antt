@@ -1,7 +1,7 @@
-pub mod Appended
 pub mod Barrier
 pub mod Ending
 pub mod EngineState
+pub mod NoCall
 pub mod Refinement
 pub mod Reserve
 pub mod Seal

@@ -73,6 +73,17 @@ impl PagePlan {
         }
     }
 
+    /// How many records it has.
+    pub(crate) fn count(&self) -> u64
+        requires { length (planned_records self.now.scan) < 2 ^ 64 }
+        ensures { result ≡ length (planned_records self.now.scan) }
+    {
+        match &self.scan {
+            Some(scan) => scan.copy_count() + 1,
+            None => 0,
+        }
+    }
+
     /// The bytes of its records.
     pub(crate) fn bytes(&self) -> u64
         ensures { result ≡ length (spellings (planned_records self.now.scan)) }
@@ -221,7 +232,7 @@ impl Engine {
         };
         // The spaces lie in the words, and so does what is copied.
         let _end = self.spaces.next_free();
-        let mut words = WordSlice::of(self.cache.as_slice());
+        let mut words = WordSlice::of(self.pages.as_slice());
         // Words in memory don't fail, and those of a heap in a collection can be scanned.
         let scan = plan_scan(self.alloc, &mut words, &self.spaces, collection, page).map_err(
             |_| AllocError,

@@ -5,7 +5,7 @@ ghost use Rattle.flip_copy.specs.Plan.{AreCopiesOf};
 ghost use Rattle.heap_spaces.specs.Spaces.{flipped, with_copied};
 ghost use Rattle.log_machine.specs.Collecting.{pairs_of};
 ghost use Rattle.log_machine.specs.Translation.{translated_list};
-ghost use Rattle.page_cache.specs.CacheState.{cached};
+ghost use Rattle.logged_pages.specs.State.{pages_in_memory};
 ghost use Rattle.relocation.specs.Relocation.{IsRelocation};
 ghost use Rattle.heap_engine.specs.Reserve.{WroteBelow, GoAlongBelow};
 ghost use Rattle.graph_model.specs.Plain.{reply_of};
@@ -13,13 +13,15 @@ ghost use Rattle.graph_model.specs.declared.reply.Reply.TheVariants.{Flipped, Co
 
 use crate::barrier::{keep_copies, note_scan, take_copies};
 use crate::engine::{Engine, refused};
-use crate::logging::{carry_out, carry_out_scan};
+use crate::step_error::StepError;
+use disk_model::Disk;
 use flip_copy::{FlipPlan, plan_flip};
 use graph_model::Reply;
 use heap_spaces::{Collection, Spaces};
 use heap_words::FIELDS_AT;
 use log_machine::UndoEntry;
 use log_records::Record;
+use logged_pages::Listed;
 use object_layout::WordSlice;
 use page_scanner::next_gray_page;
 use relocation::moved_to;
@@ -32,12 +34,16 @@ impl Engine {
     ghost use Rattle.heap_memory.specs.Leaves.{IsAsItWas, Flips, Scans};
     ghost use Rattle.heap_memory.specs.Collecting.{IsNextPage, flip_copies};
     ghost use Rattle.txn_table.specs.Roots.{AreRoots};
-    ghost use Rattle.heap_engine.specs.EngineState.{memory};
+    ghost use Rattle.heap_engine.specs.EngineState.{memory, HasNotFailed, LiesWithin};
+    ghost use Rattle.heap_engine.specs.NoCall.{MakesNoCall};
 
     /// Begins a collection, if none runs: the spaces change their roles, and the root object and all stable objects that transactions name or
     /// lock are copied into the one that is current from now on. What the transactions keep is updated, and none of them has to wait. It
     /// takes time for these objects and for what the transactions keep, and a little for each 64 pages of the heap.
-    pub(crate) fn flip(&mut self) -> Result<Reply, AllocError>
+    pub(crate) fn flip<D: Disk>(&mut self, disk: &mut D) -> Result<Reply, StepError>
+        requires works { HasNotFailed self.old }
+        requires within { LiesWithin self.old (D.extent disk.old) }
+        ensures calls { MakesNoCall D.Disk disk.old self.new disk.new result }
         ensures reply { IfOk result (λ reply. (roots : List ℕ) × AreRoots self.old.table self.old.locks roots × (reply ≡ reply_of (flip_refusal (memory self.old) roots) (flip_reply (memory self.old) roots))) }
         ensures flipped { (objects words : ℕ) → result ≡ Ok (Flipped objects words) → (roots : List ℕ) × Flips (memory self.old) (memory self.new) roots }
         ensures still { result ≡ Ok Collecting → self.new ≡ self.old }
@@ -59,7 +65,8 @@ impl Engine {
         let reply = change_spaces(&mut self.spaces, &plan);
         self.table.translate(plan.pairs());
         self.collection = Some(collection);
-        carry_out(&mut self.log, &mut self.cache, &[plan.into_record()]);
+        let records = [plan.into_record()];
+        self.pages.carry_out(disk, &Listed { records: &records })?;
         Ok(reply)
     }
 
@@ -67,10 +74,10 @@ impl Engine {
     fn plan_roots(&self) -> Result<FlipPlan, AllocError>
         ensures roots { IfOk result (λ plan. (roots : List ℕ) × AreRoots self.now.table self.now.locks roots × (plan ≡ flip_copies (memory self.now) roots)) }
         ensures copied { IfOk result (AreCopiesOf self.now.spaces) }
-        ensures along { IfOk result (λ plan. GoAlongBelow (length (cached self.now.cache).words) (pairs_of plan) self.now.table) }
+        ensures along { IfOk result (λ plan. GoAlongBelow (length (pages_in_memory self.now.pages).words) (pairs_of plan) self.now.table) }
     {
         let roots = self.table.roots(&self.locks)?;
-        let mut words = WordSlice::of(self.cache.as_slice());
+        let mut words = WordSlice::of(self.pages.as_slice());
         // Words in memory don't fail, and the roots of a heap are objects.
         let plan = plan_flip(self.alloc, &mut words, &self.spaces, &roots).map_err(|_| AllocError)?;
         // The fields that its transactions wrote are those of roots.
@@ -83,9 +90,9 @@ impl Engine {
     /// Whether all that transactions would take back lies in the words when objects have moved.
     fn can_go_along(&self, pairs: &[(u32, u32)]) -> bool
         requires { IsRelocation pairs.now }
-        ensures { IsTrue result ↔ GoAlongBelow (length (cached self.now.cache).words) pairs.now self.now.table }
+        ensures { IsTrue result ↔ GoAlongBelow (length (pages_in_memory self.now.pages).words) pairs.now self.now.table }
     {
-        let words = self.cache.as_slice().len() as u64;
+        let words = self.pages.as_slice().len() as u64;
         for session in 1..=SESSIONS {
             if self.table.active(session) && !lie_below(words, self.table.undo(session), pairs) {
                 return false;
@@ -95,7 +102,10 @@ impl Engine {
     }
 
     /// Scans the least page in which a gray object starts, if a collection runs. If no object is gray it ends the collection.
-    pub(crate) fn scan(&mut self) -> Result<Reply, AllocError>
+    pub(crate) fn scan<D: Disk>(&mut self, disk: &mut D) -> Result<Reply, StepError>
+        requires works { HasNotFailed self.old }
+        requires within { LiesWithin self.old (D.extent disk.old) }
+        ensures calls { MakesNoCall D.Disk disk.old self.new disk.new result }
         ensures reply { IfOk result (λ reply. (next : Option ℕ) × IsNextPage self.old.collection next × (reply ≡ reply_of (scan_refusal (memory self.old) next) (scan_reply (memory self.old) next))) }
         ensures scanned { (page objects words : ℕ) → result ≡ Ok (Scanned page objects words) → Scans (memory self.old) (memory self.new) (Some page) }
         ensures collected { (used : ℕ) → result ≡ Ok (Collected used) → Scans (memory self.old) (memory self.new) None }
@@ -106,15 +116,18 @@ impl Engine {
         match &self.collection {
             None => Ok(Reply::Idle),
             Some(collection) => match next_gray_page(collection) {
-                Some(page) => self.scan_page(page),
-                None => self.end_collection(),
+                Some(page) => self.scan_page(disk, page),
+                None => self.end_collection(disk),
             },
         }
     }
 
     /// Scans a page of the current space.
-    fn scan_page(&mut self, page: u32) -> Result<Reply, AllocError>
-        requires { IsNextPage self.old.collection (Some page) }
+    fn scan_page<D: Disk>(&mut self, disk: &mut D, page: u32) -> Result<Reply, StepError>
+        requires works { HasNotFailed self.old }
+        requires within { LiesWithin self.old (D.extent disk.old) }
+        requires next { IsNextPage self.old.collection (Some page) }
+        ensures calls { MakesNoCall D.Disk disk.old self.new disk.new result }
         ensures reply { IfOk result (λ reply. reply ≡ reply_of (scan_refusal (memory self.old) (Some page)) (scan_reply (memory self.old) (Some page))) }
         ensures scanned { (objects words : ℕ) → result ≡ Ok (Scanned page objects words) → Scans (memory self.old) (memory self.new) (Some page) }
         ensures refused { (why : _) → result ≡ Ok (Reply.Refused why) → IsAsItWas (memory self.old) (memory self.new) }
@@ -133,14 +146,17 @@ impl Engine {
             objects: scan.copies().len() as u64,
             words: scan.copied_words(),
         };
-        carry_out_scan(&mut self.log, &mut self.cache, &scan);
+        self.pages.carry_out(disk, &scan)?;
         Ok(reply)
     }
 
     /// Ends a collection in which no object is gray: the from-space has nothing that is in use.
-    fn end_collection(&mut self) -> Result<Reply, AllocError>
+    fn end_collection<D: Disk>(&mut self, disk: &mut D) -> Result<Reply, StepError>
+        requires works { HasNotFailed self.old }
+        requires within { LiesWithin self.old (D.extent disk.old) }
         requires runs { IsSome self.old.collection }
         requires none { IsNextPage self.old.collection None }
+        ensures calls { MakesNoCall D.Disk disk.old self.new disk.new result }
         ensures reply { IfOk result (λ reply. reply ≡ reply_of (scan_refusal (memory self.old) None) (scan_reply (memory self.old) None)) }
         ensures collected { (used : ℕ) → result ≡ Ok (Collected used) → Scans (memory self.old) (memory self.new) None }
         ensures refused { (why : _) → result ≡ Ok (Reply.Refused why) → IsAsItWas (memory self.old) (memory self.new) }
@@ -152,7 +168,7 @@ impl Engine {
         }
         self.spaces.collected();
         self.collection = None;
-        carry_out(&mut self.log, &mut self.cache, &records);
+        self.pages.carry_out(disk, &Listed { records: &records })?;
         Ok(Reply::Collected {
             used: u64::from(self.spaces.used()),
         })

@@ -22,7 +22,7 @@ impl Engine {
     pub fn committed_words(&self, alloc: Global) -> Result<CommittedWords<'_>, AllocError>
         ensures { IfOk result (λ words. words_of words ≡ committed self.now) }
     {
-        let mut words = CommittedWords::of(alloc, self.cache.as_slice());
+        let mut words = CommittedWords::of(alloc, self.pages.as_slice());
         for session in 1..=SESSIONS {
             if self.table.active(session) {
                 words.take_back(self.table.undo(session))?;

@@ -2,12 +2,10 @@
 ghost use Rattle.std.specs.Prelude.{◌≡◌, ◌≢◌, ◌+◌, ◌≤◌, length, Ok, Err, IfOk, IsTrue, IsSome, ◌↔◌};
 ghost use Rattle.disk_model.specs.Keeps.{KeepsDisk};
 ghost use Rattle.gated_log.specs.LogState.{log_room, log_used, is_waiting, HasSpare};
-ghost use Rattle.heap_model.specs.Lsns.{log_next_lsn};
 ghost use Rattle.graph_model.specs.History.{account};
 ghost use Rattle.graph_model.specs.History.{IsOfSession};
 ghost use Rattle.log_machine.specs.Machine.{words_in};
-ghost use Rattle.page_redo.specs.Redo.{EachLacks};
-ghost use Rattle.page_cache.specs.CacheState.{cached};
+ghost use Rattle.logged_pages.specs.State.{has_failed, log_of, pages_in_memory};
 ghost use Rattle.heap_spaces.specs.Collection.{owed_by};
 ghost use Rattle.txn_table.specs.Table.{new_table};
 ghost use Rattle.heap_memory.specs.Memory.{own};
@@ -21,11 +19,10 @@ ghost use Rattle.heap_engine.specs.StepResult.{engine_device, reply_device};
 use crate::seal::are_settled;
 use crate::step_error::StepError;
 use disk_model::Disk;
-use gated_log::Log;
 use graph_model::{Event, Refusal, Reply};
 use heap_spaces::{Collection, Spaces};
+use logged_pages::LoggedPages;
 use object_locks::LockTable;
-use page_cache::PageCache;
 use std::alloc::Global;
 use txn_table::TxnTable;
 
@@ -33,10 +30,8 @@ use txn_table::TxnTable;
 #[derive(Debug, Drop)]
 pub struct Engine {
     pub(crate) alloc: Global,
-    /// The log, with its pending records.
-    pub(crate) log: Log,
-    /// The pages of both spaces.
-    pub(crate) cache: PageCache,
+    /// The log with its pending records, and the pages of both spaces.
+    pub(crate) pages: LoggedPages,
     /// Which words of the current space are taken.
     pub(crate) spaces: Spaces,
     /// The collection that runs, if one does.
@@ -54,14 +49,12 @@ pub struct Engine {
     // What is gray stands in the words that are taken.
     ghost gray: { IsSoundIn spaces collection },
     // The log has room for what is kept.
-    ghost room: { log_used log + reserved ≤ log_room log },
+    ghost room: { log_used (log_of pages) + reserved ≤ log_room (log_of pages) },
     // There is memory for it too.
-    ghost spare: { HasSpare log reserved },
-    ghost sound: { AreSound table (length (cached cache).words) reserved sealed },
-    ghost sized: { length (cached cache).words ≡ words_in spaces.pages },
-    ghost few: { length (cached cache).words ≤ 2097152 },
-    // No page has a record that the log lacks: the next record is new to each of them.
-    ghost logged: { EachLacks (log_next_lsn log) (cached cache) },
+    ghost spare: { HasSpare (log_of pages) reserved },
+    ghost sound: { AreSound table (length (pages_in_memory pages).words) reserved sealed },
+    ghost sized: { length (pages_in_memory pages).words ≡ words_in spaces.pages },
+    ghost few: { length (pages_in_memory pages).words ≤ 2097152 },
 }
 
 /// The answer of an event that is refused.
@@ -79,25 +72,23 @@ impl Engine {
     /// The engine of a heap that was just opened: no session has a transaction, and a collection that runs continues. Does not allocate.
     pub fn new(
         alloc: Global,
-        log: Log,
-        cache: PageCache,
+        pages: LoggedPages,
         spaces: Spaces,
         collection: Option<Collection>,
         table: TxnTable,
     ) -> Engine
         requires number { 1 ≤ table.next }
         requires idle { table ≡ new_table table.next }
-        requires sized { length (cached cache).words ≡ words_in spaces.pages }
+        requires sized { length (pages_in_memory pages).words ≡ words_in spaces.pages }
         requires few { spaces.pages ≤ 16384 }
-        requires new { EachLacks (log_next_lsn log) (cached cache) }
         requires owed { spaces.owed ≡ owed_by collection }
         requires gray { IsSoundIn spaces collection }
-        ensures { memory result ≡ opened log cache spaces collection table.next }
+        ensures memory { memory result ≡ opened pages spaces collection table.next }
+        ensures pages { result.pages ≡ pages }
     {
         Engine {
             alloc,
-            log,
-            cache,
+            pages,
             spaces,
             collection,
             table,
@@ -129,18 +120,18 @@ impl Engine {
             Event::Begin { s } => Ok(self.begin(s)?),
             Event::Root { s, h } => Ok(self.root(s, h)),
             Event::New { s, h, len } => Ok(self.make(s, h, len)?),
-            Event::Put { s, h, i, v } => Ok(self.put(s, h, i, v)?),
-            Event::Clear { s, h, i } => Ok(self.clear(s, h, i)?),
-            Event::Link { s, h, i, h2 } => Ok(self.link(s, h, i, h2)?),
+            Event::Put { s, h, i, v } => self.put(disk, s, h, i, v),
+            Event::Clear { s, h, i } => self.clear(disk, s, h, i),
+            Event::Link { s, h, i, h2 } => self.link(disk, s, h, i, h2),
             Event::Drop { s, h } => Ok(self.drop_handle(s, h)),
-            Event::Get { s, h, i, h2 } => Ok(self.get(s, h, i, h2)?),
+            Event::Get { s, h, i, h2 } => self.get(disk, s, h, i, h2),
             Event::Same { s, h, h2 } => Ok(self.same(s, h, h2)),
             Event::Len { s, h } => Ok(self.len(s, h)),
-            Event::Seal { s } => Ok(self.seal(s)?),
-            Event::Abort { s } => Ok(self.abort(s)),
+            Event::Seal { s } => self.seal(disk, s),
+            Event::Abort { s } => self.abort(disk, s),
             Event::Force => self.force(disk),
-            Event::Flip => Ok(self.flip()?),
-            Event::Scan => Ok(self.scan()?),
+            Event::Flip => self.flip(disk),
+            Event::Scan => self.scan(disk),
             Event::Flush { p } => self.flush(disk, p),
         }
     }
@@ -156,7 +147,7 @@ impl Engine {
     pub fn seals_alone(&self, session: u32) -> bool
         ensures { IsTrue result ↔ SealsAlone (memory self.now) (own (memory self.now) session) }
     {
-        self.table.active(session) && are_settled(self.cache.as_slice(), self.table.undo(session))
+        self.table.active(session) && are_settled(self.pages.as_slice(), self.table.undo(session))
     }
 
     /// How many transactions were sealed since the heap was opened.
@@ -170,13 +161,13 @@ impl Engine {
     pub fn pending(&self) -> bool
         ensures { result ≡ is_waiting (memory self.now).log }
     {
-        self.log.pending()
+        self.pages.pending()
     }
 
     /// Whether there is a page `p`, which has changed since it was stored.
     pub fn dirty(&self, p: u32) -> bool
         ensures { (c : Core) → IsMemory (memory self.now) (account c.history) c → result ≡ is_dirty c p }
     {
-        p < self.cache.pages() && self.cache.dirty(p)
+        p < self.pages.pages() && self.pages.dirty(p)
     }
 }

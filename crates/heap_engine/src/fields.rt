@@ -1,13 +1,13 @@
 //! Reads and writes the fields of objects, of those that stand in the current space and of those that a transaction has made.
 ghost use Rattle.std.specs.Prelude.{◌≡◌, ◌+◌, ◌*◌, ◌<◌, ◌≤◌, ◌^◌, length, slice_index, [], true, Ok, Some, None, OnErr, IfOk, IfSome, IsSome};
 ghost use Rattle.gated_log.specs.LogState.{log_room, log_used_with, HasSpare};
+ghost use Rattle.logged_pages.specs.State.{cache_of, has_failed, log_of, pages_in_memory};
 ghost use Rattle.heap_words.specs.Word.{bits, meaning, IsWord};
 ghost use Rattle.graph_model.specs.Plain.{reply_of};
 ghost use Rattle.graph_model.specs.declared.reply.Reply.TheVariants.{Done};
 ghost use Rattle.object_layout.specs.Layout.{field_words};
 ghost use Rattle.log_machine.specs.Machine.{field_at};
 ghost use Rattle.log_records.specs.Record.{spellings};
-ghost use Rattle.page_cache.specs.CacheState.{cached};
 ghost use Rattle.heap_memory.specs.Memory.{own, own_fields, place_word, fields_at as words_at};
 ghost use Rattle.heap_engine.specs.Barrier.{planned_records};
 ghost use Rattle.heap_engine.specs.Reserve.{can_refer};
@@ -16,7 +16,9 @@ use crate::barrier::{PagePlan, keep_copies, note_scan, take_back_copies};
 use crate::engine::{Engine, refused};
 use crate::locking::{keep_write, lock_of, lock_refusal};
 use crate::log_room::{UNDO_BYTES, reserve_room};
-use crate::logging::{carry_out_scan, carry_out_write};
+use crate::planned::PlannedWrite;
+use crate::step_error::StepError;
+use disk_model::Disk;
 use graph_model::{Refusal, Reply};
 use heap_words::{FIELDS_AT, Header, NO_INT, Word, decode, encode, header_of};
 use log_machine::UndoEntry;
@@ -46,11 +48,22 @@ impl Engine {
     ghost use Rattle.heap_memory.specs.Refusals.{put_refusal, clear_refusal, link_refusal, get_refusal, read_refusal_of, records_room, write_refusal};
     ghost use Rattle.heap_memory.specs.Replies.{get_reply, word_reply, words_behind, IsGranted};
     ghost use Rattle.heap_memory.specs.Leaves.{IsAsItWas, WritesHeld, Links, Gets, GetsAt, Writes, LeavesOwn, with_read, with_handle};
-    ghost use Rattle.heap_engine.specs.EngineState.{memory};
+    ghost use Rattle.heap_engine.specs.EngineState.{memory, HasNotFailed, LiesWithin};
+    ghost use Rattle.heap_engine.specs.NoCall.{MakesNoCall};
 
     /// Writes a number below 2^62 into field `i` of the object that a handle of the transaction holds. An object of the current space is
     /// locked for the transaction alone.
-    pub(crate) fn put(&mut self, session: u32, h: u64, i: u64, v: u64) -> Result<Reply, AllocError>
+    pub(crate) fn put<D: Disk>(
+        &mut self,
+        disk: &mut D,
+        session: u32,
+        h: u64,
+        i: u64,
+        v: u64,
+    ) -> Result<Reply, StepError>
+        requires works { HasNotFailed self.old }
+        requires within { LiesWithin self.old (D.extent disk.old) }
+        ensures calls { MakesNoCall D.Disk disk.old self.new disk.new result }
         ensures reply { IfOk result (λ reply. reply ≡ reply_of (put_refusal (memory self.old) session h i v) Done) }
         ensures done { result ≡ Ok Done → WritesHeld (memory self.old) (memory self.new) session h i (4 * v + 1) }
         ensures refused { (why : _) → result ≡ Ok (Reply.Refused why) → IsAsItWas (memory self.old) (memory self.new) }
@@ -59,12 +72,21 @@ impl Engine {
         match self.held(session, h) {
             Err(why) => Ok(refused(why)),
             Ok(_) if v >= NO_INT => Ok(refused(Refusal::Range)),
-            Ok(place) => self.write(session, place, i, Word::Int(v)),
+            Ok(place) => self.write(disk, session, place, i, Word::Int(v)),
         }
     }
 
     /// Sets field `i` of the object that a handle of the transaction holds to null. It locks the object as `put` does.
-    pub(crate) fn clear(&mut self, session: u32, h: u64, i: u64) -> Result<Reply, AllocError>
+    pub(crate) fn clear<D: Disk>(
+        &mut self,
+        disk: &mut D,
+        session: u32,
+        h: u64,
+        i: u64,
+    ) -> Result<Reply, StepError>
+        requires works { HasNotFailed self.old }
+        requires within { LiesWithin self.old (D.extent disk.old) }
+        ensures calls { MakesNoCall D.Disk disk.old self.new disk.new result }
         ensures reply { IfOk result (λ reply. reply ≡ reply_of (clear_refusal (memory self.old) session h i) Done) }
         ensures done { result ≡ Ok Done → WritesHeld (memory self.old) (memory self.new) session h i 0 }
         ensures refused { (why : _) → result ≡ Ok (Reply.Refused why) → IsAsItWas (memory self.old) (memory self.new) }
@@ -72,18 +94,22 @@ impl Engine {
     {
         match self.held(session, h) {
             Err(why) => Ok(refused(why)),
-            Ok(place) => self.write(session, place, i, Word::Null),
+            Ok(place) => self.write(disk, session, place, i, Word::Null),
         }
     }
 
     /// Lets field `i` of the object that handle `h` holds refer to the object that `h2` holds. It locks the first as `put` does.
-    pub(crate) fn link(
+    pub(crate) fn link<D: Disk>(
         &mut self,
+        disk: &mut D,
         session: u32,
         h: u64,
         i: u64,
         h2: u64,
-    ) -> Result<Reply, AllocError>
+    ) -> Result<Reply, StepError>
+        requires works { HasNotFailed self.old }
+        requires within { LiesWithin self.old (D.extent disk.old) }
+        ensures calls { MakesNoCall D.Disk disk.old self.new disk.new result }
         ensures reply { IfOk result (λ reply. reply ≡ reply_of (link_refusal (memory self.old) session h i h2) Done) }
         ensures done { result ≡ Ok Done → Links (memory self.old) (memory self.new) session h i h2 }
         ensures refused { (why : _) → result ≡ Ok (Reply.Refused why) → IsAsItWas (memory self.old) (memory self.new) }
@@ -91,13 +117,23 @@ impl Engine {
     {
         match (self.held(session, h), self.held(session, h2)) {
             (Err(why), _) | (_, Err(why)) => Ok(refused(why)),
-            (Ok(place), Ok(target)) => self.write(session, place, i, word_of(target)),
+            (Ok(place), Ok(target)) => self.write(disk, session, place, i, word_of(target)),
         }
     }
 
     /// What is in field `i` of the object that handle `h` of the transaction holds. If it is a reference, `h2` holds what it refers
     /// to from then on. An object of the current space gets a shared lock.
-    pub(crate) fn get(&mut self, session: u32, h: u64, i: u64, h2: u64) -> Result<Reply, AllocError>
+    pub(crate) fn get<D: Disk>(
+        &mut self,
+        disk: &mut D,
+        session: u32,
+        h: u64,
+        i: u64,
+        h2: u64,
+    ) -> Result<Reply, StepError>
+        requires works { HasNotFailed self.old }
+        requires within { LiesWithin self.old (D.extent disk.old) }
+        ensures calls { MakesNoCall D.Disk disk.old self.new disk.new result }
         ensures reply { IfOk result (λ reply. reply ≡ reply_of (get_refusal (memory self.old) session h i h2) (get_reply (memory self.old) session h i)) }
         ensures got { IfOk result (λ reply. IsGranted reply → Gets (memory self.old) (memory self.new) session h i h2) }
         ensures refused { (why : _) → result ≡ Ok (Reply.Refused why) → IsAsItWas (memory self.old) (memory self.new) }
@@ -115,7 +151,7 @@ impl Engine {
             return Ok(refused(Refusal::BadField));
         }
         match place {
-            Place::Stable(at) => self.get_stable(session, at, i as u16, h2),
+            Place::Stable(at) => self.get_stable(disk, session, at, i as u16, h2),
             Place::Volatile(_) => {
                 let word = fields[i as usize];
                 Ok(self.read_into(session, h2, word))
@@ -125,16 +161,20 @@ impl Engine {
 
     /// The same for a field of an object that stands in the current space: it is locked, and its page is scanned first if a gray object
     /// starts in it.
-    fn get_stable(
+    fn get_stable<D: Disk>(
         &mut self,
+        disk: &mut D,
         session: u32,
         object: u32,
         field: u16,
         h: u64,
-    ) -> Result<Reply, AllocError>
+    ) -> Result<Reply, StepError>
         requires active { IsSome (own (memory self.old) session) }
-        requires there { field < length (field_words (cached self.old.cache).words object) }
-        requires within { h < 64 }
+        requires there { field < length (field_words (pages_in_memory self.old.pages).words object) }
+        requires handle { h < 64 }
+        requires works { HasNotFailed self.old }
+        requires within { LiesWithin self.old (D.extent disk.old) }
+        ensures calls { MakesNoCall D.Disk disk.old self.new disk.new result }
         ensures reply { IfOk result (λ reply. reply ≡ reply_of (read_refusal_of (memory self.old) (own (memory self.old) session) (Place.Stable object) field) (word_reply (meaning (slice_index (field_words (words_behind (memory self.old) (Ok (Place.Stable object)) field) object) field)))) }
         ensures got { IfOk result (λ reply. IsGranted reply → GetsAt (memory self.old) (memory self.new) session (Place.Stable object) field h) }
         ensures refused { (why : _) → result ≡ Ok (Reply.Refused why) → IsAsItWas (memory self.old) (memory self.new) }
@@ -151,12 +191,12 @@ impl Engine {
         keep_copies(&mut self.collection, scan.copies())?;
         if let Err(e) = self.locks.take(lock) {
             take_back_copies(&mut self.collection, scan.copies());
-            return Err(e);
+            return Err(StepError::from(e));
         }
         note_scan(&mut self.spaces, &mut self.collection, &scan);
-        carry_out_scan(&mut self.log, &mut self.cache, &scan);
+        self.pages.carry_out(disk, &scan)?;
         // The scan may have updated the field to the copy.
-        let fields = fields_at(self.cache.as_slice(), object);
+        let fields = fields_at(self.pages.as_slice(), object);
         let word = fields.get(field as usize).copied().unwrap_or(0);
         Ok(self.read_into(session, h, word))
     }
@@ -165,9 +205,11 @@ impl Engine {
     pub(crate) fn make_room_for(&mut self, scan: &PagePlan) -> Result<Option<Refusal>, AllocError>
         requires few { length (spellings (planned_records scan.now.scan)) < 2 ^ 32 + 2 ^ 24 }
         ensures why { IfOk result (λ why. why ≡ records_room (memory self.old) (planned_records scan.now.scan)) }
-        ensures memory { result ≡ Ok None → HasSpare self.new.log (length (spellings (planned_records scan.now.scan)) + self.new.reserved) }
-        ensures room { result ≡ Ok None → log_used_with self.new.log (length (spellings (planned_records scan.now.scan))) + self.new.reserved ≤ log_room self.new.log }
+        ensures memory { result ≡ Ok None → HasSpare (log_of self.new.pages) (length (spellings (planned_records scan.now.scan)) + self.new.reserved) }
+        ensures room { result ≡ Ok None → log_used_with (log_of self.new.pages) (length (spellings (planned_records scan.now.scan))) + self.new.reserved ≤ log_room (log_of self.new.pages) }
         ensures same { IsAsItWas (memory self.old) (memory self.new) }
+        ensures cache { cache_of self.new.pages ≡ cache_of self.old.pages }
+        ensures failed { has_failed self.new.pages ≡ has_failed self.old.pages }
     {
         if scan.is_empty() {
             return Ok(None);
@@ -178,10 +220,10 @@ impl Engine {
     /// The words of the fields of the object at a place, in order, and none if no object stands there.
     pub(crate) fn fields(&self, session: u32, place: Place) -> &[u64]
         requires { IsSome (own (memory self.now) session) }
-        ensures { IfSome (own (memory self.now) session) (λ t. result.now ≡ words_at (cached self.now.cache).words t.area place) }
+        ensures { IfSome (own (memory self.now) session) (λ t. result.now ≡ words_at (pages_in_memory self.now.pages).words t.area place) }
     {
         match place {
-            Place::Stable(at) => fields_at(self.cache.as_slice(), at),
+            Place::Stable(at) => fields_at(self.pages.as_slice(), at),
             Place::Volatile(at) => self.own_fields(session, at),
         }
     }
@@ -200,9 +242,19 @@ impl Engine {
     }
 
     /// Puts a word into a field of the object at a place.
-    fn write(&mut self, session: u32, place: Place, i: u64, word: Word) -> Result<Reply, AllocError>
+    fn write<D: Disk>(
+        &mut self,
+        disk: &mut D,
+        session: u32,
+        place: Place,
+        i: u64,
+        word: Word,
+    ) -> Result<Reply, StepError>
         requires active { IsSome (own (memory self.old) session) }
         requires meant { IsWord word }
+        requires works { HasNotFailed self.old }
+        requires within { LiesWithin self.old (D.extent disk.old) }
+        ensures calls { MakesNoCall D.Disk disk.old self.new disk.new result }
         ensures reply { IfOk result (λ reply. reply ≡ reply_of (write_refusal (memory self.old) session place i) Done) }
         ensures done { result ≡ Ok Done → Writes (memory self.old) (memory self.new) session place i (bits word) }
         ensures refused { (why : _) → result ≡ Ok (Reply.Refused why) → IsAsItWas (memory self.old) (memory self.new) }
@@ -212,7 +264,7 @@ impl Engine {
             return Ok(refused(Refusal::BadField));
         }
         match place {
-            Place::Stable(at) => self.write_stable(session, at, i as u16, encode(word)),
+            Place::Stable(at) => self.write_stable(disk, session, at, i as u16, encode(word)),
             Place::Volatile(at) => {
                 self.table.set_field(session, at, i as u32, encode(word));
                 Ok(Reply::Done)
@@ -222,15 +274,19 @@ impl Engine {
 
     /// Puts a word into a field of an object that stands in the current space: it is locked, its page is scanned first if a gray object
     /// starts in it, and the before-image goes to the log.
-    fn write_stable(
+    fn write_stable<D: Disk>(
         &mut self,
+        disk: &mut D,
         session: u32,
         object: u32,
         field: u16,
         word: u64,
-    ) -> Result<Reply, AllocError>
+    ) -> Result<Reply, StepError>
         requires active { IsSome (own (memory self.old) session) }
-        requires there { field < length (field_words (cached self.old.cache).words object) }
+        requires there { field < length (field_words (pages_in_memory self.old.pages).words object) }
+        requires works { HasNotFailed self.old }
+        requires within { LiesWithin self.old (D.extent disk.old) }
+        ensures calls { MakesNoCall D.Disk disk.old self.new disk.new result }
         ensures reply { IfOk result (λ reply. reply ≡ reply_of (write_refusal (memory self.old) session (Place.Stable object) field) Done) }
         ensures done { result ≡ Ok Done → Writes (memory self.old) (memory self.new) session (Place.Stable object) field word }
         ensures refused { (why : _) → result ≡ Ok (Reply.Refused why) → IsAsItWas (memory self.old) (memory self.new) }
@@ -243,17 +299,17 @@ impl Engine {
         }
         let scan = self.barrier(object, u32::from(field))?;
         let at = object + FIELDS_AT + u32::from(field);
-        let was = scan.word_behind(at, self.cache.word(at));
+        let was = scan.word_behind(at, self.pages.word(at));
         let bytes = scan.bytes() + UPDATE_BYTES as u64;
         let reserved = self.reserved + UNDO_BYTES;
-        if let Some(why) = reserve_room(&mut self.log, bytes, reserved)? {
+        if let Some(why) = reserve_room(&mut self.pages, bytes, reserved)? {
             return Ok(refused(why));
         }
         keep_copies(&mut self.collection, scan.copies())?;
         let entry = UndoEntry { object, field, was };
         if let Err(e) = keep_write(&mut self.table, &mut self.locks, session, entry, lock) {
             take_back_copies(&mut self.collection, scan.copies());
-            return Err(e);
+            return Err(StepError::from(e));
         }
         note_scan(&mut self.spaces, &mut self.collection, &scan);
         let update = Record::Update {
@@ -263,7 +319,11 @@ impl Engine {
             was,
             word,
         };
-        carry_out_write(&mut self.log, &mut self.cache, &scan, &update);
+        let write = PlannedWrite {
+            scan: &scan,
+            update,
+        };
+        self.pages.carry_out(disk, &write)?;
         self.reserved = reserved;
         Ok(Reply::Done)
     }
@@ -274,6 +334,7 @@ impl Engine {
         requires within { h < 64 }
         ensures reply { result ≡ word_reply (meaning word) }
         ensures left { IfSome (own (memory self.old) session) (λ t. LeavesOwn (memory self.old) (memory self.new) session [] (with_read t h (meaning word)) self.old.locks) }
+        ensures pages { self.new.pages ≡ self.old.pages }
     {
         match decode(word) {
             Some(Word::Int(v)) => Reply::Int { v },
@@ -290,6 +351,7 @@ impl Engine {
         requires meant { can_refer (Some to) ≡ true }
         ensures reply { result ≡ Reply.Reference }
         ensures left { IfSome (own (memory self.old) session) (λ t. LeavesOwn (memory self.old) (memory self.new) session [] (with_handle t h (Some to)) self.old.locks) }
+        ensures pages { self.new.pages ≡ self.old.pages }
     {
         self.table.set_handle(session, h as u32, Some(to));
         Reply::Reference

@@ -26,6 +26,7 @@ impl Engine {
         ensures reply { result ≡ reply_of (handle_refusal (own (memory self.old) session) h) Done }
         ensures done { result ≡ Done → SetsHandle (memory self.old) (memory self.new) session h (Some (root_place (memory self.old))) }
         ensures refused { (why : _) → result ≡ Reply.Refused why → self.new ≡ self.old }
+        ensures pages { self.new.pages ≡ self.old.pages }
     {
         let root = Place::Stable(self.spaces.base());
         self.set_handle(session, h, Some(root))
@@ -36,6 +37,7 @@ impl Engine {
         ensures reply { result ≡ reply_of (handle_refusal (own (memory self.old) session) h) Done }
         ensures done { result ≡ Done → SetsHandle (memory self.old) (memory self.new) session h None }
         ensures refused { (why : _) → result ≡ Reply.Refused why → self.new ≡ self.old }
+        ensures pages { self.new.pages ≡ self.old.pages }
     {
         self.set_handle(session, h, None)
     }
@@ -45,6 +47,7 @@ impl Engine {
         ensures reply { result ≡ reply_of (handle_refusal (own (memory self.old) session) h) Done }
         ensures done { result ≡ Done → SetsHandle (memory self.old) (memory self.new) session h to }
         ensures refused { (why : _) → result ≡ Reply.Refused why → self.new ≡ self.old }
+        ensures pages { self.new.pages ≡ self.old.pages }
     {
         if let Some(why) = self.handle_refusal(session, h) {
             return refused(why);
@@ -59,6 +62,7 @@ impl Engine {
         ensures done { result ≡ Ok Done → Makes (memory self.old) (memory self.new) session h len }
         ensures refused { (why : _) → result ≡ Ok (Reply.Refused why) → self.new ≡ self.old }
         ensures err { OnErr result (self.new ≡ self.old) }
+        ensures pages { self.new.pages ≡ self.old.pages }
     {
         if let Some(why) = self.handle_refusal(session, h) {
             return Ok(refused(why));

@@ -1,4 +1,4 @@
-//! The engine of an open heap: the log, the pages, the transactions and the locks in memory, and one call, which makes an event on the heap's
+//! The engine of an open heap: the log with its pages, the transactions and the locks in memory, and one call, which makes an event on the heap's
 //! disk.
 //!
 //! A session is a number from 1 to 32, and has at most one transaction. The transactions of the sessions are isolated by strict two-phase
@@ -20,11 +20,10 @@ mod fields;
 mod handles;
 mod locking;
 mod log_room;
-mod logging;
+mod planned;
 mod seal;
 mod step_error;
 mod storing;
-mod taking_back;
 mod transactions;
 
 pub use engine::Engine;

@@ -2,29 +2,30 @@
 ghost use Rattle.std.specs.Prelude.{◌≡◌, ◌+◌, ◌<◌, ◌≤◌, ◌^◌, length, Ok, None, IfOk, IfSome, IsSome};
 ghost use Rattle.gated_log.specs.LogState.{log_need, log_room, log_used_with, HasSpare, IsSameLog, KeepsMemory};
 ghost use Rattle.log_records.specs.Record.{spellings};
+ghost use Rattle.logged_pages.specs.State.{cache_of, has_failed, log_of};
 ghost use Rattle.log_machine.specs.Machine.{end_bytes};
 ghost use Rattle.heap_memory.specs.Memory.{own, reserved};
 ghost use Rattle.heap_memory.specs.Leaves.{IsAsItWas};
 ghost use Rattle.heap_memory.specs.Refusals.{no_room};
 
 use crate::engine::Engine;
-use gated_log::Log;
 use graph_model::Refusal;
 use log_machine::end_bytes;
 use log_records::{BATCH_BYTES, PUT_BYTES, Record};
+use logged_pages::LoggedPages;
 use std::alloc::AllocError;
 
 /// The bytes that are kept to take a write back: those of an `Undo`.
 pub(crate) const UNDO_BYTES: u64 = PUT_BYTES as u64;
 
 /// Why the log has no room for an event, if it hasn't: by the bytes that the event needs, and those kept after it.
-pub(crate) fn log_refusal(log: &Log, need: u64, reserved: u64) -> Option<Refusal>
+pub(crate) fn log_refusal(pages: &LoggedPages, need: u64, reserved: u64) -> Option<Refusal>
     requires need { need < 2 ^ 33 }
     requires reserved { reserved < 2 ^ 33 }
-    ensures { result ≡ no_room log.now need reserved }
+    ensures { result ≡ no_room (log_of pages.now) need reserved }
 {
-    let used = log.used();
-    if used + need + reserved > log.room() {
+    let used = pages.used();
+    if used + need + reserved > pages.room() {
         Some(Refusal::LogFull {
             used,
             need,
@@ -36,11 +37,11 @@ pub(crate) fn log_refusal(log: &Log, need: u64, reserved: u64) -> Option<Refusal
 }
 
 /// What `bytes` bytes of records need, with the bytes of a batch if no record is pending.
-fn need_of(log: &Log, bytes: u64) -> u64
+fn need_of(pages: &LoggedPages, bytes: u64) -> u64
     requires { bytes < 2 ^ 32 + 2 ^ 24 }
-    ensures { result ≡ log_need log.now bytes }
+    ensures { result ≡ log_need (log_of pages.now) bytes }
 {
-    if log.pending() {
+    if pages.pending() {
         bytes
     } else {
         bytes + BATCH_BYTES as u64
@@ -50,22 +51,24 @@ fn need_of(log: &Log, bytes: u64) -> u64
 /// Makes room for `bytes` bytes of records, and for the `kept` bytes that end transactions after them: takes the memory, or reports why the log has no
 /// room.
 pub(crate) fn reserve_room(
-    log: &mut Log,
+    pages: &mut LoggedPages,
     bytes: u64,
     kept: u64,
 ) -> Result<Option<Refusal>, AllocError>
     requires few { bytes < 2 ^ 32 + 2 ^ 24 }
     requires kept { kept < 2 ^ 33 }
-    ensures why { IfOk result (λ why. why ≡ no_room log.old (log_need log.old bytes) kept) }
-    ensures memory { result ≡ Ok None → HasSpare log.new (bytes + kept) }
-    ensures room { result ≡ Ok None → log_used_with log.new bytes + kept ≤ log_room log.new }
-    ensures same { IsSameLog log.old log.new }
-    ensures keeps { KeepsMemory log.old log.new }
+    ensures why { IfOk result (λ why. why ≡ no_room (log_of pages.old) (log_need (log_of pages.old) bytes) kept) }
+    ensures memory { result ≡ Ok None → HasSpare (log_of pages.new) (bytes + kept) }
+    ensures room { result ≡ Ok None → log_used_with (log_of pages.new) bytes + kept ≤ log_room (log_of pages.new) }
+    ensures same { IsSameLog (log_of pages.old) (log_of pages.new) }
+    ensures keeps { KeepsMemory (log_of pages.old) (log_of pages.new) }
+    ensures cache { cache_of pages.new ≡ cache_of pages.old }
+    ensures failed { has_failed pages.new ≡ has_failed pages.old }
 {
-    if let Some(why) = log_refusal(log, need_of(log, bytes), kept) {
+    if let Some(why) = log_refusal(pages, need_of(pages, bytes), kept) {
         return Ok(Some(why));
     }
-    log.reserve((bytes + kept) as usize)?;
+    pages.reserve((bytes + kept) as usize)?;
     Ok(None)
 }
 
@@ -77,12 +80,14 @@ impl Engine {
     /// transactions stays.
     pub(crate) fn make_room(&mut self, bytes: u64) -> Result<Option<Refusal>, AllocError>
         requires few { bytes < 2 ^ 32 + 2 ^ 24 }
-        ensures why { IfOk result (λ why. why ≡ no_room self.old.log (log_need self.old.log bytes) (reserved self.old.table)) }
-        ensures memory { result ≡ Ok None → HasSpare self.new.log (bytes + self.new.reserved) }
-        ensures room { result ≡ Ok None → log_used_with self.new.log bytes + self.new.reserved ≤ log_room self.new.log }
+        ensures why { IfOk result (λ why. why ≡ no_room (log_of self.old.pages) (log_need (log_of self.old.pages) bytes) (reserved self.old.table)) }
+        ensures memory { result ≡ Ok None → HasSpare (log_of self.new.pages) (bytes + self.new.reserved) }
+        ensures room { result ≡ Ok None → log_used_with (log_of self.new.pages) bytes + self.new.reserved ≤ log_room (log_of self.new.pages) }
         ensures same { IsAsItWas (memory self.old) (memory self.new) }
+        ensures cache { cache_of self.new.pages ≡ cache_of self.old.pages }
+        ensures failed { has_failed self.new.pages ≡ has_failed self.old.pages }
     {
-        reserve_room(&mut self.log, bytes, self.reserved)
+        reserve_room(&mut self.pages, bytes, self.reserved)
     }
 
     /// The bytes that are kept for the ends of all transactions but that of the session, when it ends.

@@ -8,19 +8,21 @@ ghost use Rattle.heap_memory.specs.Refusals.{space_refusal};
 ghost use Rattle.heap_spaces.specs.Spaces.{open_words};
 ghost use Rattle.log_machine.specs.Effect.{EachWritesBelow};
 ghost use Rattle.log_records.specs.Record.{spellings};
-ghost use Rattle.page_cache.specs.CacheState.{cached};
+ghost use Rattle.logged_pages.specs.State.{log_of, pages_in_memory};
 ghost use Rattle.heap_engine.specs.Ending.{SealsAlone, is_settled};
 ghost use Rattle.std.specs.List.{list_all};
 ghost use Rattle.heap_engine.specs.Seal.{IsFound, IsSealOf};
 
 use crate::engine::{Engine, refused};
 use crate::log_room::{bytes_of, reserve_room};
-use crate::logging::carry_out;
+use crate::step_error::StepError;
+use disk_model::Disk;
 use graph_model::{Refusal, Reply};
 use heap_spaces::Spaces;
 use heap_words::{FIELDS_AT, is_volatile};
 use log_machine::UndoEntry;
 use log_records::Record;
+use logged_pages::Listed;
 use sealing::Sealing;
 use std::alloc::AllocError;
 
@@ -59,11 +61,15 @@ fn is_settled(words: &[u64], entry: &UndoEntry) -> bool
 impl Engine {
     ghost use Rattle.heap_memory.specs.Refusals.{seal_refusal, sealing_records, reserved_without};
     ghost use Rattle.heap_memory.specs.Leaves.{IsAsItWas, Seals};
-    ghost use Rattle.heap_engine.specs.EngineState.{memory};
+    ghost use Rattle.heap_engine.specs.EngineState.{memory, HasNotFailed, LiesWithin};
+    ghost use Rattle.heap_engine.specs.NoCall.{MakesNoCall};
 
     /// Seals the transaction, and returns how many have been sealed since the heap was opened. What its writes have made reachable from the
     /// objects of the current space is promoted, and its locks are free again. If nothing is promoted it does not allocate.
-    pub(crate) fn seal(&mut self, session: u32) -> Result<Reply, AllocError>
+    pub(crate) fn seal<D: Disk>(&mut self, disk: &mut D, session: u32) -> Result<Reply, StepError>
+        requires works { HasNotFailed self.old }
+        requires within { LiesWithin self.old (D.extent disk.old) }
+        ensures calls { MakesNoCall D.Disk disk.old self.new disk.new result }
         ensures reply { IfOk result (λ reply. reply ≡ reply_of (seal_refusal (memory self.old) session) (Sealed (self.old.sealed + 1))) }
         ensures sealed { (number : _) → result ≡ Ok (Sealed number) → Seals (memory self.old) (memory self.new) session }
         ensures refused { (why : _) → result ≡ Ok (Reply.Refused why) → IsAsItWas (memory self.old) (memory self.new) }
@@ -75,7 +81,7 @@ impl Engine {
         }
         if self.seals_alone(session) {
             let t = self.table.area(session).transaction();
-            return Ok(self.append_seal(session, 0, &[Record::Commit { t }]));
+            return self.append_seal(disk, session, 0, &[Record::Commit { t }]);
         }
         let sealing = self.sealing(session)?;
         if let Some(why) = space_refusal(&self.spaces, sealing.need()) {
@@ -84,32 +90,41 @@ impl Engine {
         let records = self.seal_records(session, &sealing)?;
         let others = self.reserved_without(session);
         let bytes = bytes_of(&records);
-        if let Some(why) = reserve_room(&mut self.log, bytes, others)? {
+        if let Some(why) = reserve_room(&mut self.pages, bytes, others)? {
             return Ok(refused(why));
         }
-        Ok(self.append_seal(session, sealing.need(), &records))
+        self.append_seal(disk, session, sealing.need(), &records)
     }
 
     /// Appends the records of a seal, which takes `need` words of the current space, and ends the transaction. There is room and memory for
     /// them, and for the ends of the others.
-    fn append_seal(&mut self, session: u32, need: u64, records: &[Record]) -> Reply
+    fn append_seal<D: Disk>(
+        &mut self,
+        disk: &mut D,
+        session: u32,
+        need: u64,
+        records: &[Record],
+    ) -> Result<Reply, StepError>
         requires active { IsSome (own (memory self.old) session) }
         requires seals { IfSome (own (memory self.old) session) (λ t. IsSealOf (memory self.old) t need records.now) }
         requires space { need ≤ open_words self.old.spaces }
-        requires inside { EachWritesBelow (length (cached self.old.cache).words) records.now }
-        requires room { IfSome (own (memory self.old) session) (λ t. log_used_with self.old.log (length (spellings records.now)) + reserved_without self.old.table t ≤ log_room self.old.log) }
-        requires memory { IfSome (own (memory self.old) session) (λ t. HasSpare self.old.log (length (spellings records.now) + reserved_without self.old.table t)) }
-        ensures reply { result ≡ Sealed (self.old.sealed + 1) }
+        requires inside { EachWritesBelow (length (pages_in_memory self.old.pages).words) records.now }
+        requires room { IfSome (own (memory self.old) session) (λ t. log_used_with (log_of self.old.pages) (length (spellings records.now)) + reserved_without self.old.table t ≤ log_room (log_of self.old.pages)) }
+        requires memory { IfSome (own (memory self.old) session) (λ t. HasSpare (log_of self.old.pages) (length (spellings records.now) + reserved_without self.old.table t)) }
+        requires works { HasNotFailed self.old }
+        requires within { LiesWithin self.old (D.extent disk.old) }
+        ensures calls { MakesNoCall D.Disk disk.old self.new disk.new result }
+        ensures reply { result ≡ Ok (Sealed (self.old.sealed + 1)) }
         ensures sealed { Seals (memory self.old) (memory self.new) session }
     {
         let others = self.reserved_without(session);
-        carry_out(&mut self.log, &mut self.cache, records);
+        self.pages.carry_out(disk, &Listed { records })?;
         let _taken = self.spaces.take(need);
         self.locks.release(self.table.number(session));
         self.table.end(session);
         self.reserved = others;
         self.sealed += 1;
-        Reply::Sealed { n: self.sealed }
+        Ok(Reply::Sealed { n: self.sealed })
     }
 
     /// What the seal of the transaction promotes.
@@ -119,7 +134,7 @@ impl Engine {
     {
         let area = self.table.area(session);
         let undo = self.table.undo(session);
-        Sealing::new(self.alloc, area, self.cache.as_slice(), undo)
+        Sealing::new(self.alloc, area, self.pages.as_slice(), undo)
     }
 
     /// The records of the seal of the transaction, which promotes this.
@@ -128,11 +143,11 @@ impl Engine {
         requires found { IfSome (own (memory self.now) session) (λ t. IsFound (memory self.now) t sealing.now) }
         requires room { sealing.now.need ≤ open_words self.now.spaces }
         ensures records { IfOk result (λ records. IfSome (own (memory self.now) session) (λ t. records.items ≡ sealing_records (memory self.now) t)) }
-        ensures inside { IfOk result (λ records. EachWritesBelow (length (cached self.now.cache).words) records.items) }
+        ensures inside { IfOk result (λ records. EachWritesBelow (length (pages_in_memory self.now.pages).words) records.items) }
         ensures few { IfOk result (λ records. length (spellings records.items) < 2 ^ 32 + 2 ^ 24) }
     {
         let area = self.table.area(session);
         let address = self.spaces.next_free();
-        sealing.records(self.alloc, area, self.cache.as_slice(), address)
+        sealing.records(self.alloc, area, self.pages.as_slice(), address)
     }
 }

@@ -336,6 +336,7 @@ impl LoggedPages {
         ensures on_disk { IsTrue D.tells → (o : Origin) (batches : List (List Record)) (pending : List Record) → IsBehind o batches pending self.old → IsOnDisk o batches self.old (D.bytes disk.old)
             → OnOk result (IsOnDisk o (batches_if (is_ahead self.old p) batches pending) self.new (D.bytes disk.new)) }
         ensures stored { IsTrue D.tells → Knows (store_of self.old) (D.bytes disk.old) → OnOk result (HasStored self.old p (D.bytes disk.old) (D.bytes disk.new)) }
+        ensures frames { IsTrue D.tells → Knows (store_of self.old) (D.bytes disk.old) → OnOk result (Knows (store_of self.new) (D.bytes disk.new)) }
         ensures durable { IsTrue D.tells → OnOk result (Only (D.bytes disk.new) (D.may_leave disk.new)) }
         ensures moments { IsTrue D.tells → Only (D.bytes disk.old) (D.may_leave disk.old) → (o : Origin) (batches : List (List Record)) (pending : List Record) → IsBehind o batches pending self.old → IsOnDisk o batches self.old (D.bytes disk.old)
             → LeavesOnly D.moment D.left_since disk.old disk.new (IsLeft o batches pending self.old (D.bytes disk.old)) }

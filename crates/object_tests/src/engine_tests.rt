@@ -10,6 +10,7 @@ use graph_model::{Event, Refusal, Reply};
 use heap_engine::{Engine, StepError};
 use heap_spaces::Spaces;
 use image_plan::Plan;
+use logged_pages::LoggedPages;
 use object_layout::Words;
 use page_cache::PageCache;
 use std::alloc::{AllocError, Global};
@@ -56,10 +57,11 @@ fn new_heap(rt: &impl Abort, alloc: Global, plan: Plan) -> Result<Opened, Fail> 
     assert!(rt; disk.size() >= plan.size());
     let cache = PageCache::open(alloc, &mut disk, plan)?;
     assert!(rt; cache.first_past(log.records()).is_none());
+    let pages = LoggedPages::new(log, cache);
     let spaces = Spaces::new(1, 0, 6, 0);
     let mut table = TxnTable::new(alloc)?;
     table.set_next(1);
-    let engine = Engine::new(alloc, log, cache, spaces, None, table);
+    let engine = Engine::new(alloc, pages, spaces, None, table);
     Ok(Opened {
         engine,
         disk,

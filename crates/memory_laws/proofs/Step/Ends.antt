@@ -1,6 +1,5 @@
 -- A begin and an abort are answered as the core answers them, and leave memory as the core is then.
 use Rattle.std.proofs.Common.{◌≡◌, ℕ, ◌+◌, zero, suc, false, List, [], ◌∷◌, ◌++◌, length, map, replicate, Option, Some, None, Result, Ok, Err, is_some, true, unwrap_or, refl, sym, ap, ◌∙◌, subst, arith}
-use Rattle.std.specs.declared.alloc.AllocError.{AllocError}
 use Rattle.std.specs.Prelude.{IfOk}
 use Rattle.std.specs.Option.{option_map}
 use Rattle.graph_model.specs.declared.id.Id.{Id}
@@ -139,7 +138,7 @@ module _ (m n : Memory) (c : Core) (valid : IsValid c) (runs : RunsLocked c.g0 c
       (each_session P a.active s None (with_ended_same m.table s) others) (held_aborted c.g0 c.history m.locks c.places c.places s t runs.plain runs.two_phase e (λ id other. refl) is.sessions.locks) is.sessions.next is.sessions.sealed)))
 
   -- an abort is answered as the core answers it, and the session has no transaction then
-  pub abort_does : core_refusal c (Abort s) ≡ end_refusal (own m s) → (result : Result Reply AllocError) → IfOk result (λ reply. reply ≡ reply_of (end_refusal (own m s)) Aborted)
+  pub abort_does : {E : Type 0} → core_refusal c (Abort s) ≡ end_refusal (own m s) → (result : Result Reply E) → IfOk result (λ reply. reply ≡ reply_of (end_refusal (own m s)) Aborted)
       → (result ≡ Ok Aborted → Aborts m n s) → ((why : Refusal) → result ≡ Ok (Refused why) → IsAsItWas m n) → IfOk result (λ reply. Does c (Abort s) reply n)
   abort_does same (Err e) replied ends stayed = tt
   abort_does same (Ok reply) replied ends stayed =

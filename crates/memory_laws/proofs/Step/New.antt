@@ -1,6 +1,5 @@
 -- A call that makes an object is answered as the core answers it, and leaves memory as the core is then.
 use Rattle.std.proofs.Common.{◌≡◌, ℕ, ◌+◌, List, [], length, map, Option, Some, Result, Ok, Err, refl, sym, ap, ◌∙◌}
-use Rattle.std.specs.declared.alloc.AllocError.{AllocError}
 use Rattle.std.specs.Prelude.{IfOk, slice_set}
 use Rattle.std.specs.Option.{option_map}
 use Rattle.std.proofs.lemmas.List.{map-set}
@@ -107,7 +106,7 @@ module _ (m n : Memory) (c : Core) (valid : IsValid c) (is : IsMemory m (account
       (ap (λ y. with_made y h len) t.2 ∙ sym (kept_made c.places v t.0.number undo h len w.made w.handles)) (no_lock m n c valid works s t.0 (New s h len) t.1 refl))
 
   -- a call that makes an object is answered as the core answers it, and the object is in the area then
-  pub new_does : (h len : ℕ) → core_refusal c (New s h len) ≡ new_refusal (own m s) h len → (result : Result Reply AllocError) → IfOk result (λ reply. reply ≡ reply_of (new_refusal (own m s) h len) Done)
+  pub new_does : {E : Type 0} (h len : ℕ) → core_refusal c (New s h len) ≡ new_refusal (own m s) h len → (result : Result Reply E) → IfOk result (λ reply. reply ≡ reply_of (new_refusal (own m s) h len) Done)
       → (result ≡ Ok Done → Makes m n s h len) → ((why : Refusal) → result ≡ Ok (Refused why) → n ≡ m)
       → IfOk result (λ reply. Does c (New s h len) reply n)
   new_does h len same (Err e) replied made_it stayed = tt

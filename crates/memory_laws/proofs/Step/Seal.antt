@@ -1,6 +1,5 @@
 -- A seal is answered as the core answers it, and leaves memory as the core is then.
 use Rattle.std.proofs.Common.{◌≡◌, ◌≢◌, inl, inr, ℕ, ◌+◌, List, [], ◌∷◌, ◌++◌, length, Option, Some, None, Result, Ok, Err, refl, sym, ap, ◌∙◌, subst, arith, length-append}
-use Rattle.std.specs.declared.alloc.AllocError.{AllocError}
 use Rattle.std.specs.Prelude.{IfOk}
 use Rattle.std.specs.Option.{option_to_list}
 use Rattle.graph_model.specs.declared.event.Event.TheVariants.{Seal}
@@ -223,7 +222,7 @@ module _ (c : Core) (valid : IsValid c) (runs : RunsLocked c.g0 c.first c.histor
 
 module _ (m n : Memory) (c : Core) (valid : IsValid c) (runs : RunsLocked c.g0 c.first c.history) (is : IsMemory m (account c.history) c) (s : ℕ) where
   -- a seal is answered as the core answers it, and the session has no transaction then
-  pub seal_does : core_refusal c (Seal s) ≡ seal_refusal m s → (result : Result Reply AllocError) → IfOk result (λ reply. reply ≡ reply_of (seal_refusal m s) (Sealed (m.sealed + 1)))
+  pub seal_does : {E : Type 0} → core_refusal c (Seal s) ≡ seal_refusal m s → (result : Result Reply E) → IfOk result (λ reply. reply ≡ reply_of (seal_refusal m s) (Sealed (m.sealed + 1)))
       → ((number : ℕ) → result ≡ Ok (Sealed number) → Seals m n s) → ((why : Refusal) → result ≡ Ok (Refused why) → IsAsItWas m n) → IfOk result (λ reply. Does c (Seal s) reply n)
   seal_does same (Err e) replied sealed_it stayed = tt
   seal_does same (Ok reply) replied sealed_it stayed =

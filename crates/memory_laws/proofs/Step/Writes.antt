@@ -1,6 +1,5 @@
 -- A put, a clear and a link are answered as the core answers them, and leave memory as the core is then.
 use Rattle.std.proofs.Common.{◌≡◌, ℕ, ◌+◌, ◌*◌, ◌^◌, ◌<◌, List, ◌++◌, length, Option, Some, None, Result, Ok, Err, refl, sym, ap, ◌∙◌, subst}
-use Rattle.std.specs.declared.alloc.AllocError.{AllocError}
 use Rattle.std.specs.Prelude.{IfOk, fold, nat_le}
 use Rattle.std.specs.Option.{option_map}
 use Rattle.std.proofs.lemmas.Bool.{leb-false}
@@ -170,7 +169,7 @@ module _ (m n : Memory) (c : Core) (valid : IsValid c) (runs : RunsLocked c.g0 c
         (passes_behind m n c is (barrier_records c event) (own_part k writes) (barrier_records c event ++ own_part k writes) refl (left k writes) event same_own tells)
 
   -- a put is answered as the core answers it, and the number is in the field then
-  pub put_does : (h i v : ℕ) → core_refusal c (Put s h i v) ≡ put_refusal m s h i v → (result : Result Reply AllocError) → IfOk result (λ reply. reply ≡ reply_of (put_refusal m s h i v) Done)
+  pub put_does : {E : Type 0} (h i v : ℕ) → core_refusal c (Put s h i v) ≡ put_refusal m s h i v → (result : Result Reply E) → IfOk result (λ reply. reply ≡ reply_of (put_refusal m s h i v) Done)
       → (result ≡ Ok Done → WritesHeld m n s h i (4 * v + 1)) → ((why : Refusal) → result ≡ Ok (Refused why) → IsAsItWas m n) → IfOk result (λ reply. Does c (Put s h i v) reply n)
   put_does h i v alike (Err e) replied wrote_it stayed = tt
   put_does h i v alike (Ok reply) replied wrote_it stayed =
@@ -186,7 +185,7 @@ module _ (m n : Memory) (c : Core) (valid : IsValid c) (runs : RunsLocked c.g0 c
       (λ why e. as_it_was m n c is (stayed why (ap Ok e)))
 
   -- a clear is answered as the core answers it, and the field is null then
-  pub clear_does : (h i : ℕ) → core_refusal c (Clear s h i) ≡ clear_refusal m s h i → (result : Result Reply AllocError) → IfOk result (λ reply. reply ≡ reply_of (clear_refusal m s h i) Done)
+  pub clear_does : {E : Type 0} (h i : ℕ) → core_refusal c (Clear s h i) ≡ clear_refusal m s h i → (result : Result Reply E) → IfOk result (λ reply. reply ≡ reply_of (clear_refusal m s h i) Done)
       → (result ≡ Ok Done → WritesHeld m n s h i 0) → ((why : Refusal) → result ≡ Ok (Refused why) → IsAsItWas m n) → IfOk result (λ reply. Does c (Clear s h i) reply n)
   clear_does h i alike (Err e) replied wrote_it stayed = tt
   clear_does h i alike (Ok reply) replied wrote_it stayed =
@@ -221,7 +220,7 @@ module _ (m n : Memory) (c : Core) (valid : IsValid c) (runs : RunsLocked c.g0 c
       (subst (λ (o : Option Id). IsVisible d.places t.0.number v.made (reference_to o)) (sym other.holds) other.at_hand) (subst (memory.Writes m n s p i) word held_it.writes)
 
   -- a link is answered as the core answers it, and the field refers to what the other handle holds then
-  pub link_does : (h i h2 : ℕ) → core_refusal c (Link s h i h2) ≡ link_refusal m s h i h2 → (result : Result Reply AllocError) → IfOk result (λ reply. reply ≡ reply_of (link_refusal m s h i h2) Done)
+  pub link_does : {E : Type 0} (h i h2 : ℕ) → core_refusal c (Link s h i h2) ≡ link_refusal m s h i h2 → (result : Result Reply E) → IfOk result (λ reply. reply ≡ reply_of (link_refusal m s h i h2) Done)
       → (result ≡ Ok Done → Links m n s h i h2) → ((why : Refusal) → result ≡ Ok (Refused why) → IsAsItWas m n) → IfOk result (λ reply. Does c (Link s h i h2) reply n)
   link_does h i h2 alike (Err e) replied linked_it stayed = tt
   link_does h i h2 alike (Ok reply) replied linked_it stayed =

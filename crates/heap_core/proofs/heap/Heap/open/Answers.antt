@@ -2,7 +2,9 @@ use Rattle.log_machine.specs.Machine.{words_in}
 use Rattle.heap_memory.specs.Memory.{Memory}
 use Rattle.heap_engine.specs.EngineState.{memory}
 use Rattle.heap_core.proofs.KeptEntries.{kept_none}
-use Rattle.std.proofs.Common.{◌≤◌, ℕ, true, Err, refl, sym, ap, ◌∙◌, subst}
+use Rattle.page_cache.specs.CacheState.{cached}
+use Rattle.page_cache.specs.declared.cache.PageCache.{PageCache}
+use Rattle.std.proofs.Common.{◌≤◌, ℕ, length, true, Err, refl, sym, ap, ◌∙◌, subst}
 use Rattle.disk_model.proofs.KeepsLaws.{reads_none}
 use Rattle.heap_recovery.specs.declared.error.RecoverError.{RecoverError}
 use Rattle.heap_recovery.specs.declared.error.RecoverError.TheVariants.{NoMemory}
@@ -19,12 +21,15 @@ use Rattle.heap_core.proofs.heap.Heap.open.Goals as goal
 pub new-engine-requires-clause-sized : goal.new-engine-requires-clause-sized
 new-engine-requires-clause-sized g c =
     let found = c.in-Ok-recover.ensures.opens in
-    (opened_bounds found.0 c.in-Ok-recover.found found.1 found.2).size ∙ ap (λ x. words_in x.pages) (sym c.spaces-spaces.ensures)
+    ap (λ (k : PageCache). length (cached k).words) c.new-pages.ensures.cache
+    ∙ (opened_bounds found.0 c.in-Ok-recover.found found.1 found.2).size
+    ∙ ap (λ x. words_in x.pages) (sym c.spaces-spaces.ensures)
 
-pub new-engine-requires-clause-new : goal.new-engine-requires-clause-new
-new-engine-requires-clause-new g c =
+pub new-pages-requires : goal.new-pages-requires
+new-pages-requires g c =
     let found = c.in-Ok-recover.ensures.opens in
-    (opened_bounds found.0 c.in-Ok-recover.found found.1 found.2).new
+    let bounds = opened_bounds found.0 c.in-Ok-recover.found found.1 found.2 in
+    record { logged = bounds.new; works = found.2.unfailed; sized = bounds.whole; few = bounds.many; place = found.2.place; behind = bounds.behind }
 
 pub new-engine-requires-clause-few : goal.new-engine-requires-clause-few
 new-engine-requires-clause-few g c =
@@ -47,7 +52,7 @@ new-engine-requires-clause-number g c =
 pub returns-in-Ok-recover-clause-opens : goal.returns-in-Ok-recover-clause-opens
 returns-in-Ok-recover-clause-opens g c =
     let found = c.in-Ok-recover.ensures.opens in
-    let fresh = is_fresh c.in-Ok-recover.found c.spaces-spaces.result c.into_collection-collection.result c.set_next.new.self c.in-Ok.table _ c.new-engine.ensures c.spaces-spaces.ensures c.into_collection-collection.ensures (c.set_next.ensures ∙ ap (λ (n : ℕ). let t : TableState = record { next = n; active = c.in-Ok.table.active } in t) c.next.ensures) in
+    let fresh = is_fresh c.in-Ok-recover.found c.new-pages.result c.new-pages.ensures.log c.new-pages.ensures.cache c.spaces-spaces.result c.into_collection-collection.result c.set_next.new.self c.in-Ok.table _ c.new-engine.ensures.memory c.spaces-spaces.ensures c.into_collection-collection.ensures (c.set_next.ensures ∙ ap (λ (n : ℕ). let t : TableState = record { next = n; active = c.in-Ok.table.active } in t) c.next.ensures) in
     let image = g.D.Disk.bytes c.recover.new.disk in
     let gates : ℕ → ℕ = λ p. open_gates found.0.super.log_bytes image p in (
       found.0,
@@ -60,7 +65,7 @@ returns-in-Ok-recover-clause-opens g c =
 pub returns-in-Ok-recover-clause-sound : goal.returns-in-Ok-recover-clause-sound
 returns-in-Ok-recover-clause-sound g c tells =
     let found = c.in-Ok-recover.ensures.sound tells in
-    let fresh = is_fresh c.in-Ok-recover.found c.spaces-spaces.result c.into_collection-collection.result c.set_next.new.self c.in-Ok.table _ c.new-engine.ensures c.spaces-spaces.ensures c.into_collection-collection.ensures (c.set_next.ensures ∙ ap (λ (n : ℕ). let t : TableState = record { next = n; active = c.in-Ok.table.active } in t) c.next.ensures) in
+    let fresh = is_fresh c.in-Ok-recover.found c.new-pages.result c.new-pages.ensures.log c.new-pages.ensures.cache c.spaces-spaces.result c.into_collection-collection.result c.set_next.new.self c.in-Ok.table _ c.new-engine.ensures.memory c.spaces-spaces.ensures c.into_collection-collection.ensures (c.set_next.ensures ∙ ap (λ (n : ℕ). let t : TableState = record { next = n; active = c.in-Ok.table.active } in t) c.next.ensures) in
     let gates = open_gates found.0.super.log_bytes (g.D.Disk.bytes c.args.disk) in
     let still = (c.in-Ok-recover.ensures.image.shaped tells found.0 found.1).gates in (
       found.0,
@@ -72,7 +77,7 @@ returns-in-Ok-recover-clause-sound g c tells =
 pub returns-in-Ok-recover-clause-found : goal.returns-in-Ok-recover-clause-found
 returns-in-Ok-recover-clause-found g c tells stored shaped born places gr stands =
     let found = c.in-Ok-recover.ensures.found tells stored shaped in
-    let fresh = is_fresh c.in-Ok-recover.found c.spaces-spaces.result c.into_collection-collection.result c.set_next.new.self c.in-Ok.table _ c.new-engine.ensures c.spaces-spaces.ensures c.into_collection-collection.ensures (c.set_next.ensures ∙ ap (λ (n : ℕ). let t : TableState = record { next = n; active = c.in-Ok.table.active } in t) c.next.ensures) in
+    let fresh = is_fresh c.in-Ok-recover.found c.new-pages.result c.new-pages.ensures.log c.new-pages.ensures.cache c.spaces-spaces.result c.into_collection-collection.result c.set_next.new.self c.in-Ok.table _ c.new-engine.ensures.memory c.spaces-spaces.ensures c.into_collection-collection.ensures (c.set_next.ensures ∙ ap (λ (n : ℕ). let t : TableState = record { next = n; active = c.in-Ok.table.active } in t) c.next.ensures) in
     let gates = open_gates stored.super.log_bytes (g.D.Disk.bytes c.args.disk) in
     let still = (c.in-Ok-recover.ensures.image.shaped tells stored shaped).gates in
     opened_core g.D.Disk stored gates born places gr c.in-Ok-recover.found c.new-engine.result c.new-core.result c.recover.new.disk shaped.log found fresh c.in-Ok-recover.ensures.known (λ told. still) c.new-core.ensures.engine c.new-core.ensures.entries (c.new-core.ensures.before ∙ c.commits-commits.ensures) c.new-core.ensures.unfailed
@@ -103,4 +108,4 @@ returns-in-Err-recover-clause-image g c =
 
 -- it lies within the disk, and has no entry yet
 pub new-core-requires-clause-idle : goal.new-core-requires-clause-idle
-new-core-requires-clause-idle g c = kept_none (memory c.new-engine.result) c.set_next.new.self.next (ap (λ (x : Memory). x.table) c.new-engine.ensures) (ap (λ (x : Memory). x.sealed) c.new-engine.ensures)
+new-core-requires-clause-idle g c = kept_none (memory c.new-engine.result) c.set_next.new.self.next (ap (λ (x : Memory). x.table) c.new-engine.ensures.memory) (ap (λ (x : Memory). x.sealed) c.new-engine.ensures.memory)

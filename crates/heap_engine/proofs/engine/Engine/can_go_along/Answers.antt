@@ -1,5 +1,5 @@
 use Rattle.std.proofs.Common.{◌≡◌, ℕ, length, refl, sym, ap, subst, arith}
-use Rattle.page_cache.specs.CacheState.{cached}
+use Rattle.logged_pages.specs.State.{log_of, pages_in_memory}
 use Rattle.log_machine.specs.Translation.{translated_list}
 use Rattle.txn_table.specs.Table.{transaction_of}
 use Rattle.heap_engine.specs.Reserve.{WroteBelow, GoAlongBelow}
@@ -25,11 +25,11 @@ returns c =
     let s = c.args.self.now in
     let pairs = c.args.pairs.now in
     let last : c.loop-session.session ≡ 33 = omega arith in
-    let end : length c.as_slice.result.now ≡ length (cached s.cache).words = ap length c.as_slice.ensures.words in
+    let end : length c.as_slice.result.now ≡ length (pages_in_memory s.pages).words = ap length c.as_slice.ensures.words in
     let upto = subst (λ (k : ℕ). GoAlongUpto (length c.as_slice.result.now) pairs s.table k) last c.loop-session.invariant in (
       λ yes.
           subst (λ (n : ℕ). GoAlongBelow n pairs s.table) end
-          (upto_all (length c.as_slice.result.now) pairs s.table (length (cached s.cache).words) s.reserved s.sealed s.sound upto),
+          (upto_all (length c.as_slice.result.now) pairs s.table (length (pages_in_memory s.pages).words) s.reserved s.sealed s.sound upto),
       λ along. refl,
     )
 
@@ -38,10 +38,10 @@ returns-then-not-lie_below c =
     let s = c.args.self.now in
     let pairs = c.args.pairs.now in
     let us = c.undo.result.now in
-    let end : length c.as_slice.result.now ≡ length (cached s.cache).words = ap length c.as_slice.ensures.words in (
+    let end : length c.as_slice.result.now ≡ length (pages_in_memory s.pages).words = ap length c.as_slice.ensures.words in (
       λ no. absurd (cc no),
       λ along.
-          let below = told_along (length (cached s.cache).words) pairs s.table c.loop-session.session us along (c.active.ensures.0 c.if-active.true) c.undo.ensures in
+          let below = told_along (length (pages_in_memory s.pages).words) pairs s.table c.loop-session.session us along (c.active.ensures.0 c.if-active.true) c.undo.ensures in
           let yes = c.lie_below.ensures.1 (subst (λ (n : ℕ). WroteBelow n (translated_list pairs us)) (sym end) below) in
           absurd (cc (yes, c.if-not-lie_below.true)),
     )

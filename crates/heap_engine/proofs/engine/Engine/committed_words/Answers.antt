@@ -2,7 +2,7 @@ use Rattle.std.proofs.Common.{◌≡◌, ◌+◌, ℕ, List, length, sym, ap, �
 use Rattle.log_machine.specs.declared.UndoEntry.{UndoEntry}
 use Rattle.log_machine.specs.Machine.{taken_back}
 use Rattle.committed_words.specs.Committed.{words_of}
-use Rattle.page_cache.specs.CacheState.{cached}
+use Rattle.logged_pages.specs.State.{log_of, pages_in_memory}
 use Rattle.txn_table.specs.Table.{transaction_of}
 use Rattle.heap_engine.specs.Reserve.{undo_if, WroteBelow}
 use Rattle.heap_engine.proofs.Tables.{idle, told_undo, inside_of}
@@ -16,11 +16,11 @@ take_back-requires c =
     let s = c.args.self.now in
     let o = transaction_of s.table c.loop-session.session in
     let is = told_undo o c.undo.result.now (c.active.ensures.0 c.if-active.true) c.undo.ensures in
-    let inside = subst (λ n. WroteBelow n (undo_if o)) (sym c.loop-session.invariant.long) (inside_of s.table (length (cached s.cache).words) s.reserved s.sealed c.loop-session.session s.sound) in
+    let inside = subst (λ n. WroteBelow n (undo_if o)) (sym c.loop-session.invariant.long) (inside_of s.table (length (pages_in_memory s.pages).words) s.reserved s.sealed c.loop-session.session s.sound) in
     turned_below (length (words_of c.loop-session.words)) c.undo.result.now (undo_if o) is inside
 
 pub loop-session-init : goal.loop-session-init
-loop-session-init c = left_first c.args.self.now.table (cached c.args.self.now.cache).words (words_of c.of-words.result) (c.of-words.ensures ∙ c.as_slice.ensures.words)
+loop-session-init c = left_first c.args.self.now.table (pages_in_memory c.args.self.now.pages).words (words_of c.of-words.result) (c.of-words.ensures ∙ c.as_slice.ensures.words)
 
 pub of-words-requires : goal.of-words-requires
 of-words-requires c = omega (arith, ap length c.as_slice.ensures.words, c.args.self.now.few)
@@ -34,14 +34,14 @@ loop-session-preserved c =
       | then-active+in_ok-take_back w ↦
           let is = told_undo o w.undo.result.now (c.active.ensures.0 w.if-active.true) w.undo.ensures in
           let now = ap words_of w.words-is ∙ w.in_ok-take_back.ensures.ok ∙ ap (λ (us : List UndoEntry). taken_back us (words_of c.loop-session.words)) is in
-          subst (λ (ws : List ℕ). IsLeft s.table (cached s.cache).words (q + 1) ws) (sym now) (left_more s.table (cached s.cache).words q (words_of c.loop-session.words) c.loop-session.invariant)
+          subst (λ (ws : List ℕ). IsLeft s.table (pages_in_memory s.pages).words (q + 1) ws) (sym now) (left_more s.table (pages_in_memory s.pages).words q (words_of c.loop-session.words) c.loop-session.invariant)
       | else-active w ↦
           let none = idle o c.active.result c.active.ensures w.if-active.false in
-          subst (λ (ws : List ℕ). IsLeft s.table (cached s.cache).words (q + 1) ws) (sym (ap words_of w.words-is)) (left_same s.table (cached s.cache).words q (words_of c.loop-session.words) none c.loop-session.invariant)
+          subst (λ (ws : List ℕ). IsLeft s.table (pages_in_memory s.pages).words (q + 1) ws) (sym (ap words_of w.words-is)) (left_same s.table (pages_in_memory s.pages).words q (words_of c.loop-session.words) none c.loop-session.invariant)
     ]
 
 pub returns : goal.returns
 returns c =
     let s = c.args.self.now in
     let last : c.loop-session.session ≡ 33 = omega arith in
-    left_last s.table (cached s.cache).words (words_of c.loop-session.words) c.loop-session.session last c.loop-session.invariant
+    left_last s.table (pages_in_memory s.pages).words (words_of c.loop-session.words) c.loop-session.session last c.loop-session.invariant

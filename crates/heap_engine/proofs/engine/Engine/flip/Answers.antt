@@ -1,7 +1,7 @@
 use Rattle.std.proofs.Common.{rules, ◌≡◌, ℕ, ◌+◌, length-append, List, [], ◌∷◌, length, None, Some, refl, sym, ap, ◌∙◌, subst, arith}
 use Rattle.std.specs.Prelude.{fold}
 use Rattle.gated_log.specs.LogState.{HasSpare}
-use Rattle.page_cache.specs.CacheState.{cached}
+use Rattle.logged_pages.specs.State.{log_of, pages_in_memory}
 use Rattle.heap_spaces.specs.Collection.{Collection}
 use Rattle.heap_spaces.specs.Copying.{begun, with_copies}
 use Rattle.heap_spaces.specs.Spaces.{SpacesState, flipped, with_copied}
@@ -22,6 +22,7 @@ use Rattle.txn_table.specs.Translation.{HaveGoneAlong}
 use Rattle.heap_memory.specs.Leaves.{Adds}
 use Rattle.heap_engine.specs.EngineState.{memory}
 use Rattle.heap_engine.specs.Reserve.{GoAlongBelow}
+use Rattle.heap_engine.proofs.Carried.{adds_carried, carried}
 use Rattle.heap_engine.proofs.FlipLeft.{flip_bytes, flip_below, flip_sound, flip_owes, flip_begins, flip_waits, flips_with}
 use Rattle.heap_engine.proofs.FlipRoots.{some_roots}
 use Rattle.heap_engine.proofs.FlipSound.{sound_along}
@@ -30,27 +31,27 @@ use Rattle.heap_engine.proofs.Tables.{sound_same}
 use Rattle.heap_engine.proofs.engine.Engine.flip.Goals as goal
 
 pub make_room-requires : goal.make_room-requires
-make_room-requires c =
+make_room-requires g c =
     let few = flip_bytes c.args.self.now.spaces c.in_ok-plan.plan c.used-used.ensures.sound c.in_ok-plan.ensures.copied in
     let long = c.length.ensures.value ∙ ap (λ (rec : Record). length (spelling rec)) c.record.ensures in
     record { few = omega (arith, few, long) }
 
 pub add_copies-requires : goal.add_copies-requires
-add_copies-requires c =
+add_copies-requires g c =
     let size = planned_size c.args.self.now.spaces c.in_ok-plan.plan c.in_ok-plan.ensures.copied in
     let copied = ap (λ (k : Collection). k.copied) c.begin-collection.ensures in
     let used = ap (λ (k : Collection). k.used) c.begin-collection.ensures in
     omega (arith, size, c.moved.ensures.size, copied, used, c.used-used.ensures.used)
 
 pub carry_out-requires-clause-inside : goal.carry_out-requires-clause-inside
-carry_out-requires-clause-inside c =
+carry_out-requires-clause-inside g c =
     let s = c.args.self.now in
-    let end = length (cached c.make_room.new.self.cache).words in
+    let end = length (pages_in_memory c.make_room.new.self.pages).words in
     let long : end ≡ words_in s.spaces.pages = ap length c.make_room.ensures.same.words ∙ s.sized in
     subst (λ (rec : Record). EachWritesBelow end (rec ∷ [])) (sym c.into_record.ensures) (flip_below s.spaces c.in_ok-plan.plan end c.used-used.ensures.sound c.in_ok-plan.ensures.copied long)
 
 pub invariant_of-self-2-clause-owed : goal.invariant_of-self-2-clause-owed
-invariant_of-self-2-clause-owed c =
+invariant_of-self-2-clause-owed g c =
     let s = c.args.self.now in
     let copies = c.in_ok-plan.plan in
     let spaces = c.change_spaces-reply.ensures.spaces ∙ ap (λ (x : SpacesState). with_copied (flipped x) (copied_size copies)) c.make_room.ensures.same.spaces in
@@ -58,7 +59,7 @@ invariant_of-self-2-clause-owed c =
     flip_owes s.spaces c.change_spaces-reply.new.spaces copies (Some c.add_copies.new.self) spaces begins
 
 pub invariant_of-self-2-clause-gray : goal.invariant_of-self-2-clause-gray
-invariant_of-self-2-clause-gray c =
+invariant_of-self-2-clause-gray g c =
     let s = c.args.self.now in
     let copies = c.in_ok-plan.plan in
     let spaces = c.change_spaces-reply.ensures.spaces ∙ ap (λ (x : SpacesState). with_copied (flipped x) (copied_size copies)) c.make_room.ensures.same.spaces in
@@ -66,20 +67,20 @@ invariant_of-self-2-clause-gray c =
     flip_sound s.spaces c.change_spaces-reply.new.spaces copies (Some c.add_copies.new.self) c.used-used.ensures.sound c.in_ok-plan.ensures.copied spaces begins
 
 pub invariant_of-self-2-clause-sound : goal.invariant_of-self-2-clause-sound
-invariant_of-self-2-clause-sound c =
+invariant_of-self-2-clause-sound g c =
     let s = c.args.self.now in
     let mid = c.make_room.new.self in
     let pairs = pairs_of c.in_ok-plan.plan in
-    let size = length (cached mid.cache).words in
+    let size = length (pages_in_memory mid.pages).words in
     let moves = subst IsRelocation c.pairs-2.ensures.pairs c.pairs-2.ensures.moves in
     let gone = subst (λ (ps : List (ℕ × ℕ)). HaveGoneAlong ps mid.table c.translate.new.self) c.pairs-2.ensures.pairs c.translate.ensures in
-    let long : length (cached s.cache).words ≡ size = ap length (sym c.make_room.ensures.same.words) in
+    let long : length (pages_in_memory s.pages).words ≡ size = ap length (sym c.make_room.ensures.same.words) in
     let below = subst (λ (table : TableState). GoAlongBelow size pairs table) (sym c.make_room.ensures.same.table) (subst (λ (n : ℕ). GoAlongBelow n pairs s.table) long c.in_ok-plan.ensures.along) in
     let sound = sound_along mid.table c.translate.new.self size mid.reserved mid.sealed pairs moves mid.sound gone below in
-    sound_same c.translate.new.self c.translate.new.self size (length (cached c.carry_out.new.cache).words) mid.reserved mid.reserved mid.sealed sound refl c.carry_out.ensures.size refl
+    sound_same c.translate.new.self c.translate.new.self size (length (pages_in_memory c.carry_out.new.self).words) mid.reserved mid.reserved mid.sealed sound refl (carried c.carry_out.result c.carry_out.ensures.still.1 c.carry_out.ensures.carries).size refl
 
 pub returns-clause-flipped : goal.returns-clause-flipped
-returns-clause-flipped c objects words is =
+returns-clause-flipped g c objects words is =
     let s = c.args.self.now in
     let mid = c.make_room.new.self in
     let same = c.make_room.ensures.same in
@@ -89,9 +90,9 @@ returns-clause-flipped c objects words is =
     let gone =
     subst (λ (table : TableState). HaveGoneAlong (pairs_of copies) table c.translate.new.self) same.table
     (subst (λ (ps : List (ℕ × ℕ)). HaveGoneAlong ps mid.table c.translate.new.self) c.pairs-2.ensures.pairs c.translate.ensures) in
-    let log = subst (λ (rec : Record). Adds mid.log c.carry_out.new.log (rec ∷ [])) c.into_record.ensures c.carry_out.ensures.log in
-    let put = c.carry_out.ensures.words ∙ ap (λ (rec : Record). fold put_record (cached mid.cache).words (rec ∷ [])) c.into_record.ensures in
-    let lsns = c.carry_out.ensures.lsns ∙ ap (λ (rec : Record). (redo_all (log_next_lsn mid.log) (cached mid.cache) (rec ∷ [])).lsns) c.into_record.ensures in
+    let log = subst (λ (rec : Record). Adds (log_of mid.pages) (log_of c.carry_out.new.self) (rec ∷ [])) c.into_record.ensures (adds_carried _ _ _ c.in_ok-carry_out.ensures.carries) in
+    let put = c.in_ok-carry_out.ensures.carries.words ∙ ap (λ (rec : Record). fold put_record (pages_in_memory mid.pages).words (rec ∷ [])) c.into_record.ensures in
+    let lsns = c.in_ok-carry_out.ensures.carries.lsns ∙ ap (λ (rec : Record). (redo_all (log_next_lsn (log_of mid.pages)) (pages_in_memory mid.pages) (rec ∷ [])).lsns) c.into_record.ensures in
     let locks = c.in_ok-rekey.ensures.ok ∙ (λ i. rekeyed (c.pairs.ensures.pairs i) (same.locks i)) in
     let spaces = c.change_spaces-reply.ensures.spaces ∙ ap (λ (x : SpacesState). with_copied (flipped x) (copied_size copies)) same.spaces in
     let begins = flip_begins s.spaces copies c.moved.result.now c.begin-collection.result c.add_copies.new.self c.used-used.result c.begin-collection.ensures c.used-used.ensures.used c.moved.ensures.moved c.in_ok-add_copies.ensures.ok in (
@@ -102,7 +103,7 @@ returns-clause-flipped c objects words is =
             log = log;
             words = put;
             lsns = lsns;
-            store = c.carry_out.ensures.store;
+            store = c.in_ok-carry_out.ensures.carries.store;
             table = refl;
             locks = locks;
             spaces = spaces;
@@ -112,14 +113,14 @@ returns-clause-flipped c objects words is =
     )
 
 pub returns-then-is_some-clause-reply : goal.returns-then-is_some-clause-reply
-returns-then-is_some-clause-reply c =
+returns-then-is_some-clause-reply g c =
     let s = c.args.self.now in
-    let roots = some_roots s.table s.locks (length (cached s.cache).words) s.reserved s.sealed s.sound in
+    let roots = some_roots s.table s.locks (length (pages_in_memory s.pages).words) s.reserved s.sealed s.sound in
     (roots.0, roots.1, flip_waits (memory s) roots.0 (search rules))
 
 pub invariant_of-self-2-clause-spare : goal.invariant_of-self-2-clause-spare
-invariant_of-self-2-clause-spare c =
+invariant_of-self-2-clause-spare g c =
     let mid = c.make_room.new.self in
-    let spare : HasSpare mid.log (c.length.result + mid.reserved) = search rules in
+    let spare : HasSpare (log_of mid.pages) (c.length.result + mid.reserved) = search rules in
     let long = c.length.ensures.value ∙ ap (λ (rec : Record). length (spelling rec)) (c.record.ensures ∙ sym c.into_record.ensures) in
-    c.carry_out.ensures.spare mid.reserved (omega (arith, spare, long, length-append (spelling c.into_record.result) []))
+    (carried c.carry_out.result c.carry_out.ensures.still.1 c.carry_out.ensures.carries).spare mid.reserved (omega (arith, spare, long, length-append (spelling c.into_record.result) []))

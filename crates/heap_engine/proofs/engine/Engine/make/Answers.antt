@@ -4,7 +4,7 @@ use Rattle.std.proofs.lemmas.Option.{same_Some}
 use Rattle.graph_model.specs.declared.reply.Reply.TheVariants.{Done, Refused}
 use Rattle.graph_model.specs.declared.reply.Refusal.TheVariants.{VolatileFull}
 use Rattle.graph_model.specs.Plain.{reply_of}
-use Rattle.page_cache.specs.CacheState.{cached}
+use Rattle.logged_pages.specs.State.{log_of, pages_in_memory}
 use Rattle.volatile_area.specs.Area.{with_object}
 use Rattle.txn_table.specs.declared.place.Place.TheVariants.{Volatile}
 use Rattle.txn_table.specs.Table.{TransactionState, transaction_of, with_transaction}
@@ -34,8 +34,8 @@ invariant_of-self-clause-sound c =
     let t = there (transaction_of old.table s) some in
     let room = area_room (transaction_of old.table s) t.0 c.new_object.result c.in-Ok.object c.args.len t.1 c.in-Ok.is c.new_object.ensures.full in
     let index = told (transaction_of old.table s) t.0 (λ v. c.in-Ok.object ≡ length v.area.words) t.1 c.in-Ok.ensures.index in
-    let made = sound_area old.table c.new_object.new.self (length (cached old.cache).words) old.reserved old.sealed s (λ area. with_object area c.args.len) old.sound some c.in-Ok.ensures.made in
-    sound_handle c.new_object.new.self c.set_handle.new.self (length (cached old.cache).words) old.reserved old.sealed s c.args.h (Some (Volatile c.in-Ok.object)) made mid c.set_handle.ensures
+    let made = sound_area old.table c.new_object.new.self (length (pages_in_memory old.pages).words) old.reserved old.sealed s (λ area. with_object area c.args.len) old.sound some c.in-Ok.ensures.made in
+    sound_handle c.new_object.new.self c.set_handle.new.self (length (pages_in_memory old.pages).words) old.reserved old.sealed s c.args.h (Some (Volatile c.in-Ok.object)) made mid c.set_handle.ensures
     (can_refer_made c.in-Ok.object (omega (arith, room, index)))
 
 pub returns-in-Ok-clause-reply : goal.returns-in-Ok-clause-reply
@@ -63,7 +63,7 @@ returns-in-Ok-clause-done c is =
       transaction = t;
       was = d.was;
       left = record {
-        log = adds_nothing old.log;
+        log = adds_nothing (log_of old.pages);
         words = refl;
         lsns = refl;
         store = refl;

@@ -1,7 +1,7 @@
 use Rattle.std.proofs.Common.{rules, true, ◌≡◌, Some, Result, Ok, Err, refl, sym, subst}
 use Rattle.std.specs.Prelude.{MatchResult, IfOk, IsErrAnd}
 use Rattle.page_scanner.specs.Passing.{IsScanned}
-use Rattle.page_cache.specs.CacheState.{cached}
+use Rattle.logged_pages.specs.State.{log_of, pages_in_memory}
 use Rattle.page_scanner.specs.PageScan.{records_in}
 use Rattle.page_scanner.specs.Scan.{scan_records}
 use Rattle.heap_engine.specs.Barrier.{CanScan, is_page_scan, planned_records}
@@ -20,15 +20,15 @@ pub of-requires-clause-scan : goal.of-requires-clause-scan
 of-requires-clause-scan c =
     let s = c.args.self.now in
     let scan = c.in_ok-scan.scan in
-    let are : scan_records s.spaces c.in-Some.collection (cached s.cache).words c.args.page ≡ Some (records_in scan) = search rules in
+    let are : scan_records s.spaces c.in-Some.collection (pages_in_memory s.pages).words c.args.page ≡ Some (records_in scan) = search rules in
     let page : scan.page ≡ c.args.page = search rules in
-    subst (λ p. is_page_scan p (records_in scan) ≡ true) (sym page) (scan_shaped s.spaces c.in-Some.collection (cached s.cache).words c.args.page (records_in scan) are)
+    subst (λ p. is_page_scan p (records_in scan) ≡ true) (sym page) (scan_shaped s.spaces c.in-Some.collection (pages_in_memory s.pages).words c.args.page (records_in scan) are)
 
 pub returns-clause-ready : goal.returns-clause-ready
 returns-clause-ready c =
     let s = c.args.self.now in
     let records = (records_in c.in_ok-scan.scan) in
-    let are : scan_records s.spaces c.in-Some.collection (cached s.cache).words c.args.page ≡ Some records = search rules in
+    let are : scan_records s.spaces c.in-Some.collection (pages_in_memory s.pages).words c.args.page ≡ Some records = search rules in
     let known : IsKnown (memory s) = record { spaces = c.next_free-end.ensures.sound; sized = s.sized; owed = s.owed; sound = s.gray } in
     let passes : Passes s.spaces c.in-Some.collection c.args.page records =
     λ st same runs.

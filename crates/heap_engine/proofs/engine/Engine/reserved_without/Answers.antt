@@ -3,7 +3,7 @@ use Rattle.std.specs.Prelude.{IsSome, IfSome}
 use Rattle.std.proofs.lemmas.List.{length-reverse}
 use Rattle.log_machine.specs.declared.UndoEntry.{UndoEntry}
 use Rattle.log_machine.specs.Machine.{end_bytes}
-use Rattle.page_cache.specs.CacheState.{cached}
+use Rattle.logged_pages.specs.State.{log_of, pages_in_memory}
 use Rattle.txn_table.specs.Table.{TransactionState, TableState, transaction_of}
 use Rattle.heap_engine.specs.Reserve.{AreSound}
 use Rattle.heap_engine.proofs.Tables.{there, told, say, kept_own}
@@ -20,11 +20,11 @@ kept table size bytes sealed s us sound some is =
 pub overflow_sub-result : goal.overflow_sub-result
 overflow_sub-result c =
     let s = c.args.self.now in
-    let own = kept s.table (length (cached s.cache).words) s.reserved s.sealed c.args.session c.undo.result.now s.sound c.requires c.undo.ensures in
+    let own = kept s.table (length (pages_in_memory s.pages).words) s.reserved s.sealed c.args.session c.undo.result.now s.sound c.requires c.undo.ensures in
     omega (arith, c.end_bytes.ensures, own.2, own.3)
 
 pub returns-clause-kept : goal.returns-clause-kept
 returns-clause-kept c =
     let s = c.args.self.now in
-    let own = kept s.table (length (cached s.cache).words) s.reserved s.sealed c.args.session c.undo.result.now s.sound c.requires c.undo.ensures in
+    let own = kept s.table (length (pages_in_memory s.pages).words) s.reserved s.sealed c.args.session c.undo.result.now s.sound c.requires c.undo.ensures in
     say (transaction_of s.table c.args.session) own.0 (λ t. s.reserved - c.end_bytes.result + end_bytes (length t.undo) ≡ s.reserved) own.1 (omega (arith, c.end_bytes.ensures, own.2, own.3))

@@ -9,7 +9,7 @@ use Rattle.heap_engine.proofs.ScanEvent.{answered, scanned_page, scanned_no_end}
 use Rattle.heap_engine.proofs.engine.Engine.scan.Goals as goal
 
 pub returns-in-Some-next_gray_page-clause-scanned : goal.returns-in-Some-next_gray_page-clause-scanned
-returns-in-Some-next_gray_page-clause-scanned c page objects words is =
+returns-in-Some-next_gray_page-clause-scanned g c page objects words is =
     let m = memory c.args.self.now in
     let this = c.in-Some-next_gray_page.page in
     let wanted = reply_of (scan_refusal m (Some this)) (scan_reply m (Some this)) in
@@ -17,7 +17,7 @@ returns-in-Some-next_gray_page-clause-scanned c page objects words is =
     subst (λ (p : ℕ). Scans m (memory c.scan_page.new.self) (Some p)) (sym here) (c.scan_page.ensures.scanned objects words (subst (λ (p : ℕ). c.scan_page.result ≡ Ok (Scanned p objects words)) here is))
 
 pub returns-in-Some-next_gray_page-clause-collected : goal.returns-in-Some-next_gray_page-clause-collected
-returns-in-Some-next_gray_page-clause-collected c used is =
+returns-in-Some-next_gray_page-clause-collected g c used is =
     let m = memory c.args.self.now in
     let this = c.in-Some-next_gray_page.page in
     let wanted = reply_of (scan_refusal m (Some this)) (scan_reply m (Some this)) in

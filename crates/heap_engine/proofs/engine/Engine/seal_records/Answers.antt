@@ -4,7 +4,7 @@ use Rattle.gated_log.specs.LogState.{log_room, log_used}
 use Rattle.log_machine.specs.Effect.{EachWritesBelow}
 use Rattle.log_records.specs.declared.Record.{Record}
 use Rattle.log_records.specs.Record.{spellings}
-use Rattle.page_cache.specs.CacheState.{cached}
+use Rattle.logged_pages.specs.State.{log_of, pages_in_memory}
 use Rattle.txn_table.specs.Table.{TransactionState, transaction_of}
 use Rattle.volatile_area.specs.Area.{AreaState}
 use Rattle.sealing.specs.declared.sealing.Sealing.{Sealing}
@@ -48,12 +48,12 @@ returns-clause-inside c =
     let f = found c.args.self.now c.args.session c.args.sealing.now c.area-area.result.now c.requires.active c.requires.found c.area-area.ensures in
     let same = records_are (memory s) f.0 c.args.sealing.now c.area-area.result.now c.as_slice.result.now c.next_free-address.result f.2 f.3 c.as_slice.ensures.words c.next_free-address.ensures.address in
     let all = records_below (memory s) f.0 c.args.sealing.now f.2 c.next_free-address.ensures.sound s.sized c.requires.room (c.args.self.now.sound.each c.args.session f.0 f.1).inside in
-    map_ok c.records.result _ (λ records. EachWritesBelow (length (cached s.cache).words) records.items) (λ records is. subst (λ (rs : List Record). EachWritesBelow (length (cached s.cache).words) rs) (sym (is ∙ same)) all) c.records.ensures
+    map_ok c.records.result _ (λ records. EachWritesBelow (length (pages_in_memory s.pages).words) records.items) (λ records is. subst (λ (rs : List Record). EachWritesBelow (length (pages_in_memory s.pages).words) rs) (sym (is ∙ same)) all) c.records.ensures
 
 pub returns-clause-few : goal.returns-clause-few
 returns-clause-few c =
     let s = c.args.self.now in
     let f = found c.args.self.now c.args.session c.args.sealing.now c.area-area.result.now c.requires.active c.requires.found c.area-area.ensures in
     let same = records_are (memory s) f.0 c.args.sealing.now c.area-area.result.now c.as_slice.result.now c.next_free-address.result f.2 f.3 c.as_slice.ensures.words c.next_free-address.ensures.address in
-    let few = records_few (memory s) f.0 c.args.sealing.now (log_used s.log) (log_room s.log) f.2 c.next_free-address.ensures.sound c.requires.room (omega (arith, s.room, kept_own s.table (length (cached s.cache).words) s.reserved s.sealed c.args.session f.0 s.sound f.1)) s.log.small in
+    let few = records_few (memory s) f.0 c.args.sealing.now (log_used (log_of s.pages)) (log_room (log_of s.pages)) f.2 c.next_free-address.ensures.sound c.requires.room (omega (arith, s.room, kept_own s.table (length (pages_in_memory s.pages).words) s.reserved s.sealed c.args.session f.0 s.sound f.1)) (log_of s.pages).small in
     map_ok c.records.result _ _ (λ records is. omega (arith, few, ap (λ (rs : List Record). length (spellings rs)) (is ∙ same))) c.records.ensures

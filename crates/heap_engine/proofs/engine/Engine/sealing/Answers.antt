@@ -1,5 +1,5 @@
 use Rattle.std.proofs.Common.{length}
-use Rattle.page_cache.specs.CacheState.{cached}
+use Rattle.logged_pages.specs.State.{log_of, pages_in_memory}
 use Rattle.txn_table.specs.Table.{transaction_of}
 use Rattle.heap_engine.specs.Reserve.{undo_if}
 use Rattle.heap_engine.specs.EngineState.{memory}
@@ -12,8 +12,8 @@ new-requires c =
     let s = c.args.self.now in
     let o = transaction_of s.table c.args.session in
     let is = told_undo o c.undo-undo.result.now c.requires c.undo-undo.ensures in
-    let inside = inside_of s.table (length (cached s.cache).words) s.reserved s.sealed c.args.session s.sound in
-    record { inside = written_inside (cached s.cache).words c.as_slice.result.now c.undo-undo.result.now (undo_if o) is c.as_slice.ensures.words inside }
+    let inside = inside_of s.table (length (pages_in_memory s.pages).words) s.reserved s.sealed c.args.session s.sound in
+    record { inside = written_inside (pages_in_memory s.pages).words c.as_slice.result.now c.undo-undo.result.now (undo_if o) is c.as_slice.ensures.words inside }
 
 pub returns : goal.returns
 returns c =

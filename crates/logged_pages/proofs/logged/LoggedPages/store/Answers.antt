@@ -64,6 +64,15 @@ returns-clause-stored g c told knows =
       other_gates = λ q apart. its c.flush-stored.result x is (c.flush-stored.ensures.other_gates told q apart);
     })))
 
+pub returns-clause-frames : goal.returns-clause-frames
+returns-clause-frames g c told knows =
+    let old = c.args.self.now in
+    let before = g.D.Disk.bytes c.args.disk.now in
+    let mid = g.D.Disk.bytes c.force_up_to.new.disk in
+    let Known : PageCache → Type 0 = λ k. Knows k.store mid in
+    let knows_mid = subst Known (sym c.force_up_to.ensures.cache) (knows_still old before mid (c.in_ok-force_up_to.ensures.outside told) knows) in
+    c.flush-stored.ensures.known told knows_mid
+
 pub returns-clause-moments : goal.returns-clause-moments
 returns-clause-moments g c told only o batches pending is disk =
     let d = g.D.Disk in

@@ -6,8 +6,8 @@ use Rattle.log_records.specs.declared.Record.{Record}
 use Rattle.log_records.specs.declared.Record.TheVariants.{Scan}
 use Rattle.log_records.specs.Record.{copy_record, spellings}
 use Rattle.heap_engine.proofs.Appended.{room_front, spare_front, appended_bytes}
-use Rattle.heap_engine.proofs.Spare.{ok_gives}
-use Rattle.heap_engine.proofs.logging.append_copies.Goals as goal
+use Rattle.logged_pages.proofs.CarriedLaws.{ok_gives}
+use Rattle.heap_engine.proofs.planned.append_copies.Goals as goal
 
 pub append_spelled-requires-clause-spelled : goal.append_spelled-requires-clause-spelled
 append_spelled-requires-clause-spelled c =
@@ -32,6 +32,6 @@ returns c =
     let told = c.append_spelled.ensures in
     let ok = told.in_room (spare_front c.args.log.now records (Scan scan.page scan.writes ∷ []) bytes c.spelled_copies-spelled.ensures c.requires.memory) in
     let added : (batches : List (List Record)) (pending all : List Record) → bytes ≡ spellings all → length all ≡ c.copy_count.result → Keeps c.args.log.now batches pending → Keeps c.append_spelled.new.self batches (pending ++ all) =
-    λ batches pending all spelled counted keeps. ok_gives c.append_spelled.result _ ok (told.added batches pending all spelled counted keeps) in
+    λ batches pending all spelled counted keeps. ok_gives c.append_spelled.result ok (told.added batches pending all spelled counted keeps) in
     appended_bytes c.args.log.now c.append_spelled.new.self records bytes c.copy_count.result c.spelled_copies-spelled.ensures (length-map scan.copies copy_record ∙ sym c.copy_count.ensures) told.place added
-    (ok_gives c.append_spelled.result _ ok told.size) (ok_gives c.append_spelled.result _ ok told.count) told.memory
+    (ok_gives c.append_spelled.result ok told.size) (ok_gives c.append_spelled.result ok told.count) told.memory

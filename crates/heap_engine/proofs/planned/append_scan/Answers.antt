@@ -4,10 +4,10 @@ use Rattle.gated_log.specs.LogState.{Keeps, log_used, log_need, log_room, HasSpa
 use Rattle.log_records.specs.declared.Record.{Record}
 use Rattle.log_records.specs.declared.Record.TheVariants.{Scan}
 use Rattle.log_records.specs.Record.{copy_record, spelling}
-use Rattle.heap_engine.specs.Appended.{IsAppended}
+use Rattle.logged_pages.specs.Appended.{IsAppended}
 use Rattle.heap_engine.proofs.Appended.{appended_more, room_next, spare_next}
-use Rattle.heap_engine.proofs.Spare.{ok_gives}
-use Rattle.heap_engine.proofs.logging.append_scan.Goals as goal
+use Rattle.logged_pages.proofs.CarriedLaws.{ok_gives}
+use Rattle.heap_engine.proofs.planned.append_scan.Goals as goal
 
 pub append-requires : goal.append-requires
 append-requires c =
@@ -31,7 +31,7 @@ returns c =
     let rec = c.record.result.now in
     let ok = told.in_room (subst (λ (r : Record). HasSpare mid (length (spelling r))) (sym c.record.ensures)
     (spare_next c.args.log.now mid (map copy_record scan.copies) (Scan scan.page scan.writes) [] c.append_copies.ensures c.requires.memory)) in
-    let added : (batches : List (List Record)) (pending : List Record) → Keeps mid batches pending → Keeps c.append.new.self batches (pending ++ rec ∷ []) = λ batches pending keeps. ok_gives c.append.result _ ok (told.added batches pending keeps) in
+    let added : (batches : List (List Record)) (pending : List Record) → Keeps mid batches pending → Keeps c.append.new.self batches (pending ++ rec ∷ []) = λ batches pending keeps. ok_gives c.append.result ok (told.added batches pending keeps) in
     subst (λ (r : Record). IsAppended c.args.log.now c.append.new.self (map copy_record scan.copies ++ r ∷ [])) c.record.ensures
     (appended_more c.args.log.now mid c.append.new.self (map copy_record scan.copies) rec c.append_copies.ensures told.place added
-    (ok_gives c.append.result _ ok told.used) (ok_gives c.append.result _ ok told.count) told.memory)
+    (ok_gives c.append.result ok told.used) (ok_gives c.append.result ok told.count) told.memory)
