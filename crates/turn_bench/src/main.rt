@@ -1,9 +1,15 @@
-//! Times the turns of `turn_lock` and those of std's `Mutex`, around the same ledger, in one run.
+//! Times the turns of `turn_lock` in one run: those of `TurnLock` beside those of std's `Mutex`, around the same ledger, and those of `TwinLock` beside those of
+//! `TurnLock`, around the same journal.
 #![tactic(auto)]
 
 ghost use Rattle.std.specs.Prelude.{◌≡◌, ◌<◌, ◌≤◌, [], All, length};
 ghost use Rattle.turn_lock.specs.Passes.{first_of, mine_of, seen_of, IsPassOf, IsResting};
 
+mod figures;
+mod twins;
+
+use crate::figures::{ROUNDS, all_turns, percent, rate};
+use crate::twins::compare;
 use anyhow::Error;
 use std::alloc::{AllocError, Global};
 use std::sync::{Mutex, Wait};
@@ -15,9 +21,6 @@ use turn_lock::{Pass, TurnLock};
 
 // A label for each thread, which nothing reads.
 const LABELS: [u32; 34] = [0; 34];
-
-// How often each is timed, alternately. The sum counts, so that a round in which the threads hardly met is one of several.
-const ROUNDS: u32 = 5;
 
 // The numbers that a thread posts.
 fn numbers(alloc: Global, turns: u32) -> Result<Vec<u64>, Error> {
@@ -93,36 +96,30 @@ fn measure<R: Threads + Wait + Clock + Sync>(
     Ok((lock, mutex))
 }
 
-// Turns a second.
-fn rate(time: Duration, turns: u64) -> u64 {
-    let micros = u64::try_from(time.as_micros()).unwrap_or(u64::MAX);
-    if micros == 0 {
-        return 0;
-    }
-    turns.saturating_mul(1_000_000) / micros
-}
-
-// One number as a percentage of another.
-fn percent(part: u64, whole: u64) -> u64 {
-    if whole == 0 {
-        return 0;
-    }
-    part.saturating_mul(100) / whole
-}
+// The greatest number of threads whose turns of both locks are compared.
+const MOST: usize = 8;
 
 fn main(rt: HostRuntime) -> Result<(), Error> {
     let alloc = rt.alloc();
     let Some(word) = env::args(&rt)?.nth(1) else {
-        println!(rt; "turn_bench TURNS: turns a second with 1 to 34 threads")?;
+        println!(rt;
+            "turn_bench TURNS [THREADS]: turns a second with 1 to 34 threads, or those of both locks with 1 to {MOST}"
+        )?;
         return Ok(());
     };
     let turns = word.parse::<u32>()?;
     let posts = numbers(alloc, turns)?;
+    if let Some(word) = env::args(&rt)?.nth(2) {
+        let threads = word.parse::<usize>()?.clamp(1, MOST);
+        let (turn, [twin, beside, device]) = compare(&rt, alloc, threads, turns, posts.as_slice())?;
+        println!(rt;
+            "{threads} threads: {turn} turns a second, with two turns {twin} %, beside the device's {beside} %, the device's alone {device} %"
+        )?;
+        return Ok(());
+    }
     for threads in [1usize, 2, 4, 8, 16, 34] {
         let (lock, mutex) = measure(&rt, alloc, threads, posts.as_slice())?;
-        let all = (threads as u64)
-            .saturating_mul(u64::from(turns))
-            .saturating_mul(u64::from(ROUNDS));
+        let all = all_turns(threads, turns);
         let (lock, mutex) = (rate(lock, all), rate(mutex, all));
         let of = percent(lock, mutex);
         println!(rt; "{threads} threads: {lock} turns a second, {mutex} under a Mutex, {of} %")?;

@@ -19,6 +19,14 @@ module _ {E : Type 0} where
   begin_append log [] ys a b = b
   begin_append log (x ∷ xs) ys a b = (a.0, begin_append log xs ys a.1 b)
 
+  pub all_on : (p q : E → Type 0) → ((e : E) → p e → q e) → (xs : List E) → AllByRecursion p xs → AllByRecursion q xs
+  all_on p q on [] all = tt
+  all_on p q on (x ∷ xs) all = (on x all.0, all_on p q on xs all.1)
+
+  pub all_append : (p : E → Type 0) (xs ys : List E) → AllByRecursion p xs → AllByRecursion p ys → AllByRecursion p (xs ++ ys)
+  all_append p [] ys a b = b
+  all_append p (x ∷ xs) ys a b = (a.0, all_append p xs ys a.1 b)
+
   pub length_longer : (n : ℕ) (xs ys : List E) → n ≤ length xs → n ≤ length ys → n ≤ length (longer xs ys)
   length_longer n xs ys a b = elim (Rattle.std.specs.Prelude.nat_lt (length xs) (length ys)) as (λ c. n ≤ length (cond c ys xs)) [ true ↦ b | false ↦ a ]
 

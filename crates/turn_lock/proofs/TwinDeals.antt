@@ -39,13 +39,13 @@ both_taken (x ∷ y ∷ l) (suc (suc k)) h = absurd (omega (arith, h))
 module _ {T D E : Type 0} (entries : T → List E) (stood : T → ℕ) (front : E → ℕ) (empty_turns : T → ℕ) (follows : T → T → Type 0) (lock : TwinLock T D E) (passes : ℕ) where
   -- the first seat once the passes below k have their numbers
   abbrev pub twin_dealing : ℕ → Seen T E (Counted D) ℕ
-  twin_dealing k = record { value = dealing entries stood front empty_turns follows (first_of lock) passes k; device = dealing no_entries none_stood no_front turns_of any_follows (first_device_of lock) passes k; more = record { own = None; down = None; saw = Some (first_device_of lock); owes = 0 } }
+  twin_dealing k = record { value = dealing entries stood front empty_turns follows (first_of lock) passes k; device = dealing no_entries none_stood no_front turns_of any_follows (first_device_of lock) passes k; more = record { own = None; down = None; saw = Some (first_device_of lock); parts = []; owes = 0 } }
 
   pub twin_deals_next : (k : ℕ) → k < passes → twin_left (twin_dealing k) ≡ twin_dealing (k + 1)
   twin_deals_next k h = λ i. record {
     value = deals_next entries stood front empty_turns follows (first_of lock) passes k h i;
     device = deals_next no_entries none_stood no_front turns_of any_follows (first_device_of lock) passes k h i;
-    more = record { own = None; down = None; saw = Some (first_device_of lock); owes = 0 };
+    more = record { own = None; down = None; saw = Some (first_device_of lock); parts = []; owes = 0 };
   }
 
   pub twin_new_pass : (y : TwinPass T D E) (k label : ℕ) → k < passes → y.seat.table_id ≡ lock.table.shared.table_id → y.seat.me ≡ (twin_dealt (twin_dealing k), []) → y.label ≡ label → IsNew lock k label (entries (first_of lock)) y
@@ -68,6 +68,7 @@ module _ {T D E : Type 0} (entries : T → List E) (stood : T → ℕ) (front : 
         turns = ap (λ m. m.0.value.turns) me;
         front = ap (λ m. m.0.value.front) me;
         saw = ap (λ m. uncounted m.0.more.saw) me;
+        devices = ap (λ m. m.0.more.parts) me;
         owes = ap (λ m. m.0.more.owes) me;
       }
 

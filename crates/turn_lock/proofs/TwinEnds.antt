@@ -3,6 +3,7 @@ use Rattle.std.proofs.Common.{◌≡◌, ℕ, zero, suc, ◌<◌, ◌≤◌, Lis
 use mathlib.Core.Option.{some, some-injective}
 use mathlib.Core.Option as maybe
 use lib.ListN.{get_elem?}
+use Rattle.std.specs.List.{AllByRecursion}
 use Rattle.std.proofs.lemmas.Option.{none-some, same_Some}
 use Rattle.atomic_table.specs.Table.{State, Splits, Joins, opening, Final}
 use Rattle.atomic_table.proofs.Lists.{at_snoc, at_longer, set_else}
@@ -15,11 +16,12 @@ use Rattle.turn_lock.specs.Rule.{Kept, is_held, newcomer}
 use Rattle.turn_lock.specs.Steps.{spent}
 use Rattle.turn_lock.specs.Twin.{value_side, device_side, Together}
 use Rattle.turn_lock.specs.Tied.{Seen, IsOwn, IsDown, Tied}
-use Rattle.turn_lock.specs.TwinSteps.{twin_left, twin_dealt, twin_joined, twin_spent, either_saw}
+use Rattle.turn_lock.specs.TwinSteps.{twin_left, twin_dealt, twin_joined, twin_spent, either_saw, what_saw}
+use Rattle.turn_lock.proofs.Lists.{all_append}
 use Rattle.turn_lock.proofs.Counts.{total_append, total_set, total_alone}
 use Rattle.turn_lock.proofs.Keeps.{Ends, opens, splits, joins, ends_at, numbers_none, no_append}
 use Rattle.turn_lock.proofs.TwinParts.{value_of, device_of, map_set, at_map, value_at, device_at}
-use Rattle.turn_lock.proofs.TwinTies.{nobody_has, nobody_down, own_set, down_set, saw_set, idle_set, value_in, device_in, no_bool}
+use Rattle.turn_lock.proofs.TwinTies.{nobody_has, nobody_down, own_set, down_set, saw_set, parts_set, parts_kept, idle_set, value_in, device_in, no_bool}
 
 module _ {A B : Type 0} where
   map_more : (f : A → B) (xs : List A) (v : A) → map f (xs ++ v ∷ []) ≡ map f xs ++ f v ∷ []
@@ -29,6 +31,10 @@ module _ {A B : Type 0} where
 either_later : {D : Type 0} (later : D → D → Type 0) (x y : Option D) (device : D) → ((d : D) → x ≡ Some d → later d device) → ((d : D) → y ≡ Some d → later d device) → (d : D) → either_saw x y ≡ Some d → later d device
 either_later later (Some e) y device a b = a
 either_later later None y device a b = b
+
+saw_in : {D : Type 0} (later : D → D → Type 0) (x : Option D) (device : D) → ((d : D) → x ≡ Some d → later d device) → AllByRecursion (λ d. later d device) (what_saw x)
+saw_in later (Some e) device a = (a e refl, tt)
+saw_in later None device a = tt
 
 module _ {A V : Type 0} (R : State A V → Type 0) where
   other_views : (ws : List ℕ) (hs : List (maybe.Option A)) (vs vs' : List V) → vs ≡ vs' → R record { words = ws; homes = hs; views = vs } → R record { words = ws; homes = hs; views = vs' }
@@ -51,7 +57,7 @@ module _ {T E D F : Type 0}
   Q = Kept entries' stood' front' empty_turns' follows' first' passes
 
   abbrev Tie : St → Type 0
-  Tie = Tied entries follows first beside later owed
+  Tie = Tied entries follows first first' beside later owed
 
   abbrev Rule : St → Type 0
   Rule = Together R Q Tie
@@ -70,6 +76,8 @@ module _ {T E D F : Type 0}
         value_is = ⊎_elim (λ h. inl h) (λ o. inr (own_more vs d k.value (own_set entries follows first s.views id v l k.value at (λ h. absurd (no_bool (is_held v.value.stage) h (ap is_held stage))) o))) k.value_is;
         device_is = ⊎_elim (λ h. inl h) (λ o. inr (down_more vs d k.device (down_set s.views id v l k.device at (λ h. absurd (no_bool (is_held v.device.stage) h (ap is_held device_stage))) o))) k.device_is;
         beside_is = k.beside_is;
+        since = k.since;
+        parts_in = λ seat u is. ⊎_elim (λ t. parts_kept later s.views id v l k.device k.device at refl k.parts_in (λ _ g. g) seat u t) (λ t. subst (λ (x : U). AllByRecursion (λ z. later z k.device) x.more.parts) t (k.parts_in id v at)) (at_snoc vs d u seat is);
         seen_is = λ seat u is e saw. ⊎_elim (λ t. saw_set later s.views id v l k.device k.device k.seen_is (λ _ g. g) (λ x g. k.seen_is id v at x g) seat u t e saw)
             (λ t. k.seen_is id v at e (ap (λ (x : U). x.more.saw) t ∙ saw)) (at_snoc vs d u seat is);
         told = subst (λ (n : ℕ). owed k.value k.device ≤ n) (let n : total (λ (u : U). u.more.owes) s.views ≡ total (λ (u : U). u.more.owes) (vs ++ d ∷ []) = omega (arith, total_append (λ (u : U). u.more.owes) vs (d ∷ []), total_set (λ (u : U). u.more.owes) s.views id v l at, nothing) in n) k.told;
@@ -101,6 +109,13 @@ module _ {T E D F : Type 0}
         device_is = ⊎_elim (λ h. inl h) (λ o. inr (down_set vs other u e k.device at_other (λ h. absurd (no_bool (is_held u.device.stage) h (ap is_held du)))
             (down_set s.views id v w k.device at (λ h. absurd (no_bool (is_held v.device.stage) h (ap is_held dv))) o))) k.device_is;
         beside_is = k.beside_is;
+        since = k.since;
+        parts_in = parts_set later vs other e k.device k.device
+            (parts_set later s.views id w k.device k.device k.parts_in (λ _ g. g)
+            (all_append (λ d. later d k.device) (what_saw v.more.saw ++ what_saw u.more.saw) (v.more.parts ++ u.more.parts)
+            (all_append (λ d. later d k.device) (what_saw v.more.saw) (what_saw u.more.saw) (saw_in later v.more.saw k.device (k.seen_is id v at)) (saw_in later u.more.saw k.device (k.seen_is other u at_u)))
+            (all_append (λ d. later d k.device) v.more.parts u.more.parts (k.parts_in id v at) (k.parts_in other u at_u))))
+            (λ _ g. g) tt;
         seen_is = saw_set later vs other u e k.device k.device
             (saw_set later s.views id v w k.device k.device k.seen_is (λ _ g. g) (either_later later v.more.saw u.more.saw k.device (λ d g. k.seen_is id v at d g) (λ d g. k.seen_is other u at_u d g)))
             (λ _ g. g) (λ d nothing. absurd (none-some d nothing));
@@ -126,7 +141,7 @@ module _ {T E D F : Type 0}
       }
 
   abbrev opened : U
-  opened = record { value = newcomer entries first passes; device = newcomer entries' first' passes; more = record { own = None; down = None; saw = Some first'; owes = 0 } }
+  opened = record { value = newcomer entries first passes; device = newcomer entries' first' passes; more = record { own = None; down = None; saw = Some first'; parts = []; owes = 0 } }
 
   only_view : (v : U) (j : ℕ) (u : U) → get_elem? (v ∷ []) j ≡ some u → u ≡ v
   only_view v zero u is = sym (some-injective v u is)
@@ -145,6 +160,8 @@ module _ {T E D F : Type 0}
       value_is = inl refl;
       device_is = inl refl;
       beside_is = stands;
+      since = itself;
+      parts_in = λ seat u is. subst (λ (x : U). AllByRecursion (λ z. later z first') x.more.parts) (sym (only_view opened seat u is)) tt;
       seen_is = λ seat u is d saw. subst (λ (z : D). later z first') (same_Some first' d (sym (ap (λ (x : U). x.more.saw) (only_view opened seat u is)) ∙ saw)) itself;
       told = (let n = nothing in omega (arith, n));
       idle = λ seat u is _. ap (λ (x : U). x.more.owes) (only_view opened seat u is);
@@ -156,6 +173,8 @@ module _ {T E D F : Type 0}
     pub value_ends : Ends entries stood front empty_turns follows first passes v.value value
     pub beside_is : beside value device
     pub saw_is : (d : D) → v.more.saw ≡ Some d → later d device
+    pub since : later first' device
+    pub parts_in : AllByRecursion (λ d. later d device) v.more.parts
     pub told : owed value device ≡ 0
 
   pub twin_ends : (ws : List ℕ) (xs : List (Cell (Option T) (Option D))) (id : ℕ) (v : U) → v.value.stage ≡ Resting → v.device.stage ≡ Resting → ((n : ℕ) → n < passes → 0 < times n v.value.numbers) → ((n : ℕ) → n < passes → 0 < times n v.device.numbers)
@@ -181,6 +200,8 @@ module _ {T E D F : Type 0}
           value_ends = a.2;
           beside_is = subst (λ (x : T × D). beside x.0 x.1) both k.ties.beside_is;
           saw_is = λ d saw. subst (later d) same_device (k.ties.seen_is id v at d saw);
+          since = subst (later first') same_device k.ties.since;
+          parts_in = subst (λ (x : D). AllByRecursion (λ d. later d x) v.more.parts) same_device (k.ties.parts_in id v at);
           told = (let n : owed a.0 b.0 ≤ total (λ (u : U). u.more.owes) s.views = subst (λ (x : T × D). owed x.0 x.1 ≤ total (λ (u : U). u.more.owes) s.views) both k.ties.told in omega (arith, n, alone, nothing));
         },
       )

@@ -37,7 +37,7 @@ module _ {T E D F : Type 0}
   Q = Kept entries' stood' front' empty_turns' follows' first' passes
 
   abbrev Tie : St → Type 0
-  Tie = Tied entries follows first beside later owed
+  Tie = Tied entries follows first first' beside later owed
 
   abbrev Rule : St → Type 0
   Rule = Together R Q Tie
@@ -80,9 +80,9 @@ module _ {T E D F : Type 0}
   pub raises_both_front : (id : ℕ) (me : M) (log' : List E) (empty' k : ℕ) (own own' : T) (old down' : D) (owes' : ℕ) → me.0.value.stage ≡ Turn → me.0.device.stage ≡ Turn → me.0.value.first ≡ Some first → me.0.value.numbers ≢ []
       → IsOneTurn front me.0.value.seen me.0.value.empty log' empty' k → me.0.more.own ≡ Some own → me.0.more.down ≡ Some old → entries own' ≡ log' → follows first own' → ((d : D) → later d d) → ((a b c : D) → later a b → later b c → later a c)
       → MayRaiseBoth beside later owed own old me.0.more.owes own' down' owes'
-      → Allows Rule 2 id me 2 (λ n. max n k) (λ _. twin_raised stood front log' empty' (raises_both own' down' owes') me)
+      → Allows Rule 2 id me 2 (λ n. max n k) (λ _. twin_raised stood front log' empty' (raises_both me.0.more own' down' owes') me)
   raises_both_front id me log' empty' k own own' old down' owes' turn device_turn first_is number one own_is down_is log_is follows_is itself on may = value_allows R Q (λ a. a ≡ keeps) Tie id me 2 (λ n. max n k) (λ _. raised stood front log' empty' (value_me me))
-      (λ _. twin_raised stood front log' empty' (raises_both own' down' owes') me) (omega arith) (plain_keeps me.1)
+      (λ _. twin_raised stood front log' empty' (raises_both me.0.more own' down' owes') me) (omega arith) (plain_keeps me.1)
       (raises_as entries stood front empty_turns follows first passes 1 id (value_me me) log' empty' k turn first_is one)
       (λ s r at w a is valid so. tie_raise_both entries stood front empty_turns follows first entries' stood' front' empty_turns' follows' first' passes beside later owed id me log' empty' 2 (max (get_or s.words 2 0) k) own own' old down' owes'
       (ap is_held turn) (ap is_held device_turn) number own_is down_is log_is follows_is itself on may s r.turn r.other r.ties at w a is so)

@@ -64,7 +64,7 @@ module _ {T D E : Type 0} (entries : T → List E) (stood : T → ℕ) (front : 
   pub raises_with_device : (id : ℕ) (me : M) (own own' : T) (down : D) (down' : Counted D) (k owes' : ℕ) → me.0.value.stage ≡ Turn → me.0.device.stage ≡ Turn → me.0.value.first ≡ Some first → me.0.value.numbers ≢ []
       → IsOneTurn front me.0.value.seen me.0.value.empty (entries own') (empty_turns own') k → me.0.more.own ≡ Some own → uncounted me.0.more.down ≡ Some down → follows first own' → ((d : D) → later d d) → ((a b c : D) → later a b → later b c → later a c)
       → MayRaiseBoth (beside first) later owed own down me.0.more.owes own' down'.device owes'
-      → Allows Rule 2 id me 2 (λ n. max n k) (λ _. twin_raised stood front (entries own') (empty_turns own') (raises_both own' down' owes') me)
+      → Allows Rule 2 id me 2 (λ n. max n k) (λ _. twin_raised stood front (entries own') (empty_turns own') (raises_both me.0.more own' down' owes') me)
   raises_with_device id me own own' down down' k owes' turn device_turn first_is number one own_is down_is follows_is itself on may =
       let c = counted_is (beside first) later owed me.0.more.down down down_is in raises_both_front entries stood front empty_turns follows first no_entries none_stood no_front turns_of any_follows first' passes (λ v c. beside first v c.device) (λ c d. later c.device d.device) (λ v c. owed v c.device)
       id me (entries own') (empty_turns own') k own own' c.0 down' owes' turn device_turn first_is number one own_is c.1 refl follows_is (λ d. itself d.device) (λ a b e. on a.device b.device e.device)

@@ -5,6 +5,7 @@ use mathlib.Core.Option as maybe
 use mathlib.Core.Logic.{dite}
 use native.Mathlib.Decide.{ℕ_discrete}
 use lib.ListN.{get_elem?}
+use Rattle.std.specs.List.{AllByRecursion}
 use Rattle.std.proofs.lemmas.Option.{same_Some}
 use Rattle.atomic_table.specs.Table.{State, Me, Act, keeps, takes, gives, stepped, carried_after, Valid, put_back}
 use Rattle.atomic_table.proofs.Lists.{at_set, set_here, set_else}
@@ -16,6 +17,7 @@ use Rattle.turn_lock.specs.Rule.{Kept, is_held}
 use Rattle.turn_lock.specs.Steps.{waiting, resting, queued, looked, raised, passed, read}
 use Rattle.turn_lock.proofs.Counts.{at_within, total_set, total_same, term_le}
 use Rattle.turn_lock.proofs.Keeps.{one_holder}
+use Rattle.turn_lock.proofs.Lists.{all_on}
 use Rattle.turn_lock.specs.declared.twin_view.Cell.{Cell}
 use Rattle.turn_lock.specs.declared.twin_view.Cell.TheVariants.{OfValue, OfDevice}
 use Rattle.turn_lock.specs.declared.twin_view.More.{More}
@@ -105,6 +107,15 @@ module _ {T E D F : Type 0} where
       → (seat : ℕ) (u : Seen T E D F) → get_elem? (set views id w) seat ≡ some u → (d : D) → u.more.saw ≡ Some d → later d new
   saw_set later views id v w old new seen grows mine seat u at d saw = ⊎_elim (λ t. mine d (ap (λ (x : Seen T E D F). x.more.saw) t.1 ∙ saw)) (λ t. grows d (seen seat u t.1 d saw)) (at_set views id seat w u at)
 
+  pub parts_set : (later : D → D → Type 0) (views : List (Seen T E D F)) (id : ℕ) (w : Seen T E D F) (old new : D) → ((seat : ℕ) (u : Seen T E D F) → get_elem? views seat ≡ some u → AllByRecursion (λ d. later d old) u.more.parts) → ((d : D) → later d old → later d new) → AllByRecursion (λ d. later d new) w.more.parts
+      → (seat : ℕ) (u : Seen T E D F) → get_elem? (set views id w) seat ≡ some u → AllByRecursion (λ d. later d new) u.more.parts
+  parts_set later views id w old new parts grows mine seat u at = ⊎_elim (λ t. subst (λ (x : Seen T E D F). AllByRecursion (λ d. later d new) x.more.parts) t.1 mine) (λ t. all_on (λ d. later d old) (λ d. later d new) grows u.more.parts (parts seat u t.1)) (at_set views id seat w u at)
+
+  -- the same where the pass has the parts that it had
+  pub parts_kept : (later : D → D → Type 0) (views : List (Seen T E D F)) (id : ℕ) (v w : Seen T E D F) (old new : D) → get_elem? views id ≡ some v → w.more.parts ≡ v.more.parts → ((seat : ℕ) (u : Seen T E D F) → get_elem? views seat ≡ some u → AllByRecursion (λ d. later d old) u.more.parts) → ((d : D) → later d old → later d new)
+      → (seat : ℕ) (u : Seen T E D F) → get_elem? (set views id w) seat ≡ some u → AllByRecursion (λ d. later d new) u.more.parts
+  parts_kept later views id v w old new at same parts grows = parts_set later views id w old new parts grows (subst (AllByRecursion (λ d. later d new)) (sym same) (all_on (λ d. later d old) (λ d. later d new) grows v.more.parts (parts id v at)))
+
   pub idle_set : (views : List (Seen T E D F)) (id : ℕ) (w : Seen T E D F) → ((seat : ℕ) (u : Seen T E D F) → get_elem? views seat ≡ some u → u.value.numbers ≡ [] → u.more.owes ≡ 0) → (w.value.numbers ≡ [] → w.more.owes ≡ 0)
       → (seat : ℕ) (u : Seen T E D F) → get_elem? (set views id w) seat ≡ some u → u.value.numbers ≡ [] → u.more.owes ≡ 0
   idle_set views id w others mine seat u at = ⊎_elim (λ t. subst (λ (x : Seen T E D F). x.value.numbers ≡ [] → x.more.owes ≡ 0) t.1 mine) (λ t. others seat u t.1) (at_set views id seat w u at)
@@ -145,7 +156,7 @@ module _ {T E D F : Type 0}
   DM = Me (Option D) (View D F)
 
   abbrev Tie : S → Type 0
-  Tie = Tied entries follows first beside later owed
+  Tie = Tied entries follows first first' beside later owed
 
   abbrev ValueRule : State (Option T) (View T E) → Type 0
   ValueRule = Kept entries stood front empty_turns follows first passes
@@ -162,6 +173,8 @@ module _ {T E D F : Type 0}
     value_is = ⊎_elim (λ h. inl h) (λ o. inr (own_set entries follows first s.views id v w k.value at (λ h. let t = value_held h in (t.0, ap (λ (m : More T D). m.own) same, t.1)) o)) k.value_is;
     device_is = ⊎_elim (λ h. inl h) (λ o. inr (down_set s.views id v w k.device at (λ h. (device_held h, ap (λ (m : More T D). m.down) same)) o)) k.device_is;
     beside_is = k.beside_is;
+    since = k.since;
+    parts_in = parts_kept later s.views id v w k.device k.device at (ap (λ (m : More T D). m.parts) same) k.parts_in (λ d l. l);
     seen_is = saw_set later s.views id v w k.device k.device k.seen_is (λ d l. l) (λ d saw. k.seen_is id v at d (ap (λ (m : More T D). m.saw) (sym same) ∙ saw));
     told = subst (λ (n : ℕ). owed k.value k.device ≤ n) (sym (total_same (λ (u : U). u.more.owes) s.views id v w at (ap (λ (m : More T D). m.owes) same))) k.told;
     idle = idle_set s.views id w k.idle (λ none. ap (λ (m : More T D). m.owes) same ∙ k.idle id v at (sym numbers ∙ none));
@@ -281,6 +294,8 @@ module _ {T E D F : Type 0}
           };
           device_is = ⊎_elim (λ h. inl (set_else s.homes 0 1 none one_not_zero ∙ h)) (λ o. inr (down_set s.views id me.0 (with_value me.0 w m) k.device at (λ h. (h, refl)) o)) k.device_is;
           beside_is = k.beside_is;
+          since = k.since;
+          parts_in = parts_kept later s.views id me.0 (with_value me.0 w m) k.device k.device at refl k.parts_in (λ d l. l);
           seen_is = saw_set later s.views id me.0 (with_value me.0 w m) k.device k.device k.seen_is (λ d l. l) (λ d saw. k.seen_is id me.0 at d saw);
           told = subst (λ (z : ℕ). owed k.value k.device ≤ z) (sym (total_same (λ (u : U). u.more.owes) s.views id me.0 (with_value me.0 w m) at refl)) k.told;
           idle = idle_set s.views id (with_value me.0 w m) k.idle (λ none. k.idle id me.0 at (sym (ap (λ (y : View T E). y.numbers) w_is) ∙ none));
@@ -320,6 +335,8 @@ module _ {T E D F : Type 0}
           };
           device_is = ⊎_elim (λ h. inl h) (λ o. inr (down_set s.views id me.0 (with_value me.0 w m) k.device at (λ h. (h, refl)) o)) k.device_is;
           beside_is = shown.0;
+          since = k.since;
+          parts_in = parts_kept later s.views id me.0 (with_value me.0 w m) k.device k.device at refl k.parts_in (λ d l. l);
           seen_is = saw_set later s.views id me.0 (with_value me.0 w m) k.device k.device k.seen_is (λ d l. l) (λ d saw. k.seen_is id me.0 at d saw);
           told = covered s id me.0 (with_value me.0 w m) (owed k.value k.device) (owed own' k.device) at (subst (λ (y : T). Covers (owed y k.device) me.0.more.owes (owed own' k.device) owes') same shown.1) k.told;
           idle = idle_set s.views id (with_value me.0 w m) k.idle (λ none. absurd (some_number (sym (ap (λ (y : View T E). y.numbers) w_is) ∙ none)));
@@ -331,9 +348,9 @@ module _ {T E D F : Type 0}
   pub tie_raise_both : (id : ℕ) (me : N) (log' : List E) (empty' i n : ℕ) (own own' : T) (old down' : D) (owes' : ℕ) → is_held me.0.value.stage ≡ true → is_held me.0.device.stage ≡ true → me.0.value.numbers ≢ [] → me.0.more.own ≡ Some own → me.0.more.down ≡ Some old
       → entries own' ≡ log' → follows first own' → ((d : D) → later d d) → ((a b c : D) → later a b → later b c → later a c) → MayRaiseBoth beside later owed own old me.0.more.owes own' down' owes'
       → (s : S) → ValueRule (value_side s) → DeviceRule (device_side s) → Tie s → get_elem? s.views id ≡ some me.0 → (w : View T E) (a : Act (Option T)) → a ≡ keeps → raised stood front log' empty' (value_me me) (w, carried_after (value_part me.1) a)
-      → (m : More T D) × Tie (stepped s i n id me.1 (with_value me.0 w m) (up a)) × twin_raised stood front log' empty' (raises_both own' down' owes') me (with_value me.0 w m, carried_after me.1 (up a))
+      → (m : More T D) × Tie (stepped s i n id me.1 (with_value me.0 w m) (up a)) × twin_raised stood front log' empty' (raises_both me.0.more own' down' owes') me (with_value me.0 w m, carried_after me.1 (up a))
   tie_raise_both id me log' empty' i n own own' old down' owes' held device_held some_number own_is down_is log_is follows_is itself on may s rule other k at w a is so =
-      let m : More T D = raises_both own' down' owes' in
+      let m : More T D = raises_both me.0.more own' down' owes' in
       let out = out_only s id me.0 rule k at held in
       let low = down_only s id me.0 other k at device_held in
       let same : own ≡ k.value = same_Some own k.value (sym own_is ∙ out.0) in
@@ -362,6 +379,8 @@ module _ {T E D F : Type 0}
             down_is = refl;
           };
           beside_is = shown.0;
+          since = on first' k.device down' k.since grows;
+          parts_in = parts_kept later s.views id me.0 (with_value me.0 w m) k.device down' at refl k.parts_in (λ d l. on d k.device down' l grows);
           seen_is = saw_set later s.views id me.0 (with_value me.0 w m) k.device down' k.seen_is (λ d l. on d k.device down' l grows) (λ d saw. subst (λ (z : D). later z down') (same_Some down' d saw) (itself down'));
           told = covered s id me.0 (with_value me.0 w m) (owed k.value k.device) (owed own' down') at (subst (λ (y : T × D). Covers (owed y.0 y.1) me.0.more.owes (owed own' down') owes') (λ j. (same j, same_device j)) shown.2) k.told;
           idle = idle_set s.views id (with_value me.0 w m) k.idle (λ none. absurd (some_number (sym (ap (λ (y : View T E). y.numbers) w_is) ∙ none)));
@@ -386,6 +405,8 @@ module _ {T E D F : Type 0}
           value_is = inl (ap (λ hs. get_elem? hs 0) home ∙ (set_here s.homes 0 (some (OfValue (Some value))) some_home ∙ ap (λ (x : T). some (some (OfValue (Some x)))) (sym same)));
           device_is = ⊎_elim (λ h. inl (ap (λ hs. get_elem? hs 1) home ∙ (set_else s.homes 0 1 (some (OfValue (Some value))) one_not_zero ∙ h))) (λ o. inr (down_set s.views id me.0 (with_value me.0 w m) k.device at (λ h. (h, refl)) o)) k.device_is;
           beside_is = k.beside_is;
+          since = k.since;
+          parts_in = parts_kept later s.views id me.0 (with_value me.0 w m) k.device k.device at refl k.parts_in (λ d l. l);
           seen_is = saw_set later s.views id me.0 (with_value me.0 w m) k.device k.device k.seen_is (λ d l. l) (λ d saw. k.seen_is id me.0 at d saw);
           told = subst (λ (z : ℕ). owed k.value k.device ≤ z) (sym (total_same (λ (u : U). u.more.owes) s.views id me.0 (with_value me.0 w m) at refl)) k.told;
           idle = idle_set s.views id (with_value me.0 w m) k.idle (λ none. k.idle id me.0 at (sym (ap (λ (y : View T E). y.numbers) w_is) ∙ none));
@@ -452,6 +473,8 @@ module _ {T E D F : Type 0}
             down_is = ap Some (sym device_is);
           };
           beside_is = k.beside_is;
+          since = k.since;
+          parts_in = parts_kept later s.views id me.0 (with_device me.0 w m) k.device k.device at refl k.parts_in (λ d l. l);
           seen_is = saw_set later s.views id me.0 (with_device me.0 w m) k.device k.device k.seen_is (λ d l. l) (λ d saw. subst (λ (z : D). later z k.device) (device_is ∙ same_Some y d saw) (itself k.device));
           told = subst (λ (z : ℕ). owed k.value k.device ≤ z) (sym (total_same (λ (u : U). u.more.owes) s.views id me.0 (with_device me.0 w m) at refl)) k.told;
           idle = idle_set s.views id (with_device me.0 w m) k.idle (λ none. k.idle id me.0 at none);
@@ -483,6 +506,8 @@ module _ {T E D F : Type 0}
         value_is = ⊎_elim (λ h. inl (ap (λ hs. get_elem? hs 0) home ∙ (set_else s.homes 1 0 (some (OfDevice (Some value))) (λ e. one_not_zero (sym e)) ∙ h))) (λ o. inr (own_set entries follows first s.views id me.0 (with_device me.0 w m) k.value at (λ h. (h, refl, refl)) o)) k.value_is;
         device_is = inl (ap (λ hs. get_elem? hs 1) home ∙ set_here s.homes 1 (some (OfDevice (Some value))) there);
         beside_is = shown.0;
+        since = on first' k.device value k.since grows;
+        parts_in = parts_kept later s.views id me.0 (with_device me.0 w m) k.device value at refl k.parts_in (λ d l. on d k.device value l grows);
         seen_is = saw_set later s.views id me.0 (with_device me.0 w m) k.device value k.seen_is (λ d l. on d k.device value l grows) (λ d saw. subst (λ (z : D). later z value) (same_Some value d saw) (itself value));
         told = covered s id me.0 (with_device me.0 w m) (owed k.value k.device) (owed k.value value) at (subst (λ (d : D). Covers (owed k.value d) me.0.more.owes (owed k.value value) owes') same shown.2) k.told;
         idle = idle_set s.views id (with_device me.0 w m) k.idle (λ none. absurd (some_number none));

@@ -1,5 +1,6 @@
 -- What ties the two turns: the value and the device as they are known, and the clauses between them.
 use Rattle.std.specs.Prelude.{◌≡◌, ℕ, ◌+◌, ◌≤◌, ◌⊎◌, true, List, [], Option, Some, None}
+use Rattle.std.specs.List.{AllByRecursion}
 use mathlib.Core.Option.{some}
 use lib.ListN.{get_elem?}
 use Rattle.atomic_table.specs.Table.{State}
@@ -53,15 +54,18 @@ module _ {T D : Type 0} (beside : T → D → Type 0) (later : D → D → Type 
   abbrev pub MayPut : (T → Type 0) → D → ℕ → D → ℕ → Type 0
   MayPut possible old owes new owes' = (value : T) → possible value → beside value old → beside value new × later old new × Covers (owed value old) owes (owed value new) owes'
 
-module _ {T E D F : Type 0} (entries : T → List E) (follows : T → T → Type 0) (first : T) (beside : T → D → Type 0) (later : D → D → Type 0) (owed : T → D → ℕ) where
-  -- The value and the device, at home or out with a pass, are what they have to be to each other. No pass saw a later device, and what is owed is owed by passes.
+module _ {T E D F : Type 0} (entries : T → List E) (follows : T → T → Type 0) (first : T) (first' : D) (beside : T → D → Type 0) (later : D → D → Type 0) (owed : T → D → ℕ) where
+  -- The value and the device, at home or out with a pass, are what they have to be to each other. The device is later than the first one, and than each that a pass saw,
+  -- or a pass that became part of it; and what is owed is owed by passes.
   pub record Tied (s : State (Cell (Option T) (Option D)) (Seen T E D F)) : Type 0 where
     pub value : T
     pub device : D
     pub value_is : (get_elem? s.homes 0 ≡ some (some (OfValue (Some value)))) ⊎ IsOwn entries follows first s.views value
     pub device_is : (get_elem? s.homes 1 ≡ some (some (OfDevice (Some device)))) ⊎ IsDown s.views device
     pub beside_is : beside value device
+    pub since : later first' device
     pub seen_is : (seat : ℕ) (v : Seen T E D F) → get_elem? s.views seat ≡ some v → (d : D) → v.more.saw ≡ Some d → later d device
+    pub parts_in : (seat : ℕ) (v : Seen T E D F) → get_elem? s.views seat ≡ some v → AllByRecursion (λ d. later d device) v.more.parts
     pub told : owed value device ≤ total (λ (v : Seen T E D F). v.more.owes) s.views
     pub idle : (seat : ℕ) (v : Seen T E D F) → get_elem? s.views seat ≡ some v → v.value.numbers ≡ [] → v.more.owes ≡ 0
 
@@ -87,8 +91,8 @@ module _ {D : Type 0} where
 abbrev pub TwinKept : {T E D : Type 0} → (T → List E) → (T → ℕ) → (E → ℕ) → (T → ℕ) → (T → T → Type 0) → (T → T → D → Type 0) → (D → D → Type 0) → (T → D → ℕ) → T → Counted D → ℕ
     → State (Cell (Option T) (Option (Counted D))) (Seen T E (Counted D) ℕ) → Type 0
 TwinKept entries stood front empty_turns follows beside later owed first device passes = Together (Kept entries stood front empty_turns follows first passes) (Kept no_entries none_stood no_front turns_of any_follows device passes)
-    (Tied entries follows first (λ v c. beside first v c.device) (λ c d. later c.device d.device) (λ v c. owed v c.device))
+    (Tied entries follows first device (λ v c. beside first v c.device) (λ c d. later c.device d.device) (λ v c. owed v c.device))
 
 -- the view of the first seat, which has the numbers of all passes, and saw the device that was handed in
 abbrev pub twin_newcomer : {T E D : Type 0} → (T → List E) → T → Counted D → ℕ → Seen T E (Counted D) ℕ
-twin_newcomer entries first device passes = record { value = newcomer entries first passes; device = newcomer no_entries device passes; more = record { own = None; down = None; saw = Some device; owes = 0 } }
+twin_newcomer entries first device passes = record { value = newcomer entries first passes; device = newcomer no_entries device passes; more = record { own = None; down = None; saw = Some device; parts = []; owes = 0 } }

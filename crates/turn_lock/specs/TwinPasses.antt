@@ -91,6 +91,10 @@ module _ {T D E : Type 0} where
   abbrev pub saw_of : TwinPass T D E → Option D
   saw_of pass = uncounted pass.seat.me.0.more.saw
 
+  -- what each pass saw of the device that was joined into it, and itself before
+  abbrev pub device_parts_of : TwinPass T D E → List (Counted D)
+  device_parts_of pass = pass.seat.me.0.more.parts
+
   -- It has no ticket of either turn.
   pub record IsAtRest (pass : TwinPass T D E) : Type 0 where
     pub value : pass.seat.me.0.value.stage ≡ Resting
@@ -138,6 +142,7 @@ module _ {T D E : Type 0} where
     pub numbers : pass_numbers new ≡ pass_numbers old
     pub device_numbers : new.seat.me.0.device.numbers ≡ old.seat.me.0.device.numbers
     pub parts : parts_of new ≡ parts_of old
+    pub devices : device_parts_of new ≡ device_parts_of old
 
   -- It is a pass of this lock.
   pub record IsPassOf (lock : TwinLock T D E) (pass : TwinPass T D E) : Type 0 where
@@ -159,6 +164,7 @@ module _ {T D E : Type 0} where
     pub turns : value_turns pass ≡ 0
     pub front : front_of pass ≡ 0
     pub saw : saw_of pass ≡ Some (first_device_of lock).device
+    pub devices : device_parts_of pass ≡ []
     pub owes : owes_of pass ≡ 0
 
   -- What is known of the device's turns, and of the device, is as it was.

@@ -1,5 +1,5 @@
 -- What each kind of step on a table with two turns changes in what the pass knows, and what it returns.
-use Rattle.std.specs.Prelude.{◌≡◌, ◌≢◌, ℕ, ◌+◌, ◌%◌, ◌^◌, ◌≤◌, Bool, true, List, ◌∷◌, drop, Option, Some, None}
+use Rattle.std.specs.Prelude.{◌≡◌, ◌≢◌, ℕ, ◌+◌, ◌%◌, ◌^◌, ◌≤◌, Bool, true, List, [], ◌∷◌, ◌++◌, drop, Option, Some, None}
 use Rattle.atomic_table.specs.Table.{Me, rest}
 use Rattle.turn_lock.specs.declared.twin_view.Cell.{Cell}
 use Rattle.turn_lock.specs.declared.twin_view.Cell.TheVariants.{OfValue, OfDevice}
@@ -28,14 +28,19 @@ module _ {D : Type 0} where
   either_saw (Some d) other = Some d
   either_saw None other = other
 
+  -- the device that was seen, if one was
+  abbrev pub what_saw : Option D → List D
+  what_saw (Some d) = d ∷ []
+  what_saw None = []
+
 module _ {T D : Type 0} where
   -- with this value to put back, and this many untold failures to answer for
   abbrev pub raises_value : More T D → T → ℕ → More T D
   raises_value m value owes = record m { own = Some value; owes = owes }
 
   -- with this value and this device to put back, and this many untold failures to answer for
-  abbrev pub raises_both : T → D → ℕ → More T D
-  raises_both value device owes = record { own = Some value; down = Some device; saw = Some device; owes = owes }
+  abbrev pub raises_both : More T D → T → D → ℕ → More T D
+  raises_both m value device owes = record m { own = Some value; down = Some device; saw = Some device; owes = owes }
 
   -- with this device put back, and this many untold failures to answer for
   abbrev pub gave_device : More T D → D → ℕ → More T D
@@ -43,11 +48,11 @@ module _ {T D : Type 0} where
 
   -- what two passes know together
   abbrev pub more_joined : More T D → More T D → More T D
-  more_joined m n = record m { saw = either_saw m.saw n.saw; owes = m.owes + n.owes }
+  more_joined m n = record m { saw = either_saw m.saw n.saw; parts = (what_saw m.saw ++ what_saw n.saw) ++ (m.parts ++ n.parts); owes = m.owes + n.owes }
 
   -- nothing is known
   abbrev pub more_spent : More T D
-  more_spent = record { own = None; down = None; saw = None; owes = 0 }
+  more_spent = record { own = None; down = None; saw = None; parts = []; owes = 0 }
 
 module _ {T E D F : Type 0} where
   -- a ticket of the value's turn was taken, and the word has its remainder

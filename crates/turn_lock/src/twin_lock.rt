@@ -78,7 +78,7 @@ impl<T: Twins> TwinLock<T> {
     ghost use Rattle.turn_lock.specs.Tied.{MayRaise, MayRaiseBoth, MayPut, no_entries, turns_of, twin_newcomer};
     ghost use Rattle.turn_lock.specs.Rule.{is_held};
     ghost use Rattle.turn_lock.specs.TwinSteps.{LaterBeside, BesideKnown, GetsValue, GetsDevice, value_queued, value_passed, value_read, device_queued, device_passed, twin_raised, twin_joined, raises_value, raises_both, gave_device, with_device};
-    ghost use Rattle.turn_lock.specs.TwinPasses.{first_of, first_device_of, passes_of, pass_numbers, seen_of, parts_of, mine_of, value_turns, front_of, empty_of, owes_of, own_of, down_of, saw_of, me_of, device_view, IsAtRest, WaitsForValue, WaitsForDevice, HasValue, HasBoth, HasDevice, HasRaised, IsSamePass, IsPassOf, IsNew, KeepsValue, KeepsDevice, uncounted};
+    ghost use Rattle.turn_lock.specs.TwinPasses.{first_of, first_device_of, passes_of, pass_numbers, seen_of, parts_of, mine_of, value_turns, front_of, empty_of, owes_of, own_of, down_of, saw_of, device_parts_of, me_of, device_view, IsAtRest, WaitsForValue, WaitsForDevice, HasValue, HasBoth, HasDevice, HasRaised, IsSamePass, IsPassOf, IsNew, KeepsValue, KeepsDevice, uncounted};
 
     /// A lock around `value` with `device` beside it, with one pass for each label, in their order. If memory runs out both are returned.
     pub fn new(
@@ -304,12 +304,12 @@ impl<T: Twins> TwinLock<T> {
         _owes: u64,
     )
         requires pass { IsPassOf self.now pass.old × HasBoth pass.old }
-        requires left { (J.log ≡ T.entries _value.now) × (J.empty ≡ T.empty_turns _value.now) × (J.more ≡ raises_both _value.now (record { device = _device.now.device; turns = _device.now.turns }) _owes) }
+        requires left { (J.log ≡ T.entries _value.now) × (J.empty ≡ T.empty_turns _value.now) × (J.more ≡ raises_both (me_of pass.old).0.more _value.now (record { device = _device.now.device; turns = _device.now.turns }) _owes) }
         requires same_value { T.follows (first_of self.now) _value.now }
         requires one_turn { IsOneTurn T.front (seen_of pass.old) (empty_of pass.old) (T.entries _value.now) (T.empty_turns _value.now) front }
         requires beside { (old : T) × (down : T.Device) × (own_of pass.old ≡ Some old) × (down_of pass.old ≡ Some down) × MayRaiseBoth (T.beside (first_of self.now)) T.later T.owed old down (owes_of pass.old) _value.now _device.now.device _owes }
         ensures pass { (pass.new.label ≡ pass.old.label) × (pass.new.seat.table_id ≡ pass.old.seat.table_id) }
-        ensures raised { twin_raised T.stood T.front (T.entries _value.now) (T.empty_turns _value.now) (raises_both _value.now (record { device = _device.now.device; turns = _device.now.turns }) _owes) (me_of pass.old) (me_of pass.new) }
+        ensures raised { twin_raised T.stood T.front (T.entries _value.now) (T.empty_turns _value.now) (raises_both (me_of pass.old).0.more _value.now (record { device = _device.now.device; turns = _device.now.turns }) _owes) (me_of pass.old) (me_of pass.new) }
     {
         self.table
             .shared
@@ -430,13 +430,7 @@ impl<T: Twins> TwinLock<T> {
             if served == ticket {
                 return;
             }
-            if backoff.is_completed() {
-                self.table
-                    .shared
-                    .park(rt, DEVICE_SERVED, (served % LOW_HALF) as u32);
-            } else {
-                backoff.snooze();
-            }
+            self.rest(rt, &backoff, served);
         }
         unreachable!()
     }
@@ -455,6 +449,36 @@ impl<T: Twins> TwinLock<T> {
         {
             Cell::OfDevice(Some(device)) => device,
             _ => unreachable!(),
+        }
+    }
+
+    /// Waits until those have had their turns who have a ticket of the device's turn when it is called. It takes no ticket, and tells nothing of the
+    /// device: it is for a caller whose own turn does the more, the more others came before it. A pass that has a ticket of the device's turn would wait
+    /// for itself.
+    pub fn settle<R: Wait>(&self, rt: &R, _pass: &TwinPass<T>)
+        requires resting { (me_of _pass.now).0.device.stage ≡ Resting }
+    {
+        let from = self.table.shared.peek(DEVICE_SERVED);
+        let ahead = self.table.shared.peek(DEVICE_TICKET).wrapping_sub(from);
+        let backoff = Backoff::new();
+        for _ in rt.forever() {
+            let served = self.table.shared.peek(DEVICE_SERVED);
+            if served.wrapping_sub(from) >= ahead {
+                return;
+            }
+            self.rest(rt, &backoff, served);
+        }
+        unreachable!()
+    }
+
+    // Backs off before another look at the device's turn, and once that was done often enough sleeps until the device is put back.
+    fn rest<R: Wait>(&self, rt: &R, backoff: &Backoff, served: u64) {
+        if backoff.is_completed() {
+            self.table
+                .shared
+                .park(rt, DEVICE_SERVED, (served % LOW_HALF) as u32);
+        } else {
+            backoff.snooze();
         }
     }
 
@@ -544,6 +568,8 @@ impl<T: Twins> TwinLock<T> {
         ensures front { front_of pass ≤ greatest T.front (drop (T.stood (first_of self)) (T.entries result.0)) }
         ensures beside { T.beside (first_of self) result.0 result.1 }
         ensures later { (seen : T.Device) → saw_of pass ≡ Some seen → T.later seen result.1 }
+        ensures since { T.later (first_device_of self).device result.1 }
+        ensures devices { AllByRecursion (λ seen. T.later seen.device result.1) (device_parts_of pass) }
         ensures told { T.owed result.0 result.1 ≡ 0 }
     {
         let mut closed = self.table.close_with(pass.seat);

@@ -1,4 +1,5 @@
 //! What a table with two turns holds, and what a pass knows of both: plain data, of which the views exist in proofs alone.
+use std::collections::LinkedList;
 
 /// What a slot holds: the value, or the device.
 #[derive(Drop)]
@@ -29,6 +30,8 @@ pub struct More<T, D> {
     pub down: Option<D>,
     /// The device that it took, raised or put back last. Before its first turn with it, that is the one that was handed in.
     pub saw: Option<D>,
+    /// What each pass that was joined into it saw of the device, and itself before.
+    pub parts: LinkedList<D>,
     /// For how many untold failures of the device it answers, at most.
     pub owes: u64,
 }

@@ -1,6 +1,6 @@
 -- What turns with a journal and with its mirror keep.
 use Rattle.std.proofs.Common.{◌≡◌, ℕ, zero, suc, ◌-◌, ◌≤◌, ◌<◌, ◌⊎◌, Bool, true, false, List, [], ◌∷◌, ◌++◌, length, length-append, append-nil, MatchBool, drop, get_or, inl, inr, sym, refl, ap, ◌∙◌, subst, ⊎_elim, arith, Option, Some}
-use Rattle.turn_lock.specs.Turning.{IsBeginning, IsOneTurn, StandIn, added, times}
+use Rattle.turn_lock.specs.Turning.{IsBeginning, StandIn, added, times}
 use Rattle.turn_lock.specs.Tied.{MayRaise, MayRaiseBoth, MayPut}
 use Rattle.turn_lock.proofs.TurnLaws.{begins_itself, begins_more, begins_length, added_one, added_none, rise_added}
 use Rattle.turn_lock.proofs.TwinTies.{no_bool}
@@ -42,11 +42,17 @@ posting saw old new more owes owes' posts told same m known b = (
   λ others h. omega (arith, told, same, h),
 )
 
--- the turn of a pass that tells of a failure that it saw
-pub telling : (saw : Option Mirror) (mirror : Mirror) (old new : Journal) (owes : ℕ) → saw ≡ Some mirror → mirror.failed ≡ true → new.posts.items ≡ old.posts.items → new.told ≡ 1
+-- a count that is at most 1, and 1 more where it was 0
+once : (old new : ℕ) → old ≤ 1 → (old ≡ 0 → new ≡ 1) × (0 < old → new ≡ old) → new ≡ 1
+once zero new few does = does.0 refl
+once (suc zero) new few does = does.1 (omega arith)
+once (suc (suc k)) new few does = absurd (omega (arith, few))
+
+-- the turn of a pass that tells of a failure that it saw, unless it was told
+pub telling : (saw : Option Mirror) (mirror : Mirror) (old new : Journal) (owes : ℕ) → saw ≡ Some mirror → mirror.failed ≡ true → new.posts.items ≡ old.posts.items → (old.told ≡ 0 → new.told ≡ 1) × (0 < old.told → new.told ≡ old.told)
     → MayRaise Beside Later Owed saw old owes new 0
-telling saw mirror old new owes is fails posts told m known b =
-    let failed : flag m.failed ≡ 1 = ap flag ((known mirror is).still fails) in (
+telling saw mirror old new owes is fails posts does m known b =
+    let failed : flag m.failed ≡ 1 = ap flag ((known mirror is).still fails) in let before = b.told_of in let told : new.told ≡ 1 = once old.told new.told (omega (arith, before, failed)) does in (
       record {
         first = subst (IsBeginning m.copied.items) (sym posts) b.first;
         told_of = omega (arith, told, failed);

@@ -7,7 +7,7 @@ abbrev pub flag : Bool → ℕ
 flag true = 1
 flag false = 0
 
--- The mirror has the first posts, and the journal was not told of a failure before it failed. What it was told is 0 or 1, however often it is told.
+-- The mirror has the first posts, and the journal was not told of a failure before it failed, nor more than once.
 pub record Mirrors (posts : List ℕ) (told : ℕ) (copied : List ℕ) (failed : Bool) : Type 0 where
   pub first : IsBeginning copied posts
   pub told_of : told ≤ flag failed

@@ -16,7 +16,7 @@ pub struct Journal {
     pub before: usize,
     /// How many turns posted nothing, modulo 2^64.
     pub empty: u64,
-    /// 1 once it was told that the mirror failed, and 0 before. A second telling changes nothing.
+    /// How often it was told that the mirror failed.
     pub told: u64,
 }
 
@@ -110,14 +110,28 @@ impl Journal {
         self.empty = self.empty.wrapping_add(1);
     }
 
-    /// Is told that the mirror failed, in a turn that posts nothing. Where it was told already, that changes nothing else.
+    /// Is told that the mirror failed, in a turn that posts nothing.
     pub fn tell(&mut self)
+        requires room { self.old.told < 2 ^ 64 - 1 }
         ensures passed { (self.new.posts ≡ self.old.posts) × (self.new.empty ≡ (self.old.empty + 1) % 2 ^ 64) }
-        ensures told { self.new.told ≡ 1 }
+        ensures told { self.new.told ≡ self.old.told + 1 }
         ensures same { (self.new.before ≡ self.old.before) × (self.new.name ≡ self.old.name) }
     {
-        self.told = 1;
+        self.told += 1;
         self.empty = self.empty.wrapping_add(1);
+    }
+
+    /// Is told that the mirror failed where it was not told before, in a turn that posts nothing.
+    pub fn tell_once(&mut self)
+        ensures passed { (self.new.posts ≡ self.old.posts) × (self.new.empty ≡ (self.old.empty + 1) % 2 ^ 64) }
+        ensures told { (self.old.told ≡ 0 → self.new.told ≡ 1) × (0 < self.old.told → self.new.told ≡ self.old.told) }
+        ensures same { (self.new.before ≡ self.old.before) × (self.new.name ≡ self.old.name) }
+    {
+        if self.told == 0 {
+            self.tell();
+        } else {
+            self.pass();
+        }
     }
 }
 

@@ -110,7 +110,7 @@ fn copy_shown<R: Wait>(
     }
 }
 
-// Tells the journal that the mirror failed. Where another pass has told it already, that changes nothing.
+// Tells the journal that the mirror failed, unless another pass has told it already.
 fn tell<R: Wait>(rt: &R, lock: &TwinLock<Journal>, pass: &mut TwinPass<Journal>)
     requires owing { IsOwing lock.now pass.old 1 }
     ensures pass { IsReady lock.now pass.new × (pass_numbers pass.new ≡ pass_numbers pass.old) × (entries_of (mine_of pass.new) ≡ entries_of (mine_of pass.old)) }
@@ -118,7 +118,7 @@ fn tell<R: Wait>(rt: &R, lock: &TwinLock<Journal>, pass: &mut TwinPass<Journal>)
 {
     let ticket = lock.queue(pass);
     let mut held = lock.wait(rt, pass, ticket);
-    held.value.tell();
+    held.value.tell_once();
     lock.raise(pass, &held, 0, 0);
     lock.put(pass, held);
 }

@@ -1,4 +1,4 @@
-//! Two threads, of which one posts while the other has the mirror.
+//! Two threads, of which one posts or settles while the other has the mirror.
 ghost use Rattle.std.specs.Prelude.{◌≡◌, ◌++◌, [], ◌∷◌, IfOk};
 ghost use Rattle.turn_lock.specs.TwinPasses.{pass_numbers, passes_of};
 ghost use Rattle.twin_ledger.specs.Ready.{IsReady};
@@ -14,6 +14,23 @@ use twin_ledger::{Journal, Mirror, both, post};
 // How often a thread looks at most whether the other has come so far.
 const LOOKS: u32 = 1_000_000;
 
+// How long a thread keeps the mirror once the other has come.
+const PAUSES: u32 = 1_000;
+
+/// What a thread does while another has the mirror.
+#[derive(Drop, Clone, Copy)]
+pub enum Meanwhile {
+    Posts,
+    Settles,
+}
+
+fn pause() {
+    let backoff = Backoff::new();
+    for _ in 0..PAUSES {
+        backoff.snooze();
+    }
+}
+
 // Looks until the word is this number, and says whether it came.
 fn is_reached(word: &AtomicU64, number: u64) -> bool {
     let backoff = Backoff::new();
@@ -26,7 +43,7 @@ fn is_reached(word: &AtomicU64, number: u64) -> bool {
     false
 }
 
-// Has the mirror until the other thread has posted, and says whether it did.
+// Has the mirror until the other thread has posted, or settles, and some time longer, and says whether it did.
 fn hold_mirror<R: Wait>(
     rt: &R,
     lock: &TwinLock<Journal>,
@@ -39,9 +56,11 @@ fn hold_mirror<R: Wait>(
     let ticket = lock.queue_device(&mut pass);
     let held = lock.wait_device(rt, &mut pass, ticket);
     reached.store(1, Ordering::SeqCst);
-    let posted = is_reached(reached, 2);
+    let came = is_reached(reached, 2);
+    pause();
+    reached.store(3, Ordering::SeqCst);
     lock.put_device(&mut pass, held, 0);
-    (pass, posted)
+    (pass, came)
 }
 
 // Posts once the other thread has the mirror, and says whether it had.
@@ -60,12 +79,46 @@ fn post_meanwhile<R: Wait>(
     (pass, held && posted)
 }
 
-/// Whether a thread's post was answered while another thread had the mirror.
-pub fn posts_meanwhile<R: Threads + Wait + Sync>(
+// Settles once the other thread has the mirror, and says whether that one was about to put it back when this returned.
+fn settle_meanwhile<R: Wait>(
+    rt: &R,
+    lock: &TwinLock<Journal>,
+    pass: TwinPass<Journal>,
+    reached: &AtomicU64,
+) -> (TwinPass<Journal>, bool)
+    requires pass { IsReady lock.now pass }
+    ensures pass { IsReady lock.now result.0 × (pass_numbers result.0 ≡ pass_numbers pass) }
+{
+    let held = is_reached(reached, 1);
+    reached.store(2, Ordering::SeqCst);
+    lock.settle(rt, &pass);
+    let left = reached.load(Ordering::SeqCst) == 3;
+    (pass, held && left)
+}
+
+fn act_meanwhile<R: Wait>(
+    rt: &R,
+    lock: &TwinLock<Journal>,
+    pass: TwinPass<Journal>,
+    reached: &AtomicU64,
+    what: Meanwhile,
+) -> (TwinPass<Journal>, bool)
+    requires pass { IsReady lock.now pass }
+    ensures pass { IsReady lock.now result.0 × (pass_numbers result.0 ≡ pass_numbers pass) }
+{
+    match what {
+        Meanwhile::Posts => post_meanwhile(rt, lock, pass, reached),
+        Meanwhile::Settles => settle_meanwhile(rt, lock, pass, reached),
+    }
+}
+
+/// Whether a thread's post was answered while another thread had the mirror, or whether one that settled waited until it was put back.
+pub fn acts_meanwhile<R: Threads + Wait + Sync>(
     rt: &R,
     lock: &TwinLock<Journal>,
     one: TwinPass<Journal>,
     two: TwinPass<Journal>,
+    what: Meanwhile,
 ) -> (TwinPass<Journal>, bool)
     requires one { IsReady lock.now one }
     requires two { IsReady lock.now two }
@@ -83,7 +136,7 @@ pub fn posts_meanwhile<R: Threads + Wait + Sync>(
         || -> (TwinPass<Journal>, bool)
             requires pass { IsReady lock.now two }
             ensures { IsReady lock.entry.now result.0 × (pass_numbers result.0 ≡ pass_numbers two) }
-        { post_meanwhile(rt, lock, two, reached) },
+        { act_meanwhile(rt, lock, two, reached, what) },
     );
     lock.join(&mut one, two);
     (one, saw && had)

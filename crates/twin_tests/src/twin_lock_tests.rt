@@ -1,5 +1,5 @@
 //! Plays of a journal with its mirror.
-use crate::gate::{begin, end, posts_meanwhile};
+use crate::gate::{Meanwhile, acts_meanwhile, begin, end};
 use std::alloc::{AllocError, Global};
 use std::sync::Wait;
 use std::test::Fail;
@@ -32,7 +32,8 @@ fn has_each(posts: &Vec<u64>, by_eight: bool) -> Result<bool, Fail> {
     )
 }
 
-// Whether a play left the first posts in the mirror: all of them where its calls are enough. Else it failed, which the journal was told, and it has
+// Whether a play left the first posts in the mirror: all of them where its calls are enough. Else it failed, which the journal was told once, however many
+// threads saw it fail, and it has
 // what its last calls gave it: each thread makes one call after each of its posts, so that is no less than the calls of one thread, and no more
 // than all calls with one post of each thread that made no call yet.
 fn is_left(journal: &Journal, mirror: &Mirror, calls: u64, threads: u64) -> bool {
@@ -101,24 +102,27 @@ fn eight_threads_post_and_copy(rt: HostRuntime) -> Result<(), Fail> {
     Ok(())
 }
 
-// Two passes of one thread post by turns, two posts of them with both; then they are one pass, which posts and copies.
+// Two passes of one thread post by turns, two posts of them with both; then they are one pass, which posts and copies. The front that the second of them reads
+// before its first turn is returned, and a later one.
 fn by_turns<R: Wait>(
     rt: &R,
     alloc: Global,
     calls: u64,
-) -> Result<(Journal, Mirror, u64), AllocError> {
+) -> Result<(Journal, Mirror, [u64; 2]), AllocError> {
     let (lock, mut one, mut two) = begin(alloc, calls)?;
+    lock.settle(rt, &one);
     post(rt, &lock, &mut one, 5);
+    let early = lock.front(&mut two);
     post_through(rt, &lock, &mut two, 9);
     post_through(rt, &lock, &mut one, 3);
-    let front = lock.front(&mut two);
+    let late = lock.front(&mut one);
     post(rt, &lock, &mut two, 4);
     copy(rt, alloc, &lock, &mut one)?;
     lock.join(&mut one, two);
     post(rt, &lock, &mut one, 6);
     copy(rt, alloc, &lock, &mut one)?;
     let (journal, mirror) = end(lock, one);
-    Ok((journal, mirror, front))
+    Ok((journal, mirror, [early, late]))
 }
 
 #[test]
@@ -131,8 +135,9 @@ fn a_failure_is_told(rt: HostRuntime) -> Result<(), Fail> {
         (1, 2, 1),
         (0, 0, 1),
     ] {
-        let (journal, mirror, front) = by_turns(&rt, rt.alloc(), calls)?;
-        assert!(rt; journal.posts.as_slice() == [5, 9, 3, 4, 6].as_slice() && front == 9);
+        let (journal, mirror, fronts) = by_turns(&rt, rt.alloc(), calls)?;
+        assert!(rt; journal.posts.as_slice() == [5, 9, 3, 4, 6].as_slice());
+        assert!(rt; fronts == [5, 9]);
         assert!(rt;
             mirror.copied.len() == copied && journal.told == told && mirror.failed == (told == 1),
             "{calls}"
@@ -141,13 +146,14 @@ fn a_failure_is_told(rt: HostRuntime) -> Result<(), Fail> {
     Ok(())
 }
 
-// A play of two threads, of which one posts while the other has the mirror.
+// A play of two threads, of which one does this while the other has the mirror.
 fn beside_the_mirror<R: Threads + Wait + Sync>(
     rt: &R,
     alloc: Global,
+    what: Meanwhile,
 ) -> Result<(Journal, bool), AllocError> {
     let (lock, one, two) = begin(alloc, ENOUGH)?;
-    let (pass, meanwhile) = posts_meanwhile(rt, &lock, one, two);
+    let (pass, meanwhile) = acts_meanwhile(rt, &lock, one, two, what);
     let (journal, _mirror) = end(lock, pass);
     Ok((journal, meanwhile))
 }
@@ -155,8 +161,17 @@ fn beside_the_mirror<R: Threads + Wait + Sync>(
 #[test]
 fn a_post_is_answered_while_another_thread_has_the_mirror(rt: HostRuntime) -> Result<(), Fail> {
     for _ in 0..20 {
-        let (journal, meanwhile) = beside_the_mirror(&rt, rt.alloc())?;
+        let (journal, meanwhile) = beside_the_mirror(&rt, rt.alloc(), Meanwhile::Posts)?;
         assert!(rt; meanwhile && journal.posts.as_slice() == [7].as_slice());
+    }
+    Ok(())
+}
+
+#[test]
+fn who_settles_waits_until_the_mirror_is_put_back(rt: HostRuntime) -> Result<(), Fail> {
+    for _ in 0..20 {
+        let (_journal, waited) = beside_the_mirror(&rt, rt.alloc(), Meanwhile::Settles)?;
+        assert!(rt; waited);
     }
     Ok(())
 }

@@ -35,5 +35,7 @@ returns g c = let t = g.T.Turns in let w = g.T.Twins in let pass = c.requires.pa
       front = turns.front_in;
       beside = end.beside_is;
       later = saw_known w.later _ _ end.saw_is;
+      since = end.since;
+      devices = end.parts_in;
       told = end.told;
     }
