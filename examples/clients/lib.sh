@@ -1,17 +1,22 @@
 #!/bin/sh
-# Tries the heap in a program's own process, and compares it with the client over a pipe: the same tests, drawn events, kills, calls on the file that
-# fail, memory that is refused.
+# Tries the heap in a program's own process, and compares it with the client over a pipe: the same tests, drawn events, kills, what a crash may leave of the
+# calls on the file that were made by then, calls that fail, memory that is refused.
 #
-#     make -C clients/lib
 #     examples/clients/lib.sh [--quick]
 #
-# With --quick the program behind the pipe is compiled with nothing proved. The library's archive is there only once it is proved.
+# With --quick the library, and the program behind the pipe, are compiled with nothing proved; else the library is proved first, unless it is.
 . "$(dirname "$0")/../room.sh"
 . "$here/launcher.sh"
 client=$top/clients/c
 library=$top/clients/lib
+built=$library/build${quick:+/quick}
 strict="-std=c99 -Wall -Wextra -Wpedantic -O1 -g"
 watched="-fsanitize=address,undefined"
+
+# made [VARIABLE=VALUE]..: the library.
+made() {
+    make -s -C "$library" ${quick:+QUICK=1} "$@" || exit
+}
 
 # over_library PROGRAM LIBRARY SOURCE [FLAG]: a program over the library.
 over_library() {
@@ -23,14 +28,14 @@ tried() {
     if "./$1" "$1.heap" - 2>log; then echo "the tests pass$2"; else cat log; fi
 }
 
-make -s -C "$library" || exit
-make -s -C "$library" BUILD="$room/watched" CFLAGS="-O1 -g $watched" || exit
-over_library tests "$library/build" c_client.c
+made
+made BUILD="$room/watched" CFLAGS="-O1 -g $watched"
+over_library tests "$built" c_client.c
 over_library watched_tests watched c_client.c $watched
 tried tests
 tried watched_tests ", watched by the compiler"
 
-over_library drawn "$library/build" drawn.c
+over_library drawn "$built" drawn.c
 over_library watched_drawn watched drawn.c $watched
 cc $strict -I"$client" -o piped_drawn "$here/drawn.c" "$client/stable_heap.c" || exit
 mkdir here watched_here piped
@@ -44,31 +49,31 @@ for seed in 1 2 3; do
 done
 
 # two libraries that open their heap again by themselves after 60 events, and after each transaction
-make -s -C "$library" BUILD="$room/eager" CFLAGS="-O1 -g -DMOST_EVENTS=60" || exit
+made BUILD="$room/eager" CFLAGS="-O1 -g -DMOST_EVENTS=60"
 over_library memory eager memory.c -Wl,--wrap=malloc,--wrap=realloc,--wrap=free,--wrap=pthread_mutex_unlock
 mkdir refused
-./memory refused
-make -s -C "$library" BUILD="$room/restless" CFLAGS="-O1 -g -DMOST_EVENTS=1" || exit
+./memory refused 2>log || cat log
+made BUILD="$room/restless" CFLAGS="-O1 -g -DMOST_EVENTS=1"
 over_library restless_tests restless c_client.c
 tried restless_tests ", where the heap is opened again after each transaction"
 
-make -s -C "$library" BUILD="$room/raced" CFLAGS="-O1 -g -fsanitize=thread" || exit
+made BUILD="$room/raced" CFLAGS="-O1 -g -fsanitize=thread"
 over_library threads raced threads.c -fsanitize=thread
 mkdir counted_by_four
 ./threads counted_by_four 2>log || cat log
 
 if command -v rustc >/dev/null; then
     mkdir runs
-    rustc -O -L "$library/build" -l static=stable_heap -o count "$library/count.rs" >log 2>&1 && ./count runs >log && ./count runs >log
+    rustc -O -L "$built" -l static=stable_heap -o count "$library/count.rs" >log 2>&1 && ./count runs >log && ./count runs >log
     grep -qx "run 2" log || cat log
 fi
 
 # (a test that kills the heap's process is left out)
 cc -shared -fPIC -O1 -o no_memory.so "$here/no_memory.c" -ldl || exit
-LD_PRELOAD=$room/no_memory.so PYTHONDONTWRITEBYTECODE=1 HEAP=here "$here/python_client.py" >log 2>&1 && echo "the tests for Python pass" || cat log
+STABLE_HEAP_LIBRARY=$built/libstable_heap.so LD_PRELOAD=$room/no_memory.so PYTHONDONTWRITEBYTECODE=1 HEAP=here "$here/python_client.py" >log 2>&1 && echo "the tests for Python pass" || cat log
 STABLE_HEAP_LIBRARY=$room/restless/libstable_heap.so PYTHONDONTWRITEBYTECODE=1 HEAP=here "$here/python_client.py" >log 2>&1 &&
     echo "the tests for Python pass, where the heap is opened again after each transaction" || cat log
 
-over_library counter "$library/build" counter.c
+over_library counter "$built" counter.c
 cc -shared -fPIC -O1 -o faults.so "$here/faults.c" -ldl || exit
 python3 "$here/library.py" ./counter ./faults.so 200
