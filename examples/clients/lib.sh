@@ -10,6 +10,9 @@
 client=$top/clients/c
 library=$top/clients/lib
 built=$library/build${quick:+/quick}
+archive=$top/crates/heap_c/out/libheap_c.a
+[ -z "$quick" ] || archive=$built/libheap_c.a
+program=$top/.build/${quick:+quick/}heap_shell
 strict="-std=c99 -Wall -Wextra -Wpedantic -O1 -g"
 watched="-fsanitize=address,undefined"
 
@@ -77,3 +80,44 @@ STABLE_HEAP_LIBRARY=$room/restless/libstable_heap.so PYTHONDONTWRITEBYTECODE=1 H
 over_library counter "$built" counter.c
 cc -shared -fPIC -O1 -o faults.so "$here/faults.c" -ldl || exit
 python3 "$here/library.py" ./counter ./faults.so 200
+
+# crashed LIBRARY: what a crash leaves of its file.
+crashed() {
+    STABLE_HEAP_LIBRARY=$1/libstable_heap.so "$here/crashed.py" ./faults.so "$program" 2>log
+}
+
+# spoiled NAME OLD NEW [OLD NEW]: in a library of which OLD is NEW it is found that it breaks its word.
+spoiled() {
+    name=$1
+    shift
+    rm -rf spoiled
+    mkdir -p spoiled/lib
+    cp -r "$client" spoiled/c
+    cp "$library"/*.[ch] "$library/Makefile" spoiled/lib
+    python3 - spoiled/lib/stable_heap_lib.c "$@" <<'END' || exit
+import sys
+
+path, *edits = sys.argv[1:]
+text = open(path, encoding="utf-8").read()
+for old, new in zip(edits[::2], edits[1::2]):
+    assert text.count(old) == 1, old
+    text = text.replace(old, new)
+open(path, "w", encoding="utf-8").write(text)
+END
+    make -s -C spoiled/lib BUILD=build ARCHIVE="$archive" || exit
+    crashed spoiled/lib/build && echo "NOT FOUND: $name"
+    grep -q "^a crash after" log && echo "found: $name" || cat log
+}
+
+heap format 1 65536 1 >log || exit
+crashed "$built"
+make_sync='kind == HC_SYNC && fdatasync(heap->file) == 0'
+spoiled "no sync is made" "$make_sync" 'kind == HC_SYNC'
+spoiled "an answer comes before its last sync" \
+    'static bool make_write(' 'static bool owed; static bool make_write(' \
+    'uint64_t at = last(heap, 0), length = last(heap, 1);' \
+    'uint64_t at = last(heap, 0), length = last(heap, 1); if (owed) fdatasync(heap->file); owed = false;' \
+    "$make_sync" 'kind == HC_SYNC && (owed = true)'
+spoiled "a force is answered before its writes" 'if (!drain(heap)) {
+        memset' 'if (event->op != SH_EVENT_FORCE && !drain(heap)) {
+        memset'
