@@ -31,6 +31,7 @@ tried() {
     if "./$1" "$1.heap" - 2>log; then echo "the tests pass$2"; else cat log; fi
 }
 
+heap format 1 65536 1 >log || exit
 made
 made BUILD="$room/watched" CFLAGS="-O1 -g $watched"
 over_library tests "$built" c_client.c
@@ -41,15 +42,27 @@ tried watched_tests ", watched by the compiler"
 over_library drawn "$built" drawn.c
 over_library watched_drawn watched drawn.c $watched
 cc $strict -I"$client" -o piped_drawn "$here/drawn.c" "$client/stable_heap.c" || exit
-mkdir here watched_here piped
+mkdir here watched_here piped played
 for seed in 1 2 3; do
     for folder in here watched_here piped; do rm -f "$folder/heap.img"; done
     ./piped_drawn piped $seed 2000 64 $HEAP >piped.out 2>log || cat log
     ./drawn here $seed 2000 1 - >here.out
     ./watched_drawn watched_here $seed 2000 64 - >watched.out
+    (cd played && "$here/played.py" "$program" <../here.out)
     cmp piped.out here.out && cmp piped.out watched.out && cmp piped/heap.img here/heap.img && cmp piped/heap.img watched_here/heap.img &&
-        echo "$(wc -l <here.out) drawn events: the same answers and the same file as through the pipe"
+        cmp played/heap.img here/heap.img && echo "$(wc -l <here.out) drawn events: the same answers and the same file as through the pipe, and as they are played"
 done
+
+# the examples of the client for C, which print here what they print over the pipe
+cc $strict -I"$client" -o todo "$client/todo.c" "$built/libstable_heap.a" -lpthread || exit
+cc $strict -I"$client" -o bank "$client/bank.c" "$built/libstable_heap.a" -lpthread || exit
+mkdir list money
+{
+    for what in "add 5" "add 6" "add 7" "done 6"; do ./todo list $what -; done
+    echo "to do:" $(./todo list list 0 -)
+    ./bank money 5 -
+} >printed 2>log || cat log
+tail -n +2 "$here/c.out" | cmp - printed && echo "the examples print what they print over the pipe"
 
 # two libraries that open their heap again by themselves after 60 events, and after each transaction
 made BUILD="$room/eager" CFLAGS="-O1 -g -DMOST_EVENTS=60"
@@ -73,7 +86,8 @@ fi
 
 # (a test that kills the heap's process is left out)
 cc -shared -fPIC -O1 -o no_memory.so "$here/no_memory.c" -ldl || exit
-STABLE_HEAP_LIBRARY=$built/libstable_heap.so LD_PRELOAD=$room/no_memory.so PYTHONDONTWRITEBYTECODE=1 HEAP=here "$here/python_client.py" >log 2>&1 && echo "the tests for Python pass" || cat log
+STABLE_HEAP_LIBRARY=$built/libstable_heap.so LD_PRELOAD=$room/no_memory.so PYTHONDONTWRITEBYTECODE=1 HEAP=here "$here/python_client.py" >log 2>&1 &&
+    echo "the tests for Python pass" || cat log
 STABLE_HEAP_LIBRARY=$room/restless/libstable_heap.so PYTHONDONTWRITEBYTECODE=1 HEAP=here "$here/python_client.py" >log 2>&1 &&
     echo "the tests for Python pass, where the heap is opened again after each transaction" || cat log
 
@@ -109,7 +123,6 @@ END
     grep -q "^a crash after" log && echo "found: $name" || cat log
 }
 
-heap format 1 65536 1 >log || exit
 crashed "$built"
 make_sync='kind == HC_SYNC && fdatasync(heap->file) == 0'
 spoiled "no sync is made" "$make_sync" 'kind == HC_SYNC'
