@@ -171,7 +171,7 @@ ends_without_memory
 printed tools/remade
 printed clients/python
 if command -v cc >/dev/null; then printed clients/c; fi
-if [ -f "$top/clients/lib/build/libstable_heap.a" ]; then printed clients/lib; fi
+if command -v cc >/dev/null && [ -n "$quick" -o -f "$top/clients/lib/build/libstable_heap.a" ]; then printed clients/lib; fi
 printed library/page
 
 made basics/list.dot "$top/tools/graph_to_dot" <"$examples/basics/list.out"

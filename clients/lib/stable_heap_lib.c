@@ -8,6 +8,7 @@
 #include <inttypes.h>
 #include <limits.h>
 #include <pthread.h>
+#include <signal.h>
 #include <stdio.h>
 #include <stdlib.h>
 #include <string.h>
@@ -420,8 +421,18 @@ static int status_of(sh_result result) {
     }
 }
 
+/* A library that was made with QUICK=1 says so, once. */
+static void say_quick(void) {
+#ifdef NOTHING_IS_PROVED
+    static volatile sig_atomic_t said;
+    if (!said) fputs("stable_heap: QUICK: NOTHING IS PROVED of this library\n", stderr);
+    said = 1;
+#endif
+}
+
 sh_heap *sh_open_here(const char *folder, unsigned pages, unsigned log_bytes, sh_error *error) {
     off_t size = 0;
+    say_quick();
     sh_heap *heap = new_heap();
     if (!heap) {
         fail(error, SH_NO_MEMORY, "there is no memory");

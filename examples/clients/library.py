@@ -3,6 +3,7 @@
     library.py COUNTER FAULTS ROUNDS
 
 COUNTER is counter.c over the library, FAULTS is faults.c as a shared object. It works in the current folder, and prints what it found."""
+import collections
 import os
 import random
 import shutil
@@ -10,13 +11,17 @@ import subprocess
 import sys
 import time
 
-DISK_FAULT = 13
+DISK_FAULT, NOT_A_HEAP = 13, 15
+
+
+def new_folder():
+    shutil.rmtree("counted", ignore_errors=True)
+    os.mkdir("counted")
 
 
 def new_heap(counter):
     """A new folder, with a heap that holds the number 2."""
-    shutil.rmtree("counted", ignore_errors=True)
-    os.mkdir("counted")
+    new_folder()
     subprocess.run([counter, "counted", "2", "-"], check=True, capture_output=True)
 
 
@@ -65,27 +70,46 @@ def with_fault(counter, faults, at, kind):
         return run.stdout, calls.read().split("\n")[:-1]
 
 
+def stops_at_fault(said, calls):
+    """Looks that a run ended with the fault that it had, and says whether it had one."""
+    assert not any(call.startswith("failed") for call in calls[:-1]), "a call was made after one that failed"
+    faulty = calls[-1].startswith("failed")
+    if faulty and "refused" in said:
+        assert f"refused {DISK_FAULT}, and then {DISK_FAULT}\n" in said, said
+    elif faulty:
+        assert said == f"closed {DISK_FAULT}\n", said
+    return faulty
+
+
 def failing(counter, faults, kind):
-    """A heap that holds a number, and then the Nth call of a run fails, for each N. How many faults there were."""
+    """A heap that holds a number, and then the Nth call of a run fails, for each N. Which calls that were."""
+    failed, faulty = [], True
+    while faulty:
+        new_heap(counter)
+        said, calls = with_fault(counter, faults, len(failed) + 1, kind)
+        faulty = stops_at_fault(said, calls)
+        failed += [calls[-1].split()[0].split("-")[-1]] * faulty
+        last = max([2] + numbers(said))
+        assert last <= found(counter) <= last + 1, (found(counter), last)
+    return failed
+
+
+def never_made(counter, faults):
+    """The Nth call fails where there was no heap: afterwards there is none, or one with what was said. Where the file is no heap it was left as it was."""
     at, faulty = 0, True
     while faulty:
         at += 1
-        new_heap(counter)
-        said, calls = with_fault(counter, faults, at, kind)
-        faulty = calls[-1].startswith("failed")
-        assert not any(call.startswith("failed") for call in calls[:-1]), "a call was made after one that failed"
-        if faulty and "refused" in said:
-            assert f"refused {DISK_FAULT}, and then {DISK_FAULT}\n" in said, said
-        elif faulty:
-            assert said == f"closed {DISK_FAULT}\n", said
-        last = max([2] + numbers(said))
-        assert last <= found(counter) <= last + 1, (found(counter), last)
-    return at - 1
+        new_folder()
+        said, calls = with_fault(counter, faults, at, "eio")
+        faulty = stops_at_fault(said, calls)
+        again = subprocess.run([counter, "counted", "0", "-"], capture_output=True, text=True).stdout
+        last = max([0] + numbers(said))
+        assert again in (f"found {last}\n", f"found {last + 1}\n") or (not last and again == f"closed {NOT_A_HEAP}\n"), (said, again)
 
 
-def short(counter, faults):
-    """A write that was cut short is made whole."""
-    for at in range(2, 14):
+def short(counter, faults, calls):
+    """What was read or written in part is read or written whole."""
+    for at in range(1, calls + 1):
         new_heap(counter)
         said, _ = with_fault(counter, faults, at, "short")
         assert numbers(said) == [3, 4, 5] and found(counter) == 5, said
@@ -95,9 +119,13 @@ def main():
     counter, faults, rounds = sys.argv[1], sys.argv[2], int(sys.argv[3])
     killed(counter, rounds)
     for kind in ("eio", "enospc"):
-        print(f"{failing(counter, faults, kind)} calls failed with {kind}: none was made after it, and what was said is there")
-    short(counter, faults)
-    print("writes that were cut short were made whole")
+        failed = failing(counter, faults, kind)
+        each = ", ".join(f"{count} {call}" for call, count in sorted(collections.Counter(failed).items()))
+        print(f"{len(failed)} calls failed with {kind} ({each}): none was made after it, and what was said is there")
+    never_made(counter, faults)
+    print("calls failed where the heap was made: then there is none, or one with what was said")
+    short(counter, faults, len(failed))
+    print("reads and writes that were cut short were made whole")
 
 
 main()

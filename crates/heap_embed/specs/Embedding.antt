@@ -3,7 +3,7 @@ use Rattle.std.specs.Prelude.{◌≡◌, ◌≢◌, ◌⊎◌, ◌↔◌, ℕ, L
 use Rattle.std.specs.Int.{w64, to_le_bytes}
 use Rattle.std.specs.declared.alloc.AllocError.{AllocError}
 use Rattle.disk_model.specs.declared.disk.Disk.{Ghosts}
-use Rattle.disk_model.specs.Memory.{Memory, Write, Sync, changes_of, now_of, begun_anew}
+use Rattle.disk_model.specs.Memory.{Memory, Change, Sync, now_of, begun_anew}
 use Rattle.graph_model.specs.declared.event.Event.{Event}
 use Rattle.graph_model.specs.declared.reply.Reply.{Reply}
 use Rattle.graph_model.specs.History.{IsOfSession}
@@ -27,13 +27,19 @@ use Rattle.heap_embed.specs.Figures.{IsFigure}
 use Rattle.heap_embed.specs.Formats.{WasFormatted}
 use Rattle.heap_embed.specs.Host.{begins_with}
 use Rattle.heap_embed.specs.OpenHeaps.{MakesStep, StaysHeap, WasOpened}
-use Rattle.heap_embed.specs.Told.{change_answer, open_answer, word_of}
+use Rattle.heap_embed.specs.Told.{bytes_told, change_answer, open_answer, word_of}
 
 -- the disk that tells, if there is one
 abbrev pub disk_of : State → Option Memory
 disk_of (Image bytes) = None
 disk_of (Closed disk) = Some disk.disk
 disk_of (Open heap) = Some heap.disk
+
+-- the changes that are told: none where there is no disk yet
+abbrev pub changes_told : State → List Change
+changes_told (Image bytes) = []
+changes_told (Closed disk) = disk.disk.changes
+changes_told (Open heap) = heap.disk.changes
 
 -- the disk on which a heap is opened: one that begins with the bytes that were handed in, or that of a heap that was closed
 abbrev pub Hands : State → Memory → Type 0
@@ -137,8 +143,9 @@ module _ (g : Ghosts Memory) where
   Answers old ask.Done answered new =
       (answered ≡ answer.Done → (disk : Memory) → disk_of old ≡ Some disk → Forgets old new disk) × (answered ≢ answer.Done → new ≡ old) × (disk_of old ≡ None → answered ≡ answer.NotNow)
       × ((disk : Memory) → disk_of old ≡ Some disk → (answered ≡ answer.Done ↔ ((now_of disk).pending ≡ [])) × ((answered ≡ answer.Done) ⊎ (answered ≡ answer.Unsynced)))
-  Answers old ask.Told answered new = (new ≡ old) × ((disk : Memory) → disk_of old ≡ Some disk → answered ≡ answer.Number (changes_of disk))
-  Answers old (ask.Item k) answered new = (new ≡ old) × ((disk : Memory) → disk_of old ≡ Some disk → (k < changes_of disk → answered ≡ change_answer (slice_index_or disk.changes k Sync)) × (changes_of disk ≤ k → answered ≡ answer.NoItem))
+  Answers old ask.Told answered new = (new ≡ old) × (answered ≡ answer.Number (length (changes_told old)))
+  Answers old (ask.Item k) answered new =
+      (new ≡ old) × (k < length (changes_told old) → answered ≡ change_answer (slice_index_or (changes_told old) k Sync)) × (length (changes_told old) ≤ k → answered ≡ answer.NoItem)
   Answers old ask.Close answered new =
       ((heap : OpenHeap) → old ≡ Open heap → (answered ≡ answer.Done) × IsClosedOn new heap.disk) × (IsNotOpen old → (answered ≡ answer.NotNow) × (new ≡ old))
   Answers old (ask.More word count) answered new =
@@ -149,7 +156,7 @@ module _ (g : Ghosts Memory) where
       ((bytes : _) → old ≡ Image bytes → TakesUp bytes.items (replicate count 0) answered new) × (HasDisk old → (answered ≡ answer.NotNow) × (new ≡ old))
   Answers old (ask.Format pages log_bytes first) answered new =
       (¬ IsSuper (heap_of pages log_bytes first) → (answered ≡ answer.PastLimits) × (new ≡ old)) × (IsSuper (heap_of pages log_bytes first) → HasNoDisk old answered new ⊎ Formats (heap_of pages log_bytes first) old answered new)
-  Answers old (ask.Bytes k from) answered new = (new ≡ old) × ((disk : Memory) (at : ℕ) (bytes : List ℕ) → disk_of old ≡ Some disk → k < changes_of disk → slice_index_or disk.changes k Sync ≡ Write at bytes → from < length bytes → answered ≡ answer.Number (word_of bytes from))
+  Answers old (ask.Bytes k from) answered new = (new ≡ old) × (answered ≡ answer.Number (word_of (bytes_told (slice_index_or (changes_told old) k Sync)) from))
   Answers old (ask.Figure i) answered new = (new ≡ old) × (n : ℕ) × (answered ≡ answer.Number n) × IsFigureOf old i n
   Answers old (ask.Last i) answered new = new ≡ old
   Answers old ask.Fail answered new = new ≡ old

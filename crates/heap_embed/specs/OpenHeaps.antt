@@ -1,5 +1,5 @@
 -- What an open heap does on a disk whose record its host is told.
-use Rattle.std.specs.Prelude.{◌≡◌, ℕ, Bool, Result, Ok, IfOk, IsOk, OnErr, None, true}
+use Rattle.std.specs.Prelude.{◌≡◌, ℕ, Bool, [], ◌∷◌, ◌++◌, Result, Ok, IfOk, IsOk, OnErr, MatchResult, None, true}
 use Rattle.std.specs.declared.alloc.AllocError.{AllocError}
 use Rattle.disk_model.specs.Disk.{Only}
 use Rattle.disk_model.specs.Keeps.{KeepsDisk}
@@ -15,7 +15,7 @@ use Rattle.heap_core.specs.declared.in_memory.HeapCore.{HeapCore}
 use Rattle.heap_core.specs.Causes.{step_device, reply_device}
 use Rattle.heap_core.specs.Collects.{CollectsAsTold}
 use Rattle.heap_core.specs.Ending.{EndsAsTold, TakesNoMemory}
-use Rattle.heap_core.specs.HeapState.{entry_of}
+use Rattle.heap_core.specs.HeapState.{entry_of, entries_of}
 use Rattle.heap_core.specs.Refinement.{IsCoreOn, IsHeapOn, IsLeftByStep}
 use Rattle.core_laws.specs.Valid.{IsReached}
 use Rattle.heap_model.specs.Core.{Core, IsStep, calls, cut}
@@ -30,6 +30,8 @@ module _ {D : Type 0} (g : Ghosts D) where
   -- It makes an event: a step of the core that it is, which a modelled disk then holds; where memory was refused it is that core still. At each moment
   -- of it a crash leaves a commit prefix with all that was acknowledged or forced before.
   pub record MakesStep (old : HeapCore) (before : D) (event : Event) (result : Result Reply AllocError) (new : HeapCore) (now : D) : Type 0 where
+    -- on every disk, and with no core at hand: an answer adds the entry of this event and reply, and refused memory adds none
+    pub recorded : MatchResult result (λ reply. entries_of new.history ≡ entries_of old.history ++ record { event = event; reply = reply } ∷ []) (λ refused. entries_of new.history ≡ entries_of old.history)
     pub core : (c : Core) → IsCoreOn g c old before → IsReached c → IfOk result (λ reply. (d : Core) × IsStep c event reply d × IsCoreOn g d new now)
     pub kept : (c : Core) → IsCoreOn g c old before → OnErr result (IsCoreOn g c new now)
     pub untouched : OnErr result (now ≡ before)

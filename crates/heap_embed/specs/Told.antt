@@ -15,6 +15,12 @@ change_answer (Write at bytes) = answer.Write at (length bytes)
 change_answer Sync = answer.Sync
 change_answer Restart = answer.Sync
 
+-- the bytes that a change writes: none where it is no write
+abbrev pub bytes_told : Change → List ℕ
+bytes_told (Write at bytes) = bytes
+bytes_told Sync = []
+bytes_told Restart = []
+
 -- why a heap could not be opened
 abbrev pub open_answer : OpenError → Answer
 open_answer opening.NoMemory = answer.NoMemory

@@ -45,7 +45,7 @@ impl Embedded {
         ensures breaks { IsFalse self.old.broken → IsTrue self.new.broken → asked op s a b c ≡ Some Ask.Fail }
         ensures fails { asked op s a b c ≡ Some Ask.Fail → IsTrue self.new.broken × (IsFalse self.old.broken → result ≡ (bare 0).code) }
         ensures figure { (i : ℕ) → asked op s a b c ≡ Some (Ask.Figure i) → (result ≡ 13) × IsFigureOf ⟦<MemoryDisk as Disk>⟧ self.old.state i self.new.last.first }
-        ensures unasked { asked op s a b c ≡ None → (result ≡ 5) × (self.new.state ≡ self.old.state) × (self.new.broken ≡ self.old.broken) }
+        ensures unasked { asked op s a b c ≡ None → (result ≡ (bare 5).code) × (self.new.last ≡ (bare 5).numbers) × (self.new.state ≡ self.old.state) × (self.new.broken ≡ self.old.broken) }
     {
         let answer = match read_ask(op, s, a, b, c) {
             Some(Ask::Last { i }) => return self.number(i),

@@ -1,7 +1,7 @@
 //! A disk in memory whose record is what a host is told.
 ghost use Rattle.std.specs.Prelude.{◌≡◌, ◌⊎◌, ℕ, ◌<◌, ◌≤◌, ◌↔◌, [], List, length, slice_index_or, slice_index, IfOk, IsTrue, IsFalse};
 ghost use Rattle.disk_model.specs.Memory.{Memory, Write, Sync, MightHaveLeft, changes_of, now_of, begun_anew};
-ghost use Rattle.heap_embed.specs.Told.{change_answer, word_of};
+ghost use Rattle.heap_embed.specs.Told.{bytes_told, change_answer, word_of};
 ghost use Rattle.disk_model.specs.declared.memory.Pick.TheVariants.{Newest};
 ghost use Rattle.image_plan.specs.Super.{IsSuper};
 ghost use Rattle.heap_embed.specs.Formats.{WasFormatted};
@@ -78,24 +78,34 @@ pub fn item(disk: &MemoryDisk, k: u64) -> Answer
     }
 }
 
-/// Eight bytes of what change `k` writes, from its byte `from` on, the lowest first. Past its end they are zeros.
+/// Eight bytes of what change `k` writes, from its byte `from` on, the lowest first. Past its end, of a sync, and where there is no such change they are zeros.
 pub fn word(disk: &MemoryDisk, k: u64, from: u64) -> u64
-    ensures { k < changes_of disk.now → (at : ℕ) (bytes : List ℕ) → slice_index_or disk.now.changes k Sync ≡ Write at bytes → from < length bytes → result ≡ word_of bytes from }
+    ensures { result ≡ word_of (bytes_told (slice_index_or disk.now.changes k Sync)) from }
+{
+    word_at(written(disk, k), from)
+}
+
+/// What change `k` writes.
+fn written(disk: &MemoryDisk, k: u64) -> &[u8]
+    ensures { result.now ≡ bytes_told (slice_index_or disk.now.changes k Sync) }
 {
     if k >= disk.told() as u64 {
-        return 0;
+        return &[];
     }
     match disk.told_write(k as usize) {
-        Some((_, bytes)) if from < bytes.len() as u64 => word_at(bytes, from as usize),
-        _ => 0,
+        Some((_, bytes)) => bytes,
+        None => &[],
     }
 }
 
 /// Eight bytes from a place on. Past the end they are zeros.
-fn word_at(bytes: &[u8], from: usize) -> u64
-    requires { from < length bytes.now }
+fn word_at(bytes: &[u8], from: u64) -> u64
     ensures { result ≡ word_of bytes.now from }
 {
+    if from >= bytes.len() as u64 {
+        return 0;
+    }
+    let from = from as usize;
     u64::from_le_bytes([
         byte_at(bytes, from),
         byte_at(bytes, from + 1),

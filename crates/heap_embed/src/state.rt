@@ -1,9 +1,9 @@
 //! What there is of the heap.
 ghost use Rattle.std.specs.Prelude.{◌≡◌, ◌≢◌, ◌⊎◌, ◌↔◌, [], ◌<◌, ◌≤◌, None, Some, IfSome, IsSome, IfOk, IfErr, slice_index_or, ℕ, List, length, take, replicate};
 ghost use Rattle.std.specs.Int.{w64, to_le_bytes};
-ghost use Rattle.disk_model.specs.Memory.{Write, Sync, changes_of, now_of};
+ghost use Rattle.disk_model.specs.Memory.{Sync, now_of};
 ghost use Rattle.graph_model.specs.History.{IsOfSession};
-ghost use Rattle.heap_embed.specs.Told.{change_answer, word_of};
+ghost use Rattle.heap_embed.specs.Told.{bytes_told, change_answer, word_of};
 ghost use Rattle.heap_core.specs.Format.{heap_of};
 ghost use Rattle.heap_core.specs.Refinement.{IsCoreInMemory};
 ghost use Rattle.heap_embed.specs.Figures.{IsFigure, active_upto};
@@ -33,7 +33,7 @@ pub enum State {
 }
 
 impl State {
-    ghost use Rattle.heap_embed.specs.Embedding.{disk_of, Answers, MakesEvent, Opens, IsRefused, Formats, Forgets, Hands, HasNoDisk, HasDisk, IsFigureOf, IsNotOpen, IsClosedOn, TakesUp};
+    ghost use Rattle.heap_embed.specs.Embedding.{disk_of, changes_told, Answers, MakesEvent, Opens, IsRefused, Formats, Forgets, Hands, HasNoDisk, HasDisk, IsFigureOf, IsNotOpen, IsClosedOn, TakesUp};
 
     /// Answers what is asked of the heap.
     pub fn answer(&mut self, alloc: Global, ask: Ask) -> Answer
@@ -208,43 +208,35 @@ impl State {
         }
     }
 
-    /// The disk that tells, if there is one.
-    fn disk(&self) -> Option<&MemoryDisk>
-        ensures some { (disk : _) → disk_of self.now ≡ Some disk → IfSome result (λ it. it.now ≡ disk) × IsSome result }
-    {
-        match self {
-            State::Image(_) => None,
-            State::Closed(disk) => Some(&disk.disk),
-            State::Open(heap) => Some(heap.disk()),
-        }
-    }
-
     /// How many changes are told.
     fn told(&self) -> u64
-        ensures { (disk : _) → disk_of self.now ≡ Some disk → result ≡ changes_of disk }
+        ensures { result ≡ length (changes_told self.now) }
     {
-        match self.disk() {
-            Some(disk) => disk.told() as u64,
-            None => 0,
+        match self {
+            State::Image(_) => 0,
+            State::Closed(disk) => disk.disk.told() as u64,
+            State::Open(heap) => heap.disk().told() as u64,
         }
     }
 
     fn item(&self, k: u64) -> Answer
-        ensures told { (disk : _) → disk_of self.now ≡ Some disk → k < changes_of disk → result ≡ change_answer (slice_index_or disk.changes k Sync) }
-        ensures none { (disk : _) → disk_of self.now ≡ Some disk → changes_of disk ≤ k → result ≡ Answer.NoItem }
+        ensures told { k < length (changes_told self.now) → result ≡ change_answer (slice_index_or (changes_told self.now) k Sync) }
+        ensures none { length (changes_told self.now) ≤ k → result ≡ Answer.NoItem }
     {
-        match self.disk() {
-            Some(disk) => item(disk, k),
-            None => Answer::NoItem,
+        match self {
+            State::Image(_) => Answer::NoItem,
+            State::Closed(disk) => item(&disk.disk, k),
+            State::Open(heap) => item(heap.disk(), k),
         }
     }
 
     fn word(&self, k: u64, from: u64) -> u64
-        ensures { (disk : _) (at : ℕ) (bytes : List ℕ) → disk_of self.now ≡ Some disk → k < changes_of disk → slice_index_or disk.changes k Sync ≡ Write at bytes → from < length bytes → result ≡ word_of bytes from }
+        ensures { result ≡ word_of (bytes_told (slice_index_or (changes_told self.now) k Sync)) from }
     {
-        match self.disk() {
-            Some(disk) => word(disk, k, from),
-            None => 0,
+        match self {
+            State::Image(_) => 0,
+            State::Closed(disk) => word(&disk.disk, k, from),
+            State::Open(heap) => word(heap.disk(), k, from),
         }
     }
 

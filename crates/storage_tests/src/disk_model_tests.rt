@@ -198,6 +198,54 @@ fn a_listed_read_fails(rt: HostRuntime) -> Result<(), Fail> {
     Ok(())
 }
 
+/// A change as it is told: of a write its place and its bytes.
+type Told = Option<(usize, &'static [u8])>;
+
+/// What is told of the calls that `answers` makes.
+static TOLD: [Told; 4] = [
+    Some((1, &[21, 22])),
+    None,
+    Some((2, &[32, 33])),
+    Some((4, &[44])),
+];
+
+fn check_told(rt: &impl Abort, disk: &MemoryDisk, told: &[Told]) {
+    same(rt, disk.told(), told.len());
+    for (k, change) in told.iter().enumerate() {
+        if k < disk.told() {
+            same(rt, (k, disk.told_write(k)), (k, *change));
+        }
+    }
+}
+
+#[test]
+fn what_is_told_is_forgotten_once_it_is_synced(rt: HostRuntime) -> Result<(), Fail> {
+    let mut disk = disk_of_six(rt.alloc(), Pick::Newest, 1000, (&[], &[]))?;
+    same(&rt, answers(&mut disk), [DONE, DONE, DONE, DONE]);
+    check_told(&rt, &disk, &TOLD);
+    same(&rt, disk.forget(), false);
+    check_told(&rt, &disk, &TOLD);
+    same(&rt, disk.sync(), DONE);
+    same(&rt, disk.forget(), true);
+    check_told(&rt, &disk, &[]);
+    same(&rt, disk.contents(), &[10, 21, 32, 33, 44, 15]);
+    Ok(())
+}
+
+#[test]
+fn what_is_forgotten_gives_its_room_back(rt: HostRuntime) -> Result<(), Fail> {
+    let mut disk = disk_of_six(rt.alloc(), Pick::Newest, 66, (&[2], &[]))?;
+    // The sync fails, so the first write fills the record, and is pending.
+    same(&rt, answers(&mut disk), [DONE, FAILED, FAILED, FAILED]);
+    same(&rt, disk.forget(), false);
+    same(&rt, disk.sync(), DONE);
+    same(&rt, disk.forget(), true);
+    same(&rt, write_and_sync(&mut disk, 2, &[32, 33]), DONE);
+    check_told(&rt, &disk, &[Some((2, &[32, 33])), None]);
+    same(&rt, disk.contents(), &[10, 21, 32, 33, 14, 15]);
+    Ok(())
+}
+
 /// After how many calls a fuse stops, what is answered, what a read is answered after a restart, and how many calls passed.
 type Fuse = (u64, [Result<(), DiskError>; 4], Result<u8, DiskError>, u64);
 
