@@ -10,6 +10,15 @@ MOST_FIELDS = 510
 HANDLES = 64
 
 
+# which events can be refused so
+REFUSED_SO = {
+    "exhausted": ("seal",),
+    "volatilefull": ("new",),
+    "logfull": ("begin", "get", "put", "clear", "link", "seal", "flip", "scan"),
+    "diskfault": ("force",),
+}
+
+
 class Thing:
     """An object: each field is None, a number, or an object. `owner` is the transaction that makes it, until that is sealed."""
 
@@ -47,7 +56,9 @@ class MemoryHeap:
         self.sessions: Dict[int, Session] = {}
         self.events = self.commits = self.begun = self.collections = 0
         self.collecting = False
-        # the event of this number is refused so
+        # what the sealed transactions wrote that no force has put on the disk
+        self.unforced: List[Tuple[Thing, int, object]] = []
+        # the first event from this number on of which that can be the answer is refused so
         self.refused: Optional[Tuple[int, str, Tuple[int, ...]]] = None
 
     # ---- what the client calls
@@ -67,8 +78,12 @@ class MemoryHeap:
         session, name, numbers = event
         self.events += 1
         try:
-            if self.refused is not None and self.events == self.refused[0]:
-                raise Refusal(self.refused[1], *self.refused[2])
+            if self.refused is not None and self.events >= self.refused[0] and name in REFUSED_SO[self.refused[1]]:
+                word, numbers = self.refused[1:]
+                self.refused = None
+                if word == "diskfault" and self.events % 2:
+                    self.take_back(self.unforced)
+                raise Refusal(word, *numbers)
             return getattr(self, name)(*([session] if session else []), *numbers)
         except Refusal as refusal:
             return refusal.reply
@@ -174,16 +189,22 @@ class MemoryHeap:
         for thing in promoted:
             thing.owner = None
         self.used += need
-        del self.sessions[session]
+        self.unforced += self.sessions.pop(session).undo
         self.commits += 1
         return "sealed", [self.commits]
 
     def abort(self, session):
-        for thing, field, value in reversed(self.sessions.pop(session).undo):
-            thing.fields[field] = value
+        self.take_back(self.sessions.pop(session).undo)
         return "aborted", []
 
+    @staticmethod
+    def take_back(undo):
+        while undo:
+            thing, field, value = undo.pop()
+            thing.fields[field] = value
+
     def force(self):
+        self.unforced.clear()
         return "durable", [self.commits]
 
     def flush(self, page):
