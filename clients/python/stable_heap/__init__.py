@@ -756,7 +756,12 @@ class Heap:
 
     def scan(self) -> bool:
         """Goes on with the collection by one page: whether there is more to do."""
-        return self._ask("scan")[0] == "scanned"
+        return self.go_on()[0] == "scanned"
+
+    def go_on(self) -> Reply:
+        """Goes on with the collection by one page, and gives the heap's word for how it stands: `scanned`, `collected` with the words that are in use, or
+        `idle` where none is under way."""
+        return self._ask("scan")
 
     def collect(self) -> None:
         """Ends the collection that is under way, or makes a whole one: words of objects that nothing reached any more when it began are free."""

@@ -17,9 +17,9 @@ COMMAND = os.environ.get("HEAP", str(sh.LAUNCHER)).split()
 HERE_IN_PROCESS = COMMAND == ["here"]
 
 
-def store_over(heap):
+def store_over(heap, pages=None):
     """A store over the model; what the model holds stays when the store is closed."""
-    return Store.over(sh.Heap(heap, buffered=True))
+    return Store.over(sh.Heap(heap, buffered=True), pages=pages)
 
 
 def open_store(folder, **named):

@@ -200,6 +200,11 @@ class Plan:
         return not any(writes for _, writes in self.writes)
 
     @property
+    def events(self) -> int:
+        """About how many events of the heap it takes."""
+        return self.words + 3 * self.shelf_length + sum(2 + len(writes) for _, writes in self.writes)
+
+    @property
     def shelf_length(self) -> int:
         return len(self.moved) + len(self.shells) + len(self.pieces)
 

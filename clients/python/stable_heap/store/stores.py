@@ -14,12 +14,17 @@ from .. import LAUNCHER, LIBRARIES, Exhausted, Heap, HeapError, InUse, LogFull, 
 from .commit import FORM, FORM_SHIFT, NEXT_FIELD, PINS_FIELD, ROOT_FIELD, STAGE_FIELD, Maker, Plan, done, form
 from .containers import NO_STORE, Container, Dict, List, Place, Set
 from .errors import Closed, Full, StoreError, TooLarge
+from .keeping import Keeper, Sizes, log_used, sizes_of
+from .rebuilding import rebuild
 from .walking import HEAD_FIELD, TOP_FIELD, Reader
 from .words import DICT, LIST, SET, head, parts_of_head
 
 __all__ = ["Store"]
 
 CLASSES = {DICT: Dict, LIST: List, SET: Set}
+HEAP_FILE = "heap.img"
+# the serial numbers of the root dict, of the pins, and of the first other container
+ROOT_SERIAL, PINS_SERIAL, FIRST_SERIAL = 1, 2, 3
 Result = TypeVar("Result")
 
 
@@ -130,26 +135,34 @@ class Store:
     ):
         """Opens the store in that folder, or makes one, with a heap of these sizes. `here` says whether the heap is in this process, by the library: where
         it is left out that is so if the library is there. A heap that is in use is tried again for `wait` seconds. `command` is the launcher."""
-        folder = pathlib.Path(folder)
-        here = has_library() if here is None else here
-        heap = opened(lambda: Heap.open(folder, pages, log_bytes, command, here=bool(here), buffered=True), wait)
-        self._begin_with(heap, durable)
+        self._folder: Optional[pathlib.Path] = pathlib.Path(folder)
+        self._here = has_library() if here is None else here
+        self._command = command
+        heap = opened(lambda: self._open_heap(pathlib.Path(folder), Sizes(pages, log_bytes)), wait)
+        self._begin_with(heap, durable, sizes_of(self._folder / HEAP_FILE))
 
     @classmethod
-    def over(cls, heap: Heap, durable: bool = True) -> "Store":
-        """A store in a heap that is open, which is the store's from then on. Its transactions are to keep their writes."""
+    def over(cls, heap: Heap, durable: bool = True, pages: Optional[int] = None) -> "Store":
+        """A store in a heap that is open, which is the store's from then on. Its transactions are to keep their writes. Where it is told the pages of a space
+        it makes collections before room runs out."""
         store = cls.__new__(cls)
-        store._begin_with(heap, durable)
+        store._folder = None
+        store._begin_with(heap, durable, Sizes(pages, 0) if pages else None)
         return store
 
-    def _begin_with(self, heap: Heap, durable: bool) -> None:
+    def _open_heap(self, folder: pathlib.Path, sizes: Sizes) -> Heap:
+        return Heap.open(folder, sizes.pages, sizes.log_bytes, self._command, here=self._here, buffered=True)
+
+    def _begin_with(self, heap: Heap, durable: bool, sizes: Optional[Sizes]) -> None:
         # whoever has the turn is alone with the store
         self._turn = threading.RLock()
         # the turn, or what refuses it where the store is closed
         self._lock: Any = self._turn
-        self._heap, self._durable = heap, durable
+        self._durable = durable
+        self._take_heap(heap, sizes)
         self._levels: Sequence[Level] = []
         self._known: "weakref.WeakValueDictionary[int, Container]" = weakref.WeakValueDictionary()
+        self._commits = 0
         # whether a commit that was made in parts left some of them
         self._stage_left = False
         try:
@@ -188,6 +201,32 @@ class Store:
             if self._levels:
                 raise StoreError("a transaction is active")
             self._make_room()
+
+    def grow(self, pages: Optional[int] = None, log_bytes: Optional[int] = None) -> None:
+        """Writes all that is kept into a new heap of these sizes, which takes the old one's place in one step. What is left out stays as it is."""
+        with self._lock:
+            if self._levels:
+                raise StoreError("a transaction is active")
+            if self._folder is None:
+                raise StoreError("this store was made over an open heap, which has no folder")
+            sizes = sizes_of(self._folder / HEAP_FILE)
+            rebuild(self, Sizes(pages or sizes.pages, log_bytes or sizes.log_bytes))
+
+    def compact(self) -> None:
+        """Writes all that is kept into a new heap of the same sizes, whose log has no more than that. What was kept before it is not read again."""
+        self.grow()
+
+    def stats(self) -> Mapping[str, Any]:
+        """Figures of the store: the sizes of its heap, the words in use when the last collection ended, the used bytes of the log, commits and collections
+        since it was opened, and how many containers are known in memory."""
+        with self._lock:
+            figures: Mapping[str, Any] = {"commits": self._commits, "collections": self._keeper.collections}
+            figures.update(words_in_use=self._keeper.in_use, containers_in_memory=len(self._known))
+            if self._folder is not None:
+                file = self._folder / HEAP_FILE
+                sizes = sizes_of(file)
+                figures.update(pages=sizes.pages, words=sizes.words, log_bytes=sizes.log_bytes, log_bytes_used=log_used(file))
+            return figures
 
     def close(self) -> None:
         """Closes the store. What is kept in it can't be used any more before it is opened again."""
@@ -262,20 +301,44 @@ class Store:
     # ---- the heap
 
     def _read_root(self) -> None:
-        with self._guard(), self._heap.transaction() as t:
+        """Finds the store in the heap, or makes one in an empty heap."""
+        with self._guard(), self._heap.transaction(durable=False) as t:
             fields = t.get_all([(t.root, field) for field in (ROOT_FIELD, NEXT_FIELD, PINS_FIELD, STAGE_FIELD)])
-            if fields == [None] * 4:
-                fields = [self._new_object(t, ROOT_FIELD, DICT, 1), form(3), self._new_object(t, PINS_FIELD, SET, 2), None]
-                t.root.put(NEXT_FIELD, form(3))
             root, number, pins, stage = fields
-            if not (isinstance(root, Object) and isinstance(pins, Object) and isinstance(number, int) and number >> FORM_SHIFT == FORM):
-                raise StoreError("the heap holds something else than a store")
-            self._next_serial = number & (1 << FORM_SHIFT) - 1
-            self._root: Dict = self._known_as(*parts_of_head(root.get(HEAD_FIELD))[::2], None)
-            self._pins: Any = self._known_as(*parts_of_head(pins.get(HEAD_FIELD))[::2], None)
-            self._pins._content = {}
-            self._stale_pins = pins.get(TOP_FIELD) is not None
-            self._stage_left = stage is not None
+            is_store = isinstance(root, Object) and isinstance(pins, Object) and isinstance(number, int) and number >> FORM_SHIFT == FORM
+            if is_store:
+                assert isinstance(root, Object) and isinstance(pins, Object) and isinstance(number, int)
+                serials = [parts_of_head(it)[2] for it in t.numbers([(root, HEAD_FIELD), (pins, HEAD_FIELD)])]
+                self._next_serial = number & (1 << FORM_SHIFT) - 1
+                self._stale_pins = pins.get(TOP_FIELD) is not None
+                self._stage_left = stage is not None
+        if not is_store and fields != [None] * 4:
+            raise StoreError("the heap holds something else than a store")
+        self._root: Dict = self._known_as(DICT, serials[0] if is_store else ROOT_SERIAL, None)
+        self._pins: Any = self._known_as(SET, serials[1] if is_store else PINS_SERIAL, None)
+        self._pins._content = {}
+        if not is_store:
+            self._make_roots()
+
+    def _make_roots(self) -> None:
+        """Makes an empty store in an empty heap."""
+        with self._guard(), self._heap.transaction() as t:
+            self._new_object(t, ROOT_FIELD, DICT, ROOT_SERIAL)
+            self._new_object(t, PINS_FIELD, SET, PINS_SERIAL)
+            t.root.put(NEXT_FIELD, form(FIRST_SERIAL))
+        self._root._serial, self._pins._serial, self._next_serial = ROOT_SERIAL, PINS_SERIAL, FIRST_SERIAL
+        self._stale_pins = self._stage_left = False
+
+    def _take_heap(self, heap: Heap, sizes: Optional[Sizes]) -> None:
+        """The store is in that heap from now on."""
+        self._heap, self._keeper = heap, Keeper(heap, sizes)
+
+    def _open_again(self) -> None:
+        """The heap in the store's folder is opened: what is noted of the one that was there before holds of it too."""
+        assert self._folder is not None
+        sizes = sizes_of(self._folder / HEAP_FILE)
+        with self._guard():
+            self._take_heap(self._open_heap(self._folder, sizes), sizes)
 
     @staticmethod
     def _new_object(t: Transaction, field: int, kind: int, serial: int) -> Object:
@@ -373,6 +436,17 @@ class Store:
         for container in plan.new.values():
             assert container._serial is not None
             self._known[container._serial] = container
+        if not plan.is_empty:
+            self._commits += 1
+            self._tidy(plan)
+
+    def _tidy(self, plan: Plan) -> None:
+        """What is to be done for the heap after a commit. The commit stands, whatever becomes of this: where it fails the store is closed."""
+        try:
+            with self._guard():
+                self._keeper.wrote(plan.words, plan.events)
+        except (Closed, Refused):
+            pass
 
     def _make_room(self) -> None:
         """Makes a collection, of all that nothing refers to any more."""
@@ -388,7 +462,7 @@ class Store:
                 self._make(Plan(self, []), False)
             except Exhausted:
                 pins.restore()
-            self._heap.collect()
+            self._keeper.collect()
 
 
 MORE_LOG = "Nothing truncates it yet: store.compact() writes what is kept into a new log, and store.grow(log_bytes=..) into a larger one"
