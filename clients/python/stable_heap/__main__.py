@@ -10,10 +10,12 @@ lines into a new store. Where the variable HEAP is set, it is the launcher of th
 process, by the library.
 """
 
+from __future__ import annotations
+
 import os
 import pathlib
 import sys
-from typing import Any, Iterator, List as Sequence, Optional
+from typing import Any, Iterator, Optional
 
 from . import LAUNCHER, HeapError
 from .store import Store, StoreError
@@ -55,7 +57,7 @@ def tree(value: Any, depth: int, name: str = "root") -> Iterator[str]:
         yield from ("    " + line for line in tree(inner, depth - 1, repr(key)))
 
 
-def restored(words: Sequence[str]) -> int:
+def restored(words: list[str]) -> int:
     folder, sizes = words[0], dict(zip(("pages", "log_bytes"), map(int, words[1:])))
     if (pathlib.Path(folder) / "heap.img").exists():
         print(f"{folder} has a heap already", file=sys.stderr)
@@ -65,7 +67,7 @@ def restored(words: Sequence[str]) -> int:
     return 0
 
 
-def main(words: Sequence[str]) -> int:
+def main(words: list[str]) -> int:
     command, rest = (words or [""])[0], words[1:]
     if command == "restore" and 1 <= len(rest) <= 3 and all(word.isdigit() for word in rest[1:]):
         return restored(rest)

@@ -1,12 +1,14 @@
 """What a commit writes: a plan, which is made in memory alone, and its making in a transaction of the heap.
 
-The plan is of the differences between what containers hold and what of them is in the heap. Making it changes nothing in memory, so that it can be made
-again after a collection. Before any field of an object in the heap is overwritten, all that is referred to elsewhere from then on is put on a shelf: so
+The plan is of the differences between what containers hold and what of them is in the heap. Neither the plan nor its making changes anything in memory but
+the pins, of which the caller has a copy, so that another one can be made after a collection. Before any field of an object in the heap is overwritten, all that is referred to elsewhere from then on is put on a shelf: so
 nothing is lost that moves, in whatever order the fields are written."""
+
+from __future__ import annotations
 
 import itertools
 import weakref
-from typing import TYPE_CHECKING, Any, Dict as Mapping, Iterable, Iterator, List as Sequence, NamedTuple, Optional, Tuple, Union
+from typing import TYPE_CHECKING, Any, Iterable, Iterator, NamedTuple, Optional, Union
 
 from .. import Heap, Object, Transaction
 from .containers import SCALARS, Container, Place, containers_in
@@ -49,7 +51,7 @@ class Fresh:
 
     __slots__ = ("fields", "words")
 
-    def __init__(self, fields: Sequence["Field"]):
+    def __init__(self, fields: list["Field"]):
         self.fields = fields
         self.words = OBJECT_WORDS + len(fields)
 
@@ -59,7 +61,7 @@ class Shelved:
 
     __slots__ = ("number", "container", "path", "fresh")
 
-    def __init__(self, number: int, container: Optional[Container] = None, path: Sequence[int] = (), fresh: Optional[Fresh] = None):
+    def __init__(self, number: int, container: Optional[Container] = None, path: list[int] = (), fresh: Optional[Fresh] = None):
         self.number, self.container, self.path, self.fresh = number, container, path, fresh
 
 
@@ -69,7 +71,7 @@ Field = Union[None, int, Fresh, Shelved]
 class Write(NamedTuple):
     """What a field is to hold of the object that is found from a container's one by this path."""
 
-    path: Sequence[int]
+    path: list[int]
     field: int
     value: Field
 
@@ -77,7 +79,7 @@ class Write(NamedTuple):
 class Change:
     """What becomes of one container."""
 
-    def __init__(self, container: Container, levels: Sequence[Sequence[Node]], edits: Mapping[Node, Sequence[Any]]):
+    def __init__(self, container: Container, levels: list[list[Node]], edits: dict[Node, list[Any]]):
         self.container, self.levels, self.edits = container, levels, edits
         # the entries that are written: in which leaf, at which place, what was there, and what is to be there
         self.slots = list(self._changed_slots())
@@ -86,7 +88,7 @@ class Change:
     def height(self) -> int:
         return max(len(self.levels) - 1, 0)
 
-    def _changed_slots(self) -> Iterator[Tuple[Node, int, Any, Any]]:
+    def _changed_slots(self) -> Iterator[tuple[Node, int, Any, Any]]:
         old = self.container._levels[0] if self.container._levels else []
         for leaf in self.levels[0] if self.levels else []:
             if not leaf.stored:
@@ -99,7 +101,7 @@ class Change:
                 yield from ((leaf, slot, entry, None) for slot, entry in enumerate(leaf.items))
 
 
-def different(node: Node, items: Sequence[Any]) -> Iterator[Tuple[Node, int, Any, Any]]:
+def different(node: Node, items: list[Any]) -> Iterator[tuple[Node, int, Any, Any]]:
     for slot, (old, new) in enumerate(itertools.zip_longest(node.items, items, fillvalue=GONE)):
         if old is not new:
             yield node, slot, old, new
@@ -137,7 +139,7 @@ def list_leaves(container: Container) -> Arranged:
     return arrange(old, content, [] if len(items) == len(content) else common_ends(items, content))
 
 
-def common_ends(old: Sequence[Any], new: Sequence[Any]) -> Sequence[Span]:
+def common_ends(old: list[Any], new: list[Any]) -> list[Span]:
     """What both begin with, and end with."""
     most = min(len(old), len(new))
     front = next((at for at in range(most) if old[at] is not new[at]), most)
@@ -151,7 +153,7 @@ def entry_leaves(container: Container) -> Arranged:
     fields = entry_fields(container._KIND)
     if touched.whole or not container._levels:
         return arrange_slots([], 32 // fields, {}, [entry_of(it, fields) for it in content.items()])
-    edits: Mapping[Node, Sequence[Any]] = {}
+    edits: dict[Node, list[Any]] = {}
     added = 0
     for key, removed in touched.keys.items():
         where = container._where.get(key)
@@ -167,7 +169,7 @@ def entry_leaves(container: Container) -> Arranged:
     return arrange_slots(container._levels[0], 32 // fields, edits, [entry_of(it, fields) for it in reversed(last)])
 
 
-def entry_of(item: Tuple[Any, Any], fields: int) -> Tuple[Any, ...]:
+def entry_of(item: tuple[Any, Any], fields: int) -> tuple[Any, ...]:
     return item[:fields]
 
 
@@ -176,18 +178,18 @@ class Plan:
 
     def __init__(self, store: "Store", dirty: Iterable[Container]):
         self.store = store
-        self.changes: Sequence[Change] = []
-        self.new: Mapping[int, Container] = {}
-        self.places: Mapping[int, Tuple[Container, Optional[Place]]] = {}
+        self.changes: list[Change] = []
+        self.new: dict[int, Container] = {}
+        self.places: dict[int, tuple[Container, Optional[Place]]] = {}
         # the numbers of the new ones
-        self.serials: Mapping[int, int] = {}
+        self.serials: dict[int, int] = {}
         self._find_changes([container for container in dirty if container._serial is not None])
         self._find_places()
-        self._shelf: Mapping[Any, Shelved] = {}
-        self._taken: Mapping[int, Tuple[Container, Sequence[int]]] = {}
-        self.moved: Sequence[Shelved] = []
-        self.shells: Sequence[Shelved] = []
-        self.pieces: Sequence[Shelved] = []
+        self._shelf: dict[Any, Shelved] = {}
+        self._taken: dict[int, tuple[Container, list[int]]] = {}
+        self.moved: list[Shelved] = []
+        self.shells: list[Shelved] = []
+        self.pieces: list[Shelved] = []
         self.words = 0
         self._shelve_new()
         self.writes = [(self._shelved_container(change.container), self._writes_of(change)) for change in self.changes]
@@ -205,12 +207,17 @@ class Plan:
         return self.words + 3 * self.shelf_length + sum(2 + len(writes) for _, writes in self.writes)
 
     @property
+    def log_bytes(self) -> int:
+        """How many bytes of the log it takes at most: 27 a write, and of what is made less than 15 a word."""
+        return 100 + 27 * sum(len(writes) for _, writes in self.writes) + 15 * (self.words + self.shelf_length)
+
+    @property
     def shelf_length(self) -> int:
         return len(self.moved) + len(self.shells) + len(self.pieces)
 
     # ---- which containers change, and where they are found then
 
-    def _find_changes(self, waiting: Sequence[Container]) -> None:
+    def _find_changes(self, waiting: list[Container]) -> None:
         """The changes of those containers, and of all new ones that are reached from what they write."""
         while waiting:
             container = waiting.pop()
@@ -225,8 +232,8 @@ class Plan:
 
     def _find_places(self) -> None:
         """A place for each container that is new or has lost its own; those that have none any more are pinned."""
-        lost: Mapping[int, Container] = {**self.new, **{id(it): it for it in self.store._pinned()}}
-        offers: Mapping[int, Sequence[Tuple[Container, Place]]] = {}
+        lost: dict[int, Container] = {**self.new, **{id(it): it for it in self.store._pinned()}}
+        offers: dict[int, list[tuple[Container, Place]]] = {}
         for change in self.changes:
             for leaf, slot, old, new in change.slots:
                 for found, _ in containers_of(old):
@@ -245,10 +252,10 @@ class Plan:
             pass
         assert not lost
 
-    def _settle(self, lost: Mapping[int, Container], offers: Mapping[int, Sequence[Tuple[Container, Place]]]) -> bool:
+    def _settle(self, lost: dict[int, Container], offers: dict[int, list[tuple[Container, Place]]]) -> bool:
         """Takes the offers whose owners are found from the root object without a container that is lost: whether there was one."""
         before = len(lost)
-        fine: Mapping[int, bool] = {}
+        fine: dict[int, bool] = {}
         waiting = [owner for owner in offers if self._is_found(owner, offers, lost, fine)]
         while waiting:
             owner = waiting.pop()
@@ -260,9 +267,9 @@ class Plan:
                         waiting.append(id(found))
         return len(lost) < before
 
-    def _is_found(self, owner: int, offers: Any, lost: Mapping[int, Container], fine: Mapping[int, bool]) -> bool:
+    def _is_found(self, owner: int, offers: Any, lost: dict[int, Container], fine: dict[int, bool]) -> bool:
         """Whether no container on the way from the root object to that one is lost."""
-        passed: Sequence[int] = []
+        passed: list[int] = []
         here: Optional[Container] = next(place.owner for _, place in offers[owner])
         while here is not None and id(here) not in fine:
             passed.append(id(here))
@@ -279,7 +286,7 @@ class Plan:
         """Where the container is found once this is made."""
         return self.places[id(container)][1] if id(container) in self.places else container._place
 
-    def _pin(self, containers: Sequence[Container]) -> None:
+    def _pin(self, containers: list[Container]) -> None:
         """The pins are to be just these containers."""
         pins = self.store._pins
         wanted = {id(it) for it in containers}
@@ -314,7 +321,7 @@ class Plan:
             self.moved.append(self._shelf[id(container)])
         return self._shelf[id(container)]
 
-    def _shelved_from(self, container: Container, path: Sequence[int]) -> Shelved:
+    def _shelved_from(self, container: Container, path: list[int]) -> Shelved:
         """What is in the heap behind that path from a container's object."""
         key = id(container), tuple(path)
         if key not in self._shelf:
@@ -322,10 +329,10 @@ class Plan:
             self.moved.append(self._shelf[key])
         return self._shelf[key]
 
-    def _writes_of(self, change: Change) -> Sequence[Write]:
+    def _writes_of(self, change: Change) -> list[Write]:
         container = change.container
         self._taken = dict(self._objects_of(change))
-        writes: Sequence[Write] = []
+        writes: list[Write] = []
         for height, level in enumerate(change.levels):
             for node in level:
                 if node in change.edits:
@@ -338,7 +345,7 @@ class Plan:
             writes.append(Write([], HEAD_FIELD, head(container._KIND, change.height, container._serial)))
         return writes
 
-    def _objects_of(self, change: Change) -> Iterator[Tuple[int, Tuple[Container, Sequence[int]]]]:
+    def _objects_of(self, change: Change) -> Iterator[tuple[int, tuple[Container, list[int]]]]:
         """The objects of values that were in leaves that change, by the value: where such a value stays, its object is not made again."""
         container, fields = change.container, entry_fields(change.container._KIND)
         if container._KIND == SET and container is self.store._pins:
@@ -371,7 +378,7 @@ class Plan:
             return self._shelved_from(change.container, [TOP_FIELD, *node_path(node)])
         kind = change.container._KIND if height == 0 else LIST
         fields = entry_fields(kind)
-        made: Sequence[Field] = []
+        made: list[Field] = []
         for entry in node.items:
             items = (*parts_of_entry(entry, kind), *[GONE] * fields)[:fields]
             made += [self._item(change, item, height) for item in items]
@@ -396,12 +403,12 @@ class Plan:
             kind, data = data_of(value)
             count, fields = len(data), list(data_words(data))
         height = height_for(len(fields))
-        below: Sequence[Field] = fields
+        below: list[Field] = fields
         for _ in range(height):
             below = [self._fresh(below[at : at + MOST_FIELDS]) for at in range(0, len(below), MOST_FIELDS)]
         return self._fresh([head(kind, height, count), *below])
 
-    def _fresh(self, fields: Sequence[Field]) -> Fresh:
+    def _fresh(self, fields: list[Field]) -> Fresh:
         """An object that is to be made, with what is made for it. Where that is large, some of it is made before it."""
         self.words += OBJECT_WORDS + len(fields)
         made = Fresh(fields)
@@ -421,14 +428,14 @@ class Plan:
         return self.pieces[-1]
 
 
-def parts_of_entry(entry: Any, kind: int) -> Sequence[Any]:
+def parts_of_entry(entry: Any, kind: int) -> list[Any]:
     """The values of an entry, as many as it has fields; none for a hole."""
     if entry is GONE or entry is None and kind in (DICT, SET):
         return []
     return list(entry) if kind in (DICT, SET) else [entry]
 
 
-def containers_of(entry: Any) -> Iterator[Tuple[Container, Tuple[int, ...]]]:
+def containers_of(entry: Any) -> Iterator[tuple[Container, tuple[int, ...]]]:
     """The containers in an entry of a leaf, of whichever kind."""
     if entry is None or entry is GONE or type(entry) in SCALARS or isinstance(entry, Pin):
         return
@@ -437,7 +444,7 @@ def containers_of(entry: Any) -> Iterator[Tuple[Container, Tuple[int, ...]]]:
     yield from containers_in(entry)
 
 
-def paths_of(entry: Any, kind: int) -> Iterator[Tuple[Container, Tuple[int, ...]]]:
+def paths_of(entry: Any, kind: int) -> Iterator[tuple[Container, tuple[int, ...]]]:
     """The containers in an entry of a leaf, each with the fields that lead to it, of which the first is counted from those of the entry."""
     if entry is None and kind != LIST or entry is GONE:
         return
@@ -447,7 +454,7 @@ def paths_of(entry: Any, kind: int) -> Iterator[Tuple[Container, Tuple[int, ...]
                 yield found, (number, *fields_to(value, items))
 
 
-def fields_to(value: Any, items: Sequence[int]) -> Iterator[int]:
+def fields_to(value: Any, items: list[int]) -> Iterator[int]:
     """The fields that lead from a tuple's object to an item of an item of it."""
     for item in items:
         yield from tuple_path(item, height_for(len(value)))
@@ -466,8 +473,8 @@ class Shelf:
         tables = -(-max(length - self._first, 0) // MOST_FIELDS)
         if tables > MOST_FIELDS:
             raise TooLarge(f"a transaction that makes or moves {length:,} objects at once: make it in parts")
-        self._held: Mapping[int, Object] = {}
-        self._tables: Mapping[int, Object] = {}
+        self._held: dict[int, Object] = {}
+        self._tables: dict[int, Object] = {}
         self._index: Optional[Object] = None
         if tables and (staged or tables > self.TABLES):
             self._index = transaction.new(tables)
@@ -538,7 +545,7 @@ class Maker:
         shelf.goes_on(transaction)
         return shelf
 
-    def _fill(self, shelf: Shelf, transaction: Transaction, waiting: Sequence[Shelved]) -> None:
+    def _fill(self, shelf: Shelf, transaction: Transaction, waiting: list[Shelved]) -> None:
         """Puts so much on the shelf as the transaction can make."""
         walk = Walk(self._plan.store, transaction)
         words = MOST_FIELDS

@@ -3,9 +3,11 @@
 One that was just made is of no store, and is an object in memory like others. Once it is put into a container of a store it is of that store: from then
 on each of its calls takes its turn, and each change is part of a transaction."""
 
+from __future__ import annotations
+
 import collections.abc
 import contextlib
-from typing import Any, Callable, ContextManager, Dict as Mapping, Iterable, Iterator, List as Sequence, Optional, Tuple
+from typing import Any, Callable, ContextManager, Iterable, Iterator, Optional
 
 from .image import Node, Splices, Touched
 from .words import DICT, LIST, SET
@@ -28,7 +30,7 @@ class NoStore:
         return contextlib.nullcontext(container._content)
 
     @staticmethod
-    def _take(found: Sequence["Container"]) -> None:
+    def _take(found: list["Container"]) -> None:
         """Containers that were put into one of no store are of none."""
 
 
@@ -40,7 +42,7 @@ class Place:
 
     __slots__ = ("owner", "leaf", "entry", "path")
 
-    def __init__(self, owner: "Container", leaf: Node, entry: int, path: Tuple[int, ...]):
+    def __init__(self, owner: "Container", leaf: Node, entry: int, path: tuple[int, ...]):
         self.owner, self.leaf, self.entry, self.path = owner, leaf, entry, path
 
 
@@ -61,9 +63,9 @@ class Container:
         # where a reference to it is in the heap; None for those that the root object refers to
         made._place: Optional[Place] = None
         # its tree in the heap: the leaves, and the nodes above them, up to one
-        made._levels: Sequence[Sequence[Node]] = []
+        made._levels: list[list[Node]] = []
         # where the entry of a key is, of a dict or set
-        made._where: Mapping[Any, Tuple[Node, int]] = {}
+        made._where: dict[Any, tuple[Node, int]] = {}
         # how the content may differ from what is in the heap
         made._edits: Any = cls._no_edits(0)
         return made
@@ -81,9 +83,9 @@ class Container:
         content = self._content
         return self._store._load(self) if content is None else content
 
-    def _taken(self, values: Sequence[Any]) -> Sequence[Any]:
+    def _taken(self, values: list[Any]) -> list[Any]:
         """The values as they are kept. The containers among them are of the same store from now on."""
-        found: Sequence[Container] = []
+        found: list[Container] = []
         kept = stored_form(values, found)
         self._store._take(found)
         return kept
@@ -114,7 +116,7 @@ class Container:
     def _snapshot(self) -> Any:
         return self._content.copy()
 
-    def _inner(self) -> Sequence["Container"]:
+    def _inner(self) -> list["Container"]:
         """The containers in it."""
         values = self._content.values() if self._KIND == DICT else self._content if self._KIND == LIST else ()
         return [found for value in values for found, _ in containers_in(value)]
@@ -178,7 +180,7 @@ class List(Container):
             content[index] = value
             self._edits.splice(range(len(content))[index], 1, 1)
 
-    def _set_slice(self, index: slice, values: Sequence[Any]) -> None:
+    def _set_slice(self, index: slice, values: list[Any]) -> None:
         with self._store._change(self) as content:
             places = range(len(content))[index]
             values = self._taken(values)
@@ -313,12 +315,12 @@ class List(Container):
         return self._compared(other, lambda one, two: one >= two)
 
 
-def listed(values: Iterable[Any]) -> Sequence[Any]:
+def listed(values: Iterable[Any]) -> list[Any]:
     """A list of the values. (That of `list` takes room first for so many as an iterator claims to have.)"""
     return [value for value in values]
 
 
-def made_of(items: Sequence[Any]) -> List:
+def made_of(items: list[Any]) -> List:
     """A list of no store, with items that a store's list had."""
     made = List()
     made._content = items
@@ -380,7 +382,7 @@ class Dict(Container):
             self._edits.remove(key)
             return value
 
-    def popitem(self) -> Tuple[Any, Any]:
+    def popitem(self) -> tuple[Any, Any]:
         with self._store._change(self) as content:
             if not content:
                 raise KeyError("popitem(): dictionary is empty")
@@ -605,10 +607,10 @@ def check_key(key: Any, depth: int = 0) -> None:
         raise TypeError(f"a store can't keep a key of type {type(key).__name__}")
 
 
-def stored_form(values: Sequence[Any], found: Sequence[Container]) -> Sequence[Any]:
+def stored_form(values: list[Any], found: list[Container]) -> list[Any]:
     """The values as a store keeps them: of plain dicts, lists and sets copies are made, once of each. The containers that are met are added to `found`."""
-    copies: Mapping[int, Container] = {}
-    waiting: Sequence[Tuple[Any, Container]] = []
+    copies: dict[int, Container] = {}
+    waiting: list[tuple[Any, Container]] = []
 
     def form(value: Any, depth: int) -> Any:
         kind = type(value)
@@ -645,7 +647,7 @@ def stored_form(values: Sequence[Any], found: Sequence[Container]) -> Sequence[A
 COPIED = {dict: Dict, list: List, set: Set}
 
 
-def containers_in(value: Any, path: Tuple[int, ...] = ()) -> Iterator[Tuple[Container, Tuple[int, ...]]]:
+def containers_in(value: Any, path: tuple[int, ...] = ()) -> Iterator[tuple[Container, tuple[int, ...]]]:
     """The containers in a value, each with the items of tuples that lead to it."""
     kind = type(value)
     if kind is tuple:
@@ -657,8 +659,8 @@ def containers_in(value: Any, path: Tuple[int, ...] = ()) -> Iterator[Tuple[Cont
 
 def plain(value: Any) -> Any:
     """A deep copy as Python's own objects: also for `json.dumps(value, default=plain)`."""
-    copies: Mapping[int, Any] = {}
-    waiting: Sequence[Tuple[Container, Any]] = []
+    copies: dict[int, Any] = {}
+    waiting: list[tuple[Container, Any]] = []
 
     def form(value: Any) -> Any:
         if type(value) is tuple:

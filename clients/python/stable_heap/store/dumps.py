@@ -6,10 +6,12 @@ kept.
 Texts, ints, finite floats, true, false and null stand for themselves; other values are an object of one key: "float" with its bits in hexadecimal, "bytes" in
 hexadecimal, "tuple" with its items, "ref" with the number of a container. The first line is the root."""
 
+from __future__ import annotations
+
 import json
 import math
 import struct
-from typing import Any, Dict as Mapping, Iterable, Iterator, List as Sequence
+from typing import Any, Iterable, Iterator
 
 from .containers import Container, Dict, List, Set
 from .errors import StoreError
@@ -23,7 +25,7 @@ KINDS = {name: kind for kind, name in NAMES.items()}
 def dumped(root: Container) -> Iterator[str]:
     """The lines of all that is found from the root."""
     numbers = {id(root): 0}
-    found: Sequence[Container] = [root]
+    found: list[Container] = [root]
 
     def told(value: Any) -> Any:
         if isinstance(value, Container):
@@ -57,8 +59,8 @@ def restore(lines: Iterable[str], root: Dict) -> None:
         raise StoreError("the lines are no dump of a store")
     kinds = [next(name for name in KINDS if name in line) for line in told]
     # (containers of no store, which the root takes over together)
-    made: Sequence[Any] = [root, *(KINDS[kind]() for kind in kinds[1:])]
-    entries: Mapping[Any, Any] = {}
+    made: list[Any] = [root, *(KINDS[kind]() for kind in kinds[1:])]
+    entries: dict[Any, Any] = {}
 
     def value_of(value: Any) -> Any:
         if not isinstance(value, dict):

@@ -200,10 +200,7 @@ def settled(old: List[Node], items: List[Any], is_last: bool, edits: Dict[Node, 
     if len(old) == 1 and len(items) <= WIDTH:
         sizes = [len(items)]
     elif sum(sizes) != len(items):
-        whole = 0
-        while whole < len(old) and is_same(old[whole].items, items[sum(sizes[:whole]) : sum(sizes[: whole + 1])]):
-            whole += 1
-        if whole < len(old) or not old:
+        if not old or not is_same([item for node in old for item in node.items], items[: sum(sizes)]):
             return [Node(part) for part in split(items, is_last)]
         filled = min(WIDTH, sizes[-1] + len(items) - sum(sizes))
         rest = items[sum(sizes[:-1]) + filled :]
@@ -252,9 +249,17 @@ def split(items: List[Any], is_last: bool, width: int = WIDTH) -> List[List[Any]
 def kept_nodes(old: Iterable[Node], new: Iterable[Node]) -> Iterable[Span]:
     """The spans of nodes that are still there."""
     places = {node: place for place, node in enumerate(new)}
+    start, now, length = 0, 0, 0
     for was, node in enumerate(old):
-        if node in places:
-            yield Span(was, places[node], 1)
+        place = places.get(node)
+        if length and place == now + length and was == start + length:
+            length += 1
+            continue
+        if length:
+            yield Span(start, now, length)
+        start, now, length = (was, place, 1) if place is not None else (0, 0, 0)
+    if length:
+        yield Span(start, now, length)
 
 
 def arrange_slots(old: List[Node], width: int, edits: Dict[Node, List[Any]], added: List[Any]) -> Arranged:

@@ -6,6 +6,7 @@ import struct
 from typing import NamedTuple, Optional
 
 from .. import Heap, LogFull
+from .errors import Full
 
 __all__ = ["Keeper", "Sizes", "log_used", "sizes_of"]
 
@@ -15,6 +16,9 @@ BATCH = struct.Struct("<BI")
 LOG_AT = 64
 # a scan is made for so many words that a commit writes, and one besides: so a collection ends long before its space is full
 WORDS_A_SCAN = 8
+# so much of the log is left for reads, which take a few bytes of it, and so for a compaction: an eighth of a small log
+RESERVE = 65_536
+MORE_LOG = "Nothing truncates it yet: store.compact() writes what is kept into a new log, and store.grow(log_bytes=..) into a larger one"
 # the heap keeps 24 bytes for each event until it is opened again
 MOST_EVENTS = 1_000_000
 
@@ -55,14 +59,27 @@ def log_used(file: pathlib.Path) -> int:
 class Keeper:
     """Keeps a heap usable."""
 
-    def __init__(self, heap: Heap, sizes: Optional[Sizes]):
-        self._heap, self._sizes = heap, sizes
+    def __init__(self, heap: Heap, sizes: Optional[Sizes], file: Optional[pathlib.Path] = None):
+        self._heap, self._sizes, self._file = heap, sizes, file
+        # about how many bytes of the log are used, or a few more
+        self._log_used = log_used(file) if file is not None else 0
         self.collections = 0
         # words in use when the last collection ended
         self.in_use: Optional[int] = None
         self._free = sizes.words // 2 if sizes else 0
         self._written = self._events = 0
         self._is_collecting = False
+
+    def expect(self, log_bytes: int) -> None:
+        """A commit is about to write at most so many bytes into the log: it is refused where reads would have no room there any more."""
+        if self._file is None or self._sizes is None:
+            return
+        most = self._sizes.log_bytes - min(RESERVE, self._sizes.log_bytes // 8)
+        if self._log_used + log_bytes > most:
+            self._log_used = log_used(self._file)
+        if self._log_used + log_bytes > most:
+            raise Full(f"{self._log_used:,} of the log's {self._sizes.log_bytes:,} bytes are used, and up to {log_bytes:,} are needed. {MORE_LOG}")
+        self._log_used += log_bytes
 
     def wrote(self, words: int, events: int) -> None:
         """A commit has written so much."""
@@ -101,6 +118,8 @@ class Keeper:
         word, numbers = self._heap.go_on()
         self._is_collecting = word == "scanned"
         if word == "collected":
+            if self._file is not None:
+                self._log_used = log_used(self._file)
             self.collections += 1
             self._written = 0
             self.in_use = numbers[0]

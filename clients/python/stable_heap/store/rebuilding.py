@@ -1,9 +1,11 @@
 """A store's data in a new heap, which then takes the old one's place: with other sizes, and a log that holds no more than what is kept."""
 
+from __future__ import annotations
+
 import os
 import pathlib
 import shutil
-from typing import TYPE_CHECKING, Any, Iterator, List as Sequence
+from typing import TYPE_CHECKING, Any, Iterator
 
 from .containers import Container
 from .dumps import dumped
@@ -32,9 +34,9 @@ class Image:
             setattr(self._container, field, value)
 
 
-def all_of(store: "Store") -> Sequence[Container]:
+def all_of(store: "Store") -> list[Container]:
     """All containers that are found from the root, or that Python holds, each of which is loaded."""
-    found: Sequence[Container] = [store._root]
+    found: list[Container] = [store._root]
     seen = {id(store._root)}
     waiting: Iterator[Any] = iter([*store._known.values()])
     for container in [*waiting]:
@@ -86,7 +88,7 @@ def rebuild(store: "Store", sizes: Sizes) -> None:
     exchange(store, folder, before[0])
 
 
-def write_all(store: "Store", heap: Any, kept: Sequence[Container], sizes: Sizes) -> None:
+def write_all(store: "Store", heap: Any, kept: list[Container], sizes: Sizes) -> None:
     """All that is kept is new to that heap. What Python alone holds is written when it is put into the store again."""
     for container in kept:
         forget(container)
@@ -97,7 +99,7 @@ def write_all(store: "Store", heap: Any, kept: Sequence[Container], sizes: Sizes
     store._write([store._root], True)
 
 
-def compare(store: "Store", folder: pathlib.Path, sizes: Sizes, wanted: Sequence[str]) -> None:
+def compare(store: "Store", folder: pathlib.Path, sizes: Sizes, wanted: list[str]) -> None:
     """Whether the new heap holds what is wanted."""
     with type(store).over(store._open_heap(folder, sizes)) as copy:
         if list(dumped(copy.root)) != wanted:

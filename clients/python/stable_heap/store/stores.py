@@ -1,5 +1,7 @@
 """The store: a heap in a folder, whose root is a dict; transactions, and the turns of threads."""
 
+from __future__ import annotations
+
 import contextlib
 import gc
 import os
@@ -8,13 +10,13 @@ import threading
 import time
 import weakref
 from types import TracebackType
-from typing import Any, Callable, ContextManager, Dict as Mapping, Iterator, List as Sequence, Optional, Tuple, Type, TypeVar, Union
+from typing import Any, Callable, ContextManager, Iterator, Optional, Type, TypeVar, Union
 
 from .. import LAUNCHER, LIBRARIES, Exhausted, Heap, HeapError, InUse, LogFull, Object, Refused, Transaction, VolatileFull
 from .commit import FORM, FORM_SHIFT, NEXT_FIELD, PINS_FIELD, ROOT_FIELD, STAGE_FIELD, Maker, Plan, done, form
 from .containers import NO_STORE, Container, Dict, List, Place, Set
 from .errors import Closed, Full, StoreError, TooLarge
-from .keeping import Keeper, Sizes, log_used, sizes_of
+from .keeping import MORE_LOG, Keeper, Sizes, log_used, sizes_of
 from .rebuilding import rebuild
 from .walking import HEAD_FIELD, TOP_FIELD, Reader
 from .words import DICT, LIST, SET, head, parts_of_head
@@ -47,8 +49,8 @@ class Level:
     __slots__ = ("undo", "taken")
 
     def __init__(self) -> None:
-        self.undo: Mapping[int, Undo] = {}
-        self.taken: Sequence[Container] = []
+        self.undo: dict[int, Undo] = {}
+        self.taken: list[Container] = []
 
     def restore(self) -> None:
         for undo in self.undo.values():
@@ -131,7 +133,7 @@ class Store:
         log_bytes: int = 16_777_216,
         durable: bool = True,
         wait: float = 5.0,
-        command: Sequence[str] = (str(LAUNCHER),),
+        command: list[str] = (str(LAUNCHER),),
     ):
         """Opens the store in that folder, or makes one, with a heap of these sizes. `here` says whether the heap is in this process, by the library: where
         it is left out that is so if the library is there. A heap that is in use is tried again for `wait` seconds. `command` is the launcher."""
@@ -159,8 +161,8 @@ class Store:
         # the turn, or what refuses it where the store is closed
         self._lock: Any = self._turn
         self._durable = durable
-        self._take_heap(heap, sizes)
-        self._levels: Sequence[Level] = []
+        self._take_heap(heap, sizes, self._folder / HEAP_FILE if self._folder else None)
+        self._levels: list[Level] = []
         self._known: "weakref.WeakValueDictionary[int, Container]" = weakref.WeakValueDictionary()
         self._commits = 0
         # whether a commit that was made in parts left some of them
@@ -216,11 +218,11 @@ class Store:
         """Writes all that is kept into a new heap of the same sizes, whose log has no more than that. What was kept before it is not read again."""
         self.grow()
 
-    def stats(self) -> Mapping[str, Any]:
+    def stats(self) -> dict[str, Any]:
         """Figures of the store: the sizes of its heap, the words in use when the last collection ended, the used bytes of the log, commits and collections
         since it was opened, and how many containers are known in memory."""
         with self._lock:
-            figures: Mapping[str, Any] = {"commits": self._commits, "collections": self._keeper.collections}
+            figures: dict[str, Any] = {"commits": self._commits, "collections": self._keeper.collections}
             figures.update(words_in_use=self._keeper.in_use, containers_in_memory=len(self._known))
             if self._folder is not None:
                 file = self._folder / HEAP_FILE
@@ -281,9 +283,9 @@ class Store:
             undo[id(container)] = Undo(container)
         return content
 
-    def _take(self, found: Sequence[Container]) -> None:
+    def _take(self, found: list[Container]) -> None:
         """These containers, and all that are in them, are of this store from now on."""
-        new: Sequence[Container] = []
+        new: list[Container] = []
         seen = set()
         waiting = list(found)
         while waiting:
@@ -329,16 +331,16 @@ class Store:
         self._root._serial, self._pins._serial, self._next_serial = ROOT_SERIAL, PINS_SERIAL, FIRST_SERIAL
         self._stale_pins = self._stage_left = False
 
-    def _take_heap(self, heap: Heap, sizes: Optional[Sizes]) -> None:
-        """The store is in that heap from now on."""
-        self._heap, self._keeper = heap, Keeper(heap, sizes)
+    def _take_heap(self, heap: Heap, sizes: Optional[Sizes], file: Optional[pathlib.Path] = None) -> None:
+        """The store is in that heap from now on, whose file may be read."""
+        self._heap, self._keeper = heap, Keeper(heap, sizes, file)
 
     def _open_again(self) -> None:
         """The heap in the store's folder is opened: what is noted of the one that was there before holds of it too."""
         assert self._folder is not None
         sizes = sizes_of(self._folder / HEAP_FILE)
         with self._guard():
-            self._take_heap(self._open_heap(self._folder, sizes), sizes)
+            self._take_heap(self._open_heap(self._folder, sizes), sizes, self._folder / HEAP_FILE)
 
     @staticmethod
     def _new_object(t: Transaction, field: int, kind: int, serial: int) -> Object:
@@ -347,7 +349,7 @@ class Store:
         t.root.link(field, made)
         return made
 
-    def _meet(self, kind: int, serial: int, place: Tuple[Any, ...]) -> Container:
+    def _meet(self, kind: int, serial: int, place: tuple[Any, ...]) -> Container:
         """The container of that number, to which a reference was read at that place."""
         known = self._known.get(serial)
         return self._known_as(kind, serial, Place(*place)) if known is None else known
@@ -366,7 +368,7 @@ class Store:
         """Whether what is in the heap of it is to be dropped."""
         return container is self._pins and self._stale_pins
 
-    def _pinned(self) -> Sequence[Container]:
+    def _pinned(self) -> list[Container]:
         return [it for it in (pin.container() for pin in self._pins._content) if it is not None]
 
     def _load(self, container: Container) -> Any:
@@ -405,7 +407,7 @@ class Store:
             level.restore()
             raise
 
-    def _write(self, dirty: Sequence[Container], durable: bool) -> None:
+    def _write(self, dirty: list[Container], durable: bool) -> None:
         for refusals in range(2):
             pins = Undo(self._pins)
             try:
@@ -426,6 +428,7 @@ class Store:
 
     def _make(self, plan: Plan, durable: bool) -> None:
         if not plan.is_empty:
+            self._keeper.expect(plan.log_bytes)
             self._stage_left = self._stage_left or plan.staged
             with self._guard():
                 Maker(plan, self._heap).make(durable)
@@ -465,7 +468,6 @@ class Store:
             self._keeper.collect()
 
 
-MORE_LOG = "Nothing truncates it yet: store.compact() writes what is kept into a new log, and store.grow(log_bytes=..) into a larger one"
 MORE_PAGES = "store.grow(pages=..) makes more room; or delete something"
 IN_PARTS = "Make it in several transactions"
 STORES: "weakref.WeakSet[Store]" = weakref.WeakSet()

@@ -3,7 +3,9 @@
 The heap has no names that last, so each container that is known has a place, where a reference to it is; it is found by following the references from the
 root object to there."""
 
-from typing import TYPE_CHECKING, Any, Dict as Mapping, List as Sequence, Optional, Tuple
+from __future__ import annotations
+
+from typing import TYPE_CHECKING, Any, Optional
 
 from .. import Object, Transaction
 from .containers import Container
@@ -28,7 +30,7 @@ def entry_fields(kind: int) -> int:
     return 2 if kind == DICT else 1
 
 
-def node_path(node: Node) -> Sequence[int]:
+def node_path(node: Node) -> list[int]:
     """The fields that lead from the top of its tree to the node."""
     path = []
     while node.up is not None:
@@ -37,7 +39,7 @@ def node_path(node: Node) -> Sequence[int]:
     return path[::-1]
 
 
-def tuple_path(number: int, height: int) -> Tuple[int, ...]:
+def tuple_path(number: int, height: int) -> tuple[int, ...]:
     """The fields that lead to an item of a tuple's object."""
     size = MOST_FIELDS**height
     path = [1 + number // size]
@@ -53,11 +55,11 @@ class Walk:
 
     def __init__(self, store: "Store", transaction: Transaction):
         self._store, self._transaction = store, transaction
-        self._passed: Mapping[int, Object] = {}
+        self._passed: dict[int, Object] = {}
 
     def to(self, container: Container) -> Object:
         """The container's object."""
-        chain: Sequence[Container] = []
+        chain: list[Container] = []
         here = container
         while id(here) not in self._passed and here._place is not None:
             chain.append(here)
@@ -72,7 +74,7 @@ class Walk:
         return found
 
     @staticmethod
-    def down(found: Object, path: Sequence[int]) -> Object:
+    def down(found: Object, path: list[int]) -> Object:
         for field in path:
             found = found.follow(field)
         return found
@@ -96,13 +98,13 @@ class Reader:
         head, top = self._transaction.get_all([(found, HEAD_FIELD), (found, TOP_FIELD)])
         _, height, serial = parts_of_head(head)
         assert serial == container._serial
-        levels: Sequence[Sequence[Node]] = [[] for _ in range(height + 1)]
+        levels: list[list[Node]] = [[] for _ in range(height + 1)]
         if top is not None:
             self._node(container, top, height, None, levels)
         container._levels = levels if levels[0] else []
         fill(container)
 
-    def _node(self, owner: Container, found: Object, height: int, up: Optional[Node], levels: Sequence[Sequence[Node]]) -> Node:
+    def _node(self, owner: Container, found: Object, height: int, up: Optional[Node], levels: list[list[Node]]) -> Node:
         node = Node([], len(found))
         node.up, node.stored = up, True
         levels[height].append(node)
@@ -132,9 +134,9 @@ class Reader:
         """How many fields are asked for together, each of which may take a handle."""
         return max(1, min(WIDTH // 2, (self._transaction.spare_handles - LEFT_FREE) // 2))
 
-    def _values(self, found: Object, fields: Sequence[Tuple[int, Any]]) -> Sequence[Any]:
+    def _values(self, found: Object, fields: list[tuple[int, Any]]) -> list[Any]:
         """What these fields hold, each with the place that it is for a container."""
-        values: Sequence[Any] = []
+        values: list[Any] = []
         for some in groups(len(fields), self._at_once()):
             asked = [fields[number] for number in some]
             held = self._transaction.get_all([(found, field) for field, _ in asked])
@@ -149,7 +151,7 @@ class Reader:
                     values.append(HOLE if it is None else value_of(it))
         return values
 
-    def _short_data(self, met: Sequence[Tuple[Object, Tuple[int, int, int]]]) -> Mapping[int, Any]:
+    def _short_data(self, met: list[tuple[Object, tuple[int, int, int]]]) -> dict[int, Any]:
         """The values of those objects that have all their data behind the head, which are asked for together."""
         of_data = [(it, kind, count) for it, (kind, height, count) in met if kind not in (*CONTAINERS, TUPLE) and height == 0]
         words = self._transaction.numbers([(it, 1 + number) for it, _, count in of_data for number in range(words_for(count))])
@@ -159,7 +161,7 @@ class Reader:
             at += words_for(count)
         return values
 
-    def _object(self, found: Object, parts: Tuple[int, int, int], place: Any) -> Any:
+    def _object(self, found: Object, parts: tuple[int, int, int], place: Any) -> Any:
         kind, height, count = parts
         if kind in CONTAINERS:
             return self._store._meet(kind, count, place)
@@ -167,33 +169,33 @@ class Reader:
             return tuple(self._items(found, height, count, place))
         return value_of_data(kind, joined_words(self._words(found, height, words_for(count), 1), count))
 
-    def _items(self, found: Object, height: int, count: int, place: Any) -> Sequence[Any]:
+    def _items(self, found: Object, height: int, count: int, place: Any) -> list[Any]:
         owner, leaf, entry, path = place
         places = [(owner, leaf, entry, (*path, *tuple_path(number, height))) for number in range(count)]
         if height == 0:
             return self._values(found, [(1 + number, it) for number, it in enumerate(places)])
         size = MOST_FIELDS**height
-        items: Sequence[Any] = []
+        items: list[Any] = []
         for some in groups(count, size):
             items += self._grouped(found.follow(1 + some.start // size), height, places[some.start : some.stop])
         return items
 
-    def _grouped(self, found: Object, height: int, places: Sequence[Any]) -> Sequence[Any]:
+    def _grouped(self, found: Object, height: int, places: list[Any]) -> list[Any]:
         """The items of a tree without a head."""
         if height == 1:
             return self._values(found, list(enumerate(places)))
         size = MOST_FIELDS ** (height - 1)
-        items: Sequence[Any] = []
+        items: list[Any] = []
         for some in groups(len(places), size):
             items += self._grouped(found.follow(some.start // size), height - 1, places[some.start : some.stop])
         return items
 
-    def _words(self, found: Object, height: int, count: int, first: int) -> Sequence[int]:
+    def _words(self, found: Object, height: int, count: int, first: int) -> list[int]:
         """So many numbers of raw data, from the first field on."""
         if height == 0:
             return self._transaction.numbers([(found, first + number) for number in range(count)])
         size = MOST_FIELDS**height
-        words: Sequence[int] = []
+        words: list[int] = []
         for part in groups(count, size):
             words += self._words(found.follow(first + part.start // size), height - 1, len(part), 0)
         return words
