@@ -14,10 +14,10 @@ passes() {
 
 {
     passes cpython.py "CPython's own tests of dicts and lists pass: of no store, each call a transaction, and all in one"
-    "$here/store/drawn.py" 12 >drawn.said 2>&1
+    "$here/store/drawn.py" 10 >drawn.said 2>&1
 } &
 passes promises.py "what the page of the store promises holds"
-"$here/store/kills.py" 6 >kills.said 2>kills.log || cat kills.log
+"$here/store/kills.py" 5 >kills.said 2>kills.log || cat kills.log
 wait
 cat cpython.py.said drawn.said promises.py.said kills.said
 

@@ -55,6 +55,8 @@ class MemoryHeap:
         self.used, self.log = self.top.words, 0
         self.sessions: Dict[int, Session] = {}
         self.events = self.commits = self.begun = self.collections = 0
+        # seals that had no room
+        self.exhausted = 0
         self.collecting = False
         # what the sealed transactions wrote that no force has put on the disk
         self.unforced: List[Tuple[Thing, int, object]] = []
@@ -184,6 +186,7 @@ class MemoryHeap:
                     waiting.append(value)
         need = sum(thing.words for thing in promoted)
         if need > self.space - self.used:
+            self.exhausted += 1
             raise Refusal("exhausted", need, self.space - self.used, 0)
         self.write_log(5 + sum(9 + 8 * thing.words for thing in promoted))
         for thing in promoted:

@@ -198,13 +198,13 @@ class Identity(Model):
     def test_deep(self):
         here = self.store.root
         with self.store.transaction():
-            for number in range(1_500):
+            for number in range(300):
                 here["n"] = {"number": number}
                 here = here["n"]
         here = self.open_again()
-        for number in range(1_500):
+        for number in range(300):
             here = here["n"]
-        self.assertEqual(here, {"number": 1_499})
+        self.assertEqual(here, {"number": 299})
 
     def test_two_stores(self):
         other = store_over(MemoryHeap())
@@ -230,6 +230,10 @@ class Transactions(Model):
         self.assertIs(root["a"]["b"], inner)
         self.assertEqual((list(root["a"]), made), (["b", "z"], [7]))
         self.stays()
+        # (what came to the store in it is of no store again)
+        other = store_over(MemoryHeap())
+        other.root["made"] = made
+        self.assertIs(other.root["made"], made)
 
     def test_nested_abort(self):
         root = self.store.root
@@ -378,6 +382,7 @@ class Room(Model):
             elif key in mirror:
                 del self.store.root[key], mirror[key]
         self.assertGreater(self.store.stats()["collections"], 10)
+        self.assertEqual(self.heap.exhausted, 0)
         self.assertEqual(self.store.root, mirror)
         self.stays()
         self.assertGreater(self.heap.log, 20 * 8 * self.heap.space)
@@ -387,8 +392,8 @@ class Large(Model):
     def test_more_than_a_transaction_of_the_heap_takes(self):
         self.store.root["a"] = [1]
         with self.store.transaction():
-            self.store.root["many"] = {f"key number {number}": [number, (self.store.root["a"], "text")] for number in range(4_000)}
-            self.store.root["text"] = "ä" * 150_000
+            self.store.root["many"] = {f"key number {number}": [number, (self.store.root["a"], "text")] for number in range(2_500)}
+            self.store.root["text"] = "ä" * 60_000
         self.assertIs(self.store.root["many"]["key number 7"][1][0], self.store.root["a"])
         self.stays()
 
@@ -400,6 +405,11 @@ class Large(Model):
             with self.assertRaises(Full):
                 self.store.root["many"] = [[number] for number in range(2_000)]
             self.assertEqual(self.store.root, {"a": 1})
+            self.store.collect()
+            self.assertLess(self.heap.used, 200)
+            with self.assertRaises(Full):
+                self.heap.refused = self.heap.events + part, "logfull", (1, 2, 3)
+                self.store.root["many"] = [[number] for number in range(2_000)]
             self.stays()
         self.store.root["b"] = 2
         self.store.collect()
@@ -450,10 +460,10 @@ class Program(unittest.TestCase):
 
     def test_collects_by_itself(self):
         """As long as the log takes it, which nothing truncates yet."""
-        store = self.open(pages=6)
-        for number in range(150):
+        store = self.open(pages=6, log_bytes=1_048_576)
+        for number in range(90):
             store.root[number % 7] = [number, "some text of more than a few bytes"]
-        self.assertGreater(store.stats()["collections"], 3)
+        self.assertGreater(store.stats()["collections"], 2)
         wanted = form(store.root)
         store.close()
         self.assertEqual(form(self.open().root), wanted)
