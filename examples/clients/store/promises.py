@@ -123,6 +123,36 @@ class Values(Model):
         self.stays()
 
 
+class Lists(Model):
+    def test_drawn_at_the_ends_of_leaves(self):
+        """One change of a long list at a time, at places where a leaf ends, and each read again from the heap."""
+        rng = random.Random(5)
+        mirror = list(range(150))
+        self.store.root["a"] = mirror
+        items = self.store.root["a"]
+        for number in range(500):
+            at = rng.choice([0, 31, 32, 33, 63, 64, 65, 96, len(mirror) // 2, len(mirror)]) % (len(mirror) or 1)
+            change = rng.choice(["pop", "pop", "insert", "insert", "set", "append", "delete", "slice", "remove"])
+            new = [number] * rng.randint(0, 40)
+            for it in (items, mirror):
+                if change == "append" or not it:
+                    it.append(number)
+                elif change == "insert":
+                    it.insert(at, number)
+                elif change == "pop":
+                    it.pop(at)
+                elif change == "set":
+                    it[at] = number
+                elif change == "delete":
+                    del it[at : at + 3]
+                elif change == "remove":
+                    it.remove(it[at])
+                else:
+                    it[at : at + 2] = new
+            items = self.open_again()["a"]
+            self.assertEqual(items, mirror, (number, change, at))
+
+
 class Identity(Model):
     def test_sharing_and_cycles(self):
         root = self.store.root
