@@ -170,6 +170,7 @@ inspects
 ends_without_memory
 printed tools/remade
 printed clients/python
+printed clients/store
 if command -v cc >/dev/null; then printed clients/c; fi
 if command -v cc >/dev/null && [ -n "$quick" -o -f "$top/clients/lib/build/libstable_heap.a" ]; then printed clients/lib; fi
 printed library/page
@@ -179,6 +180,8 @@ made basics/list.dot "$top/tools/graph_to_dot" <"$examples/basics/list.out"
 quotes README.md basics/first.out --notes
 quotes README.md crashes/every_stop.out
 quotes README.md ../clients/python/first.py --from "def put() -> None:"
+quotes docs/STORE.md ../clients/python/address_book.py --from "def add(store: Store, name: str, phone: str) -> None:"
+quotes docs/STORE.md clients/store.out --from "Ada: 1815, 1852"
 quotes docs/LIBRARY.md ../crates/thread_tests/src/bank.rt
 quotes examples/README.md basics/stored.out
 quotes examples/README.md basics/in_use.out

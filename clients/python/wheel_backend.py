@@ -14,9 +14,10 @@ METADATA = "Metadata-Version: 2.1\nName: stable_heap\nVersion: 1\nRequires-Pytho
 def build_wheel(wheel_directory, config_settings=None, metadata_directory=None):
     tag = f"py3-none-linux_{platform.machine()}" if LIBRARY.exists() else "py3-none-any"
     wheel = f"Wheel-Version: 1.0\nGenerator: stable_heap\nRoot-Is-Purelib: {str(not LIBRARY.exists()).lower()}\nTag: {tag}\n"
-    files = {"stable_heap.py": (HERE / "stable_heap.py").read_bytes(), f"{INFO}/METADATA": METADATA.encode(), f"{INFO}/WHEEL": wheel.encode()}
+    modules = {str(path.relative_to(HERE)): path.read_bytes() for path in sorted(HERE.glob("stable_heap/**/*.py"))}
+    files = {**modules, f"{INFO}/METADATA": METADATA.encode(), f"{INFO}/WHEEL": wheel.encode()}
     if LIBRARY.exists():
-        files["libstable_heap.so"] = LIBRARY.read_bytes()
+        files["stable_heap/libstable_heap.so"] = LIBRARY.read_bytes()
     record = f"{INFO}/RECORD,,\n"
     name = f"stable_heap-1-{tag}.whl"
     with zipfile.ZipFile(pathlib.Path(wheel_directory) / name, "w", zipfile.ZIP_DEFLATED) as made:

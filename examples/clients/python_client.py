@@ -1,5 +1,5 @@
 #!/usr/bin/env python3
-"""Tries clients/python/stable_heap.py, with writes that are made at once and with writes that are kept. Where the variable HEAP is set, it is the
+"""Tries clients/python/stable_heap, with writes that are made at once and with writes that are kept. Where the variable HEAP is set, it is the
 launcher with its options; where it is "here", the heap is in this process.
 
     HEAP="./heap --quick" examples/clients/python_client.py
@@ -69,6 +69,31 @@ class Client(unittest.TestCase):
             self.assertEqual((found.get(0), found.get(2), len(found)), (2**62 - 1, None, 3))
             self.assertTrue(found.same(found.get(1)))
             self.assertFalse(found.same(t.root))
+
+    def test_reads_that_are_asked_together(self):
+        with self.heap.transaction() as t:
+            made = t.new(40)
+            for field in range(0, 40, 2):
+                made.put(field, field)
+            made.link(39, t.root)
+            t.root.link(1, made)
+        with self.heap.transaction() as t:
+            found = t.root.follow(1)
+            values = t.get_all([(found, field) for field in range(40)] * 5)
+            self.assertEqual(values[40:79], [field if field % 2 == 0 else None for field in range(39)])
+            self.assertTrue(values[199].same(t.root))
+            self.assertTrue(found.follow(39).follow(1).same(found))
+            self.assertEqual(t.numbers([(found, field) for field in range(38, -1, -2)] * 15), list(range(38, -1, -2)) * 15)
+            self.assertEqual(t.numbers([]), [])
+            self.assertRaises(sh.Protocol, t.numbers, [(found, 0), (found, 1)])
+            values = None
+            self.assertEqual(t.spare_handles, 62)
+
+    def test_a_refused_read_among_many(self):
+        with self.assertRaises(sh.BadField), self.heap.transaction() as t:
+            t.root.put(0, 1)
+            t.get_all([(t.root, 0), (t.root, 4), (t.root, 1)])
+        self.assertEqual(self.root_fields(), [None] * 4)
 
     def test_clear(self):
         self.put(7)
@@ -227,6 +252,7 @@ class Client(unittest.TestCase):
             self.assertEqual(len(t.root.get(0)), 3)
             t.root.clear(0)
         self.heap.collect()
+        self.assertEqual(self.heap.go_on()[0], "idle")
         self.assertFalse(self.heap.scan())
         with self.heap.transaction() as t:
             self.assertEqual((t.root.get(0), t.root.get(1)), (None, 7))

@@ -64,12 +64,12 @@ HANDLES = 64
 SESSIONS = 32
 # so many writes of a transaction are kept at most, and so many lines are sent before the first answer is read, which fit in the pipe together
 MOST_KEPT = 200
-LAUNCHER = pathlib.Path(__file__).resolve().parents[2] / "heap"
+LAUNCHER = pathlib.Path(__file__).resolve().parents[3] / "heap"
 # where the library is looked for, in this order: what the variable STABLE_HEAP_LIBRARY names, a file beside this one, what `make -C clients/lib` made
 LIBRARIES = [
     os.environ.get("STABLE_HEAP_LIBRARY", ""),
     pathlib.Path(__file__).resolve().parent / "libstable_heap.so",
-    pathlib.Path(__file__).resolve().parents[1] / "lib/build/libstable_heap.so",
+    pathlib.Path(__file__).resolve().parents[2] / "lib/build/libstable_heap.so",
 ]
 
 STATUSES = {1: "out of memory", 6: "the disk failed", 7: "not a heap", 8: "damaged", 10: "in use", 70: "the program can't be built"}
@@ -251,6 +251,11 @@ class Object:
         """The field is to hold the number, from 0 to 2^62 - 1."""
         self._transaction._do("put", self._named(), field, number)
 
+    def follow(self, field: int) -> "Object":
+        """What the field refers to. It does not wait for the answer where writes are kept, so the field has to be known to refer to an object: where
+        it doesn't, a later call by the object that is returned is a BadHandle, or is made on another one."""
+        return self._transaction._follow(self._named(), field)
+
     def clear(self, field: int) -> None:
         """The field is to hold nothing."""
         self._transaction._do("clear", self._named(), field)
@@ -339,9 +344,56 @@ class Transaction:
             self._root = self._named("root")
         return self._root
 
+    @property
+    def spare_handles(self) -> int:
+        """How many objects more it can hold."""
+        return len(self._free)
+
     def new(self, fields: int) -> Object:
         """A new object of that many empty fields. It stays if it can be reached from the root when the transaction ends."""
         return self._named("new", fields)
+
+    def get_all(self, places: Sequence[Tuple[Object, int]]) -> List[Value]:
+        """What these fields of objects hold. They are asked for together, which takes a fraction of the time. There have to be as many handles free as there
+        are fields of one question, at most 64, so it asks again and again where there are fewer."""
+        self._send()
+        values: List[Value] = []
+        while len(values) < len(places):
+            values += self._get_some(places[len(values) :][: max(1, len(self._free))])
+        return values
+
+    def numbers(self, places: Sequence[Tuple[Object, int]]) -> List[int]:
+        """What these fields of objects hold, each of which has to be known to hold a number. They are asked for together."""
+        self._send()
+        spare = self._take_handle()
+        try:
+            replies: List[Reply] = []
+            while len(replies) < len(places):
+                replies += self._read([(thing._named(), field, spare) for thing, field in places[len(replies) :][:MOST_KEPT]])
+        finally:
+            self._free.append(spare)
+        if any(word != "int" for word, _ in replies):
+            raise Protocol("a field does not hold a number")
+        return [numbers[0] for _, numbers in replies]
+
+    def _get_some(self, places: Sequence[Tuple[Object, int]]) -> List[Value]:
+        """So many as there are handles for."""
+        spares = [self._take_handle() for _ in places]
+        values: List[Value] = []
+        try:
+            for (word, numbers), spare in zip(self._read([(it._named(), field, h) for (it, field), h in zip(places, spares)]), spares):
+                if word == "ref":
+                    values.append(Object(self, spare))
+                else:
+                    values.append(numbers[0] if numbers else None)
+                    self._free.append(spare)
+        finally:
+            # (after a refusal the transaction can only end)
+            self._free += spares[len(values) :]
+        return values
+
+    def _read(self, questions: Sequence[Tuple[int, int, int]]) -> List[Reply]:
+        return self._ask_all([self._spelled(self._active(), "get", *question) for question in questions])
 
     def _commit(self) -> None:
         """Seals, and forces if that was asked for. A refusal leaves the transaction active, and it is aborted then."""
@@ -366,6 +418,11 @@ class Transaction:
         """An object that a fresh handle holds after that call."""
         made = Object(self, self._take_handle())
         self._do(what, made._named(), *numbers)
+        return made
+
+    def _follow(self, handle: int, field: int) -> Object:
+        made = Object(self, self._take_handle())
+        self._do("get", handle, field, made._named())
         return made
 
     def _get(self, handle: int, field: int) -> Value:
@@ -408,11 +465,11 @@ class Transaction:
         event = session, what, numbers
         return event, self._heap._way.spell(event)
 
-    def _ask_all(self, calls: Sequence[Spelled]) -> None:
-        """Makes the calls in their order. Behind one that is refused it is not said which are made: the transaction is to be aborted."""
+    def _ask_all(self, calls: Sequence[Spelled]) -> List[Reply]:
+        """Makes the calls in their order, and gives their replies. Behind one that is refused it is not said which are made: the transaction is to be
+        aborted."""
         try:
-            for (event, _), reply in zip(calls, self._heap._way.exchange_all(calls)):
-                judged(event, reply)
+            return [judged(event, reply) for (event, _), reply in zip(calls, self._heap._way.exchange_all(calls))]
         except Refused as refusal:
             self._refusal = self._refusal or refusal
             raise
@@ -699,7 +756,12 @@ class Heap:
 
     def scan(self) -> bool:
         """Goes on with the collection by one page: whether there is more to do."""
-        return self._ask("scan")[0] == "scanned"
+        return self.go_on()[0] == "scanned"
+
+    def go_on(self) -> Reply:
+        """Goes on with the collection by one page, and gives the heap's word for how it stands: `scanned`, `collected` with the words that are in use, or
+        `idle` where none is under way."""
+        return self._ask("scan")
 
     def collect(self) -> None:
         """Ends the collection that is under way, or makes a whole one: words of objects that nothing reached any more when it began are free."""

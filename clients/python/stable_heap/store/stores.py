@@ -1,0 +1,498 @@
+"""The store: a heap in a folder, whose root is a dict; transactions, and the turns of threads."""
+
+from __future__ import annotations
+
+import contextlib
+import gc
+import os
+import pathlib
+import threading
+import time
+import weakref
+from types import TracebackType
+from typing import Any, Callable, ContextManager, Iterator, Optional, Type, TypeVar, Union
+
+from .. import LAUNCHER, LIBRARIES, Exhausted, Heap, HeapError, InUse, LogFull, Object, Refused, Transaction, VolatileFull
+from .commit import FORM, FORM_SHIFT, NEXT_FIELD, PINS_FIELD, ROOT_FIELD, STAGE_FIELD, Maker, Plan, done, form
+from .containers import NO_STORE, Container, Dict, List, Place, Set
+from .errors import Closed, Full, StoreError, TooLarge
+from .keeping import MORE_LOG, Keeper, Sizes, log_used, sizes_of
+from .rebuilding import rebuild
+from .walking import HEAD_FIELD, TOP_FIELD, Reader
+from .words import DICT, LIST, SET, head, parts_of_head
+
+__all__ = ["Store"]
+
+CLASSES = {DICT: Dict, LIST: List, SET: Set}
+HEAP_FILE = "heap.img"
+# the serial numbers of the root dict, of the pins, and of the first other container
+ROOT_SERIAL, PINS_SERIAL, FIRST_SERIAL = 1, 2, 3
+Result = TypeVar("Result")
+
+
+class Undo:
+    """What a container was before a level changed it."""
+
+    __slots__ = ("container", "content", "edits")
+
+    def __init__(self, container: Container):
+        self.container, self.content, self.edits = container, container._snapshot(), container._edits.copy()
+
+    def restore(self) -> None:
+        self.container._restore(self.content)
+        self.container._edits = self.edits
+
+
+class Level:
+    """A transaction, or one inside of another: what it changed, and which containers came to the store in it."""
+
+    __slots__ = ("undo", "taken")
+
+    def __init__(self) -> None:
+        self.undo: dict[int, Undo] = {}
+        self.taken: list[Container] = []
+
+    def restore(self) -> None:
+        for undo in self.undo.values():
+            undo.restore()
+        for container in self.taken:
+            container._store = NO_STORE
+
+    def join(self, inner: "Level") -> None:
+        """The inner one has ended: what it did is this one's."""
+        for number, undo in inner.undo.items():
+            self.undo.setdefault(number, undo)
+        self.taken += inner.taken
+
+
+class Closing:
+    """Stands for the lock of a store that is closed."""
+
+    def __init__(self, why: str):
+        self._why = why
+
+    def __enter__(self) -> None:
+        raise Closed(self._why)
+
+    def __exit__(self, *error: object) -> None:
+        pass
+
+
+class Within:
+    """A transaction, for `with`."""
+
+    def __init__(self, store: "Store", durable: Optional[bool]):
+        self._store, self._durable = store, durable
+
+    def __enter__(self) -> "Store":
+        self._store._begin()
+        return self._store
+
+    def __exit__(self, kind: Optional[Type[BaseException]], error: Optional[BaseException], trace: Optional[TracebackType]) -> None:
+        self._store._end(kind is not None, self._durable)
+
+
+class Changing:
+    """A change of one container: a transaction of its own, where none is active."""
+
+    __slots__ = ("_store", "_container", "_own")
+
+    def __init__(self, store: "Store", container: Container):
+        self._store, self._container = store, container
+
+    def __enter__(self) -> Any:
+        store = self._store
+        store._take_turn()
+        self._own = not store._levels
+        if self._own:
+            store._levels.append(Level())
+        try:
+            return store._changing(self._container)
+        except BaseException:
+            self._leave(True)
+            raise
+
+    def __exit__(self, kind: Optional[Type[BaseException]], error: Optional[BaseException], trace: Optional[TracebackType]) -> None:
+        self._leave(kind is not None)
+
+    def _leave(self, failed: bool) -> None:
+        if self._own:
+            self._store._end(failed, None)
+        else:
+            self._store._turn.release()
+
+
+class Store:
+    """A store: what its root refers to is kept on the disk."""
+
+    def __init__(
+        self,
+        folder: Union[str, pathlib.Path],
+        here: Optional[bool] = None,
+        pages: int = 4_096,
+        log_bytes: int = 16_777_216,
+        durable: bool = True,
+        wait: float = 5.0,
+        command: list[str] = (str(LAUNCHER),),
+    ):
+        """Opens the store in that folder, or makes one, with a heap of these sizes. `here` says whether the heap is in this process, by the library: where
+        it is left out that is so if the library is there. A heap that is in use is tried again for `wait` seconds. `command` is the launcher."""
+        self._folder: Optional[pathlib.Path] = pathlib.Path(folder)
+        self._here = has_library() if here is None else here
+        self._command = command
+        heap = opened(lambda: self._open_heap(pathlib.Path(folder), Sizes(pages, log_bytes)), wait)
+        self._begin_with(heap, durable, sizes_of(self._folder / HEAP_FILE))
+
+    @classmethod
+    def over(cls, heap: Heap, durable: bool = True, pages: Optional[int] = None) -> "Store":
+        """A store in a heap that is open, which is the store's from then on. Its transactions are to keep their writes. Where it is told the pages of a space
+        it makes collections before room runs out."""
+        store = cls.__new__(cls)
+        store._folder = None
+        store._begin_with(heap, durable, Sizes(pages, 0) if pages else None)
+        return store
+
+    def _open_heap(self, folder: pathlib.Path, sizes: Sizes) -> Heap:
+        return Heap.open(folder, sizes.pages, sizes.log_bytes, self._command, here=self._here, buffered=True)
+
+    def _begin_with(self, heap: Heap, durable: bool, sizes: Optional[Sizes]) -> None:
+        # whoever has the turn is alone with the store
+        self._turn = threading.RLock()
+        # the turn, or what refuses it where the store is closed
+        self._lock: Any = self._turn
+        self._durable = durable
+        self._take_heap(heap, sizes, self._folder / HEAP_FILE if self._folder else None)
+        self._levels: list[Level] = []
+        self._known: "weakref.WeakValueDictionary[int, Container]" = weakref.WeakValueDictionary()
+        self._commits = 0
+        # whether a commit that was made in parts left some of them
+        self._stage_left = False
+        try:
+            self._read_root()
+        except BaseException:
+            heap.close()
+            raise
+        STORES.add(self)
+
+    # ---- what a user calls
+
+    @property
+    def root(self) -> Dict:
+        """The dict from which all else is found."""
+        with self._lock:
+            return self._root
+
+    def transaction(self, durable: Optional[bool] = None) -> Within:
+        """A transaction, for `with`. What it did is on the disk when it is left; where an exception leaves it nothing of it was done. One inside of another
+        that fails takes back its own part alone. Where it is not to be durable, it is on the disk after the next one that is, or after `force`."""
+        return Within(self, durable)
+
+    def run(self, work: Callable[[], Result]) -> Result:
+        """Does the work in a transaction, and gives its result. It may be done more than once."""
+        with self.transaction():
+            return work()
+
+    def force(self) -> None:
+        """Puts on the disk what transactions did that were not to be durable."""
+        with self._lock, self._guard():
+            self._heap.force()
+
+    def collect(self) -> None:
+        """Frees the room of what nothing refers to any more. A store does so by itself."""
+        with self._lock:
+            if self._levels:
+                raise StoreError("a transaction is active")
+            self._make_room()
+
+    def grow(self, pages: Optional[int] = None, log_bytes: Optional[int] = None) -> None:
+        """Writes all that is kept into a new heap of these sizes, which takes the old one's place in one step. What is left out stays as it is."""
+        with self._lock:
+            if self._levels:
+                raise StoreError("a transaction is active")
+            if self._folder is None:
+                raise StoreError("this store was made over an open heap, which has no folder")
+            sizes = sizes_of(self._folder / HEAP_FILE)
+            rebuild(self, Sizes(pages or sizes.pages, log_bytes or sizes.log_bytes))
+
+    def compact(self) -> None:
+        """Writes all that is kept into a new heap of the same sizes, whose log has no more than that. What was kept before it is not read again."""
+        self.grow()
+
+    def stats(self) -> dict[str, Any]:
+        """Figures of the store: the sizes of its heap, the words in use when the last collection ended, the used bytes of the log, commits and collections
+        since it was opened, and how many containers are known in memory."""
+        with self._lock:
+            figures: dict[str, Any] = {"commits": self._commits, "collections": self._keeper.collections}
+            figures.update(words_in_use=self._keeper.in_use, containers_in_memory=len(self._known))
+            if self._folder is not None:
+                file = self._folder / HEAP_FILE
+                sizes = sizes_of(file)
+                figures.update(pages=sizes.pages, words=sizes.words, log_bytes=sizes.log_bytes, log_bytes_used=log_used(file))
+            return figures
+
+    def close(self) -> None:
+        """Closes the store. What is kept in it can't be used any more before it is opened again."""
+        if self._is_closed():
+            return
+        with self._lock:
+            if self._levels:
+                raise StoreError("a transaction is active")
+            self._stop("the store was closed")
+            self._heap.close()
+
+    def __enter__(self) -> "Store":
+        return self
+
+    def __exit__(self, kind: Optional[Type[BaseException]], error: Optional[BaseException], trace: Optional[TracebackType]) -> None:
+        self.close()
+
+    # ---- transactions in memory
+
+    def _take_turn(self) -> None:
+        self._lock.__enter__()
+        if self._is_closed():
+            # (it was closed while this thread waited)
+            self._turn.release()
+            self._lock.__enter__()
+
+    def _begin(self) -> None:
+        self._take_turn()
+        self._levels.append(Level())
+
+    def _end(self, failed: bool, durable: Optional[bool]) -> None:
+        """Ends the innermost transaction; the outermost one is committed."""
+        try:
+            level = self._levels.pop()
+            if failed:
+                level.restore()
+            elif self._levels:
+                self._levels[-1].join(level)
+            else:
+                self._commit(level, self._durable if durable is None else durable)
+        finally:
+            self._turn.release()
+
+    def _change(self, container: Container) -> ContextManager[Any]:
+        return Changing(self, container)  # type: ignore[return-value]
+
+    def _changing(self, container: Container) -> Any:
+        """The container's content, which is about to change."""
+        content = container._now()
+        undo = self._levels[-1].undo
+        if id(container) not in undo:
+            undo[id(container)] = Undo(container)
+        return content
+
+    def _take(self, found: list[Container]) -> None:
+        """These containers, and all that are in them, are of this store from now on."""
+        new: list[Container] = []
+        seen = set()
+        waiting = list(found)
+        while waiting:
+            container = waiting.pop()
+            if container._store is not self and id(container) not in seen:
+                if container._store is not NO_STORE:
+                    raise ValueError("a container of another store can't be put into this one: plain() makes a copy of it")
+                seen.add(id(container))
+                new.append(container)
+                waiting += container._inner()
+        for container in new:
+            container._store = self
+        self._levels[-1].taken += new
+
+    # ---- the heap
+
+    def _read_root(self) -> None:
+        """Finds the store in the heap, or makes one in an empty heap."""
+        with self._guard(), self._heap.transaction(durable=False) as t:
+            fields = t.get_all([(t.root, field) for field in (ROOT_FIELD, NEXT_FIELD, PINS_FIELD, STAGE_FIELD)])
+            root, number, pins, stage = fields
+            is_store = isinstance(root, Object) and isinstance(pins, Object) and isinstance(number, int) and number >> FORM_SHIFT == FORM
+            if is_store:
+                assert isinstance(root, Object) and isinstance(pins, Object) and isinstance(number, int)
+                serials = [parts_of_head(it)[2] for it in t.numbers([(root, HEAD_FIELD), (pins, HEAD_FIELD)])]
+                self._next_serial = number & (1 << FORM_SHIFT) - 1
+                self._stale_pins = pins.get(TOP_FIELD) is not None
+                self._stage_left = stage is not None
+        if not is_store and fields != [None] * 4:
+            raise StoreError("the heap holds something else than a store")
+        self._root: Dict = self._known_as(DICT, serials[0] if is_store else ROOT_SERIAL, None)
+        self._pins: Any = self._known_as(SET, serials[1] if is_store else PINS_SERIAL, None)
+        self._pins._content = {}
+        if not is_store:
+            self._make_roots()
+
+    def _make_roots(self) -> None:
+        """Makes an empty store in an empty heap."""
+        with self._guard(), self._heap.transaction() as t:
+            self._new_object(t, ROOT_FIELD, DICT, ROOT_SERIAL)
+            self._new_object(t, PINS_FIELD, SET, PINS_SERIAL)
+            t.root.put(NEXT_FIELD, form(FIRST_SERIAL))
+        self._root._serial, self._pins._serial, self._next_serial = ROOT_SERIAL, PINS_SERIAL, FIRST_SERIAL
+        self._stale_pins = self._stage_left = False
+
+    def _take_heap(self, heap: Heap, sizes: Optional[Sizes], file: Optional[pathlib.Path] = None) -> None:
+        """The store is in that heap from now on, whose file may be read."""
+        self._heap, self._keeper = heap, Keeper(heap, sizes, file)
+
+    def _open_again(self) -> None:
+        """The heap in the store's folder is opened: what is noted of the one that was there before holds of it too."""
+        assert self._folder is not None
+        sizes = sizes_of(self._folder / HEAP_FILE)
+        with self._guard():
+            self._take_heap(self._open_heap(self._folder, sizes), sizes, self._folder / HEAP_FILE)
+
+    @staticmethod
+    def _new_object(t: Transaction, field: int, kind: int, serial: int) -> Object:
+        made = t.new(2)
+        made.put(HEAD_FIELD, head(kind, 0, serial))
+        t.root.link(field, made)
+        return made
+
+    def _meet(self, kind: int, serial: int, place: tuple[Any, ...]) -> Container:
+        """The container of that number, to which a reference was read at that place."""
+        known = self._known.get(serial)
+        return self._known_as(kind, serial, Place(*place)) if known is None else known
+
+    def _known_as(self, kind: int, serial: int, place: Optional[Place]) -> Any:
+        made = CLASSES[kind].__new__(CLASSES[kind])
+        made._store, made._serial, made._place, made._content = self, serial, place, None
+        self._known[serial] = made
+        return made
+
+    def _field_of(self, container: Container) -> int:
+        """Which field of the root object refers to the container."""
+        return PINS_FIELD if container is self._pins else ROOT_FIELD
+
+    def _is_stale(self, container: Container) -> bool:
+        """Whether what is in the heap of it is to be dropped."""
+        return container is self._pins and self._stale_pins
+
+    def _pinned(self) -> list[Container]:
+        return [it for it in (pin.container() for pin in self._pins._content) if it is not None]
+
+    def _load(self, container: Container) -> Any:
+        """Reads what is in the container."""
+        with self._guard(), self._heap.transaction(durable=False) as t:
+            Reader(self, t).load(container)
+        return container._content
+
+    @contextlib.contextmanager
+    def _guard(self) -> Iterator[None]:
+        """Where the heap fails, or a call of it is cut short, nobody knows what it did: the store is closed then."""
+        try:
+            yield
+        except LogFull as refusal:
+            raise Full(f"the log has no room: {refusal.numbers[0]:,} bytes are used. {MORE_LOG}") from refusal
+        except (Refused, StoreError):
+            raise
+        except BaseException as error:
+            self._stop(f"the store is closed, since its heap failed or a call was cut short: {error!r}. Open it again")
+            if isinstance(error, HeapError):
+                raise Closed(f"the heap failed: {error}. Open the store again") from error
+            raise
+
+    def _stop(self, why: str) -> None:
+        self._lock = Closing(why)
+
+    def _is_closed(self) -> bool:
+        return self._lock is not self._turn
+
+    def _commit(self, level: Level, durable: bool) -> None:
+        """Writes what the level changed. Where that fails all is as it was before it."""
+        try:
+            with self._lock:
+                self._write([undo.container for undo in level.undo.values()], durable)
+        except BaseException:
+            level.restore()
+            raise
+
+    def _write(self, dirty: list[Container], durable: bool) -> None:
+        for refusals in range(2):
+            pins = Undo(self._pins)
+            try:
+                self._make(Plan(self, dirty), durable)
+                return
+            except Exhausted as refusal:
+                pins.restore()
+                needed, free, _ = refusal.numbers
+                if refusals:
+                    raise Full(f"{needed:,} words are needed, and {free:,} are free. {MORE_PAGES}") from refusal
+                self._make_room()
+            except VolatileFull as refusal:
+                pins.restore()
+                raise TooLarge(f"the transaction makes too many objects at once. {IN_PARTS}") from refusal
+            except BaseException:
+                pins.restore()
+                raise
+
+    def _make(self, plan: Plan, durable: bool) -> None:
+        if not plan.is_empty:
+            self._keeper.expect(plan.log_bytes)
+            self._stage_left = self._stage_left or plan.staged
+            with self._guard():
+                Maker(plan, self._heap).make(durable)
+            self._stage_left = False
+            self._stale_pins = False
+        done(plan)
+        self._next_serial += len(plan.new)
+        for container in plan.new.values():
+            assert container._serial is not None
+            self._known[container._serial] = container
+        if not plan.is_empty:
+            self._commits += 1
+            self._tidy(plan)
+
+    def _tidy(self, plan: Plan) -> None:
+        """What is to be done for the heap after a commit. The commit stands, whatever becomes of this: where it fails the store is closed."""
+        try:
+            with self._guard():
+                self._keeper.wrote(plan.words, plan.events)
+        except (Closed, Refused):
+            pass
+
+    def _make_room(self) -> None:
+        """Makes a collection, of all that nothing refers to any more."""
+        with self._guard():
+            if self._stage_left:
+                with self._heap.transaction(durable=False) as t:
+                    t.root.clear(STAGE_FIELD)
+                self._stage_left = False
+            # (pins go with the containers that Python has let go)
+            gc.collect()
+            pins = Undo(self._pins)
+            try:
+                self._make(Plan(self, []), False)
+            except Exhausted:
+                pins.restore()
+            self._keeper.collect()
+
+
+MORE_PAGES = "store.grow(pages=..) makes more room; or delete something"
+IN_PARTS = "Make it in several transactions"
+STORES: "weakref.WeakSet[Store]" = weakref.WeakSet()
+
+
+def leave_to_parent() -> None:
+    """In a forked child: the store is its parent's."""
+    for store in list(STORES):
+        store._stop("this process was forked from the one that has the store")
+
+
+os.register_at_fork(after_in_child=leave_to_parent)
+
+
+def has_library() -> bool:
+    return any(path and os.path.exists(path) for path in LIBRARIES)
+
+
+def opened(open_heap: Callable[[], Heap], wait: float) -> Heap:
+    """The heap, which may be in use for a moment more after the process that had it was killed."""
+    end = time.monotonic() + wait
+    while True:
+        try:
+            return open_heap()
+        except InUse:
+            if time.monotonic() >= end:
+                raise
+            time.sleep(0.02)
