@@ -12,114 +12,24 @@ import weakref
 from types import TracebackType
 from typing import Any, Callable, ContextManager, Iterator, Optional, Type, TypeVar, Union
 
-from .. import LAUNCHER, LIBRARIES, Exhausted, Heap, HeapError, InUse, LogFull, Object, Refused, Transaction, VolatileFull
-from .commit import FORM, FORM_SHIFT, NEXT_FIELD, PINS_FIELD, ROOT_FIELD, STAGE_FIELD, Maker, Plan, done, form
+from .. import LAUNCHER, LIBRARIES, Exhausted, Heap, HeapError, InUse, LogFull, Refused, VolatileFull
 from .containers import NO_STORE, Container, Dict, List, Place, Set
 from .errors import Closed, Full, StoreError, TooLarge
 from .keeping import MORE_LOG, Keeper, Sizes, log_used, sizes_of
+from .levels import BeforeImage, Level
+from .making import Maker
+from .planning import Plan
 from .rebuilding import rebuild
-from .walking import HEAD_FIELD, TOP_FIELD, Reader
-from .words import DICT, LIST, SET, head, parts_of_head
+from .root import PINS_FIELD, ROOT_FIELD, STAGING_FIELD, Root, make_root, read_root
+from .scopes import ClosedLock, TransactionScope, UpdateScope
+from .walking import Reader
+from .words import DICT, LIST, SET
 
 __all__ = ["Store"]
 
 CLASSES = {DICT: Dict, LIST: List, SET: Set}
 HEAP_FILE = "heap.img"
-# the serial numbers of the root dict, of the pins, and of the first other container
-ROOT_SERIAL, PINS_SERIAL, FIRST_SERIAL = 1, 2, 3
 Result = TypeVar("Result")
-
-
-class Undo:
-    """What a container was before a level changed it."""
-
-    __slots__ = ("container", "content", "edits")
-
-    def __init__(self, container: Container):
-        self.container, self.content, self.edits = container, container._snapshot(), container._edits.copy()
-
-    def restore(self) -> None:
-        self.container._restore(self.content)
-        self.container._edits = self.edits
-
-
-class Level:
-    """A transaction, or one inside of another: what it changed, and which containers came to the store in it."""
-
-    __slots__ = ("undo", "taken")
-
-    def __init__(self) -> None:
-        self.undo: dict[int, Undo] = {}
-        self.taken: list[Container] = []
-
-    def restore(self) -> None:
-        for undo in self.undo.values():
-            undo.restore()
-        for container in self.taken:
-            container._store = NO_STORE
-
-    def join(self, inner: "Level") -> None:
-        """The inner one has ended: what it did is this one's."""
-        for number, undo in inner.undo.items():
-            self.undo.setdefault(number, undo)
-        self.taken += inner.taken
-
-
-class Closing:
-    """Stands for the lock of a store that is closed."""
-
-    def __init__(self, why: str):
-        self._why = why
-
-    def __enter__(self) -> None:
-        raise Closed(self._why)
-
-    def __exit__(self, *error: object) -> None:
-        pass
-
-
-class Within:
-    """A transaction, for `with`."""
-
-    def __init__(self, store: "Store", durable: Optional[bool]):
-        self._store, self._durable = store, durable
-
-    def __enter__(self) -> "Store":
-        self._store._begin()
-        return self._store
-
-    def __exit__(self, kind: Optional[Type[BaseException]], error: Optional[BaseException], trace: Optional[TracebackType]) -> None:
-        self._store._end(kind is not None, self._durable)
-
-
-class Changing:
-    """A change of one container: a transaction of its own, where none is active."""
-
-    __slots__ = ("_store", "_container", "_own")
-
-    def __init__(self, store: "Store", container: Container):
-        self._store, self._container = store, container
-
-    def __enter__(self) -> Any:
-        store = self._store
-        store._take_turn()
-        self._own = not store._levels
-        if self._own:
-            store._levels.append(Level())
-        try:
-            return store._changing(self._container)
-        except BaseException:
-            self._leave(True)
-            raise
-
-    def __exit__(self, kind: Optional[Type[BaseException]], error: Optional[BaseException], trace: Optional[TracebackType]) -> None:
-        self._leave(kind is not None)
-
-    def _leave(self, failed: bool) -> None:
-        if self._own:
-            self._store._end(failed, None)
-        else:
-            self._store._turn.release()
 
 
 class Store:
@@ -166,7 +76,7 @@ class Store:
         self._known: "weakref.WeakValueDictionary[int, Container]" = weakref.WeakValueDictionary()
         self._commits = 0
         # whether a commit that was made in parts left some of them
-        self._stage_left = False
+        self._staging_left = False
         try:
             self._read_root()
         except BaseException:
@@ -182,10 +92,10 @@ class Store:
         with self._lock:
             return self._root
 
-    def transaction(self, durable: Optional[bool] = None) -> Within:
+    def transaction(self, durable: Optional[bool] = None) -> TransactionScope:
         """A transaction, for `with`. What it did is on the disk when it is left; where an exception leaves it nothing of it was done. One inside of another
         that fails takes back its own part alone. Where it is not to be durable, it is on the disk after the next one that is, or after `force`."""
-        return Within(self, durable)
+        return TransactionScope(self, durable)
 
     def run(self, work: Callable[[], Result]) -> Result:
         """Does the work in a transaction, and gives its result. It may be done more than once."""
@@ -259,6 +169,20 @@ class Store:
         self._take_turn()
         self._levels.append(Level())
 
+    def _begin_update(self) -> bool:
+        """Takes the turn for an update of one container: whether that is a transaction of its own."""
+        self._take_turn()
+        if self._levels:
+            return False
+        self._levels.append(Level())
+        return True
+
+    def _end_update(self, is_transaction: bool, failed: bool) -> None:
+        if is_transaction:
+            self._end(failed, None)
+        else:
+            self._turn.release()
+
     def _end(self, failed: bool, durable: Optional[bool]) -> None:
         """Ends the innermost transaction; the outermost one is committed."""
         try:
@@ -273,14 +197,12 @@ class Store:
             self._turn.release()
 
     def _change(self, container: Container) -> ContextManager[Any]:
-        return Changing(self, container)  # type: ignore[return-value]
+        return UpdateScope(self, container)  # type: ignore[return-value]
 
     def _changing(self, container: Container) -> Any:
         """The container's content, which is about to change."""
         content = container._now()
-        undo = self._levels[-1].undo
-        if id(container) not in undo:
-            undo[id(container)] = Undo(container)
+        self._levels[-1].keep(container)
         return content
 
     def _take(self, found: list[Container]) -> None:
@@ -298,38 +220,31 @@ class Store:
                 waiting += container._inner()
         for container in new:
             container._store = self
-        self._levels[-1].taken += new
+        self._levels[-1].took(new)
 
     # ---- the heap
 
     def _read_root(self) -> None:
         """Finds the store in the heap, or makes one in an empty heap."""
         with self._guard(), self._heap.transaction(durable=False) as t:
-            fields = t.get_all([(t.root, field) for field in (ROOT_FIELD, NEXT_FIELD, PINS_FIELD, STAGE_FIELD)])
-            root, number, pins, stage = fields
-            is_store = isinstance(root, Object) and isinstance(pins, Object) and isinstance(number, int) and number >> FORM_SHIFT == FORM
-            if is_store:
-                assert isinstance(root, Object) and isinstance(pins, Object) and isinstance(number, int)
-                serials = [parts_of_head(it)[2] for it in t.numbers([(root, HEAD_FIELD), (pins, HEAD_FIELD)])]
-                self._next_serial = number & (1 << FORM_SHIFT) - 1
-                self._stale_pins = pins.get(TOP_FIELD) is not None
-                self._stage_left = stage is not None
-        if not is_store and fields != [None] * 4:
-            raise StoreError("the heap holds something else than a store")
-        self._root: Dict = self._known_as(DICT, serials[0] if is_store else ROOT_SERIAL, None)
-        self._pins: Any = self._known_as(SET, serials[1] if is_store else PINS_SERIAL, None)
+            root = read_root(t)
+        if root is None:
+            with self._guard(), self._heap.transaction() as t:
+                root = make_root(t)
+        self._note_root(root)
+        self._root: Dict = self._known_as(DICT, root.root_serial, None)
+        self._pins: Any = self._known_as(SET, root.pins_serial, None)
         self._pins._content = {}
-        if not is_store:
-            self._make_roots()
 
-    def _make_roots(self) -> None:
-        """Makes an empty store in an empty heap."""
+    def _make_root(self) -> None:
+        """Makes an empty store in an empty heap, for the containers of this one."""
         with self._guard(), self._heap.transaction() as t:
-            self._new_object(t, ROOT_FIELD, DICT, ROOT_SERIAL)
-            self._new_object(t, PINS_FIELD, SET, PINS_SERIAL)
-            t.root.put(NEXT_FIELD, form(FIRST_SERIAL))
-        self._root._serial, self._pins._serial, self._next_serial = ROOT_SERIAL, PINS_SERIAL, FIRST_SERIAL
-        self._stale_pins = self._stage_left = False
+            root = make_root(t)
+        self._note_root(root)
+        self._root._serial, self._pins._serial = root.root_serial, root.pins_serial
+
+    def _note_root(self, root: Root) -> None:
+        self._next_serial, self._stale_pins, self._staging_left = root.next_serial, root.has_pins, root.has_staging
 
     def _take_heap(self, heap: Heap, sizes: Optional[Sizes], file: Optional[pathlib.Path] = None) -> None:
         """The store is in that heap from now on, whose file may be read."""
@@ -341,13 +256,6 @@ class Store:
         sizes = sizes_of(self._folder / HEAP_FILE)
         with self._guard():
             self._take_heap(self._open_heap(self._folder, sizes), sizes, self._folder / HEAP_FILE)
-
-    @staticmethod
-    def _new_object(t: Transaction, field: int, kind: int, serial: int) -> Object:
-        made = t.new(2)
-        made.put(HEAD_FIELD, head(kind, 0, serial))
-        t.root.link(field, made)
-        return made
 
     def _meet(self, kind: int, serial: int, place: tuple[Any, ...]) -> Container:
         """The container of that number, to which a reference was read at that place."""
@@ -393,7 +301,7 @@ class Store:
             raise
 
     def _stop(self, why: str) -> None:
-        self._lock = Closing(why)
+        self._lock = ClosedLock(why)
 
     def _is_closed(self) -> bool:
         return self._lock is not self._turn
@@ -402,14 +310,14 @@ class Store:
         """Writes what the level changed. Where that fails all is as it was before it."""
         try:
             with self._lock:
-                self._write([undo.container for undo in level.undo.values()], durable)
+                self._write(level.changed, durable)
         except BaseException:
             level.restore()
             raise
 
     def _write(self, dirty: list[Container], durable: bool) -> None:
         for refusals in range(2):
-            pins = Undo(self._pins)
+            pins = BeforeImage(self._pins)
             try:
                 self._make(Plan(self, dirty), durable)
                 return
@@ -429,14 +337,14 @@ class Store:
     def _make(self, plan: Plan, durable: bool) -> None:
         if not plan.is_empty:
             self._keeper.expect(plan.log_bytes)
-            self._stage_left = self._stage_left or plan.staged
+            self._staging_left = self._staging_left or plan.is_split
             with self._guard():
                 Maker(plan, self._heap).make(durable)
-            self._stage_left = False
+            self._staging_left = False
             self._stale_pins = False
-        done(plan)
-        self._next_serial += len(plan.new)
-        for container in plan.new.values():
+        plan.applied()
+        self._next_serial = plan.next_serial
+        for container in plan.new:
             assert container._serial is not None
             self._known[container._serial] = container
         if not plan.is_empty:
@@ -447,20 +355,20 @@ class Store:
         """What is to be done for the heap after a commit. The commit stands, whatever becomes of this: where it fails the store is closed."""
         try:
             with self._guard():
-                self._keeper.wrote(plan.words, plan.events)
+                self._keeper.wrote(plan.layout.words, plan.events)
         except (Closed, Refused):
             pass
 
     def _make_room(self) -> None:
         """Makes a collection, of all that nothing refers to any more."""
         with self._guard():
-            if self._stage_left:
+            if self._staging_left:
                 with self._heap.transaction(durable=False) as t:
-                    t.root.clear(STAGE_FIELD)
-                self._stage_left = False
+                    t.root.clear(STAGING_FIELD)
+                self._staging_left = False
             # (pins go with the containers that Python has let go)
             gc.collect()
-            pins = Undo(self._pins)
+            pins = BeforeImage(self._pins)
             try:
                 self._make(Plan(self, []), False)
             except Exhausted:
