@@ -30,7 +30,8 @@ import struct
 import subprocess
 import threading
 import time
-from typing import Callable, Dict, List, Optional, Sequence, Tuple, Type, TypeVar, Union
+from types import TracebackType
+from typing import Any, Callable, Dict, List, Optional, Sequence, Tuple, Type, TypeVar, Union
 
 __all__ = [
     "AlreadyActive",
@@ -66,7 +67,7 @@ SESSIONS = 32
 MOST_KEPT = 200
 LAUNCHER = pathlib.Path(__file__).resolve().parents[3] / "heap"
 # where the library is looked for, in this order: what the variable STABLE_HEAP_LIBRARY names, a file beside this one, what `make -C clients/lib` made
-LIBRARIES = [
+LIBRARIES: List[Union[str, pathlib.Path]] = [
     os.environ.get("STABLE_HEAP_LIBRARY", ""),
     pathlib.Path(__file__).resolve().parent / "libstable_heap.so",
     pathlib.Path(__file__).resolve().parents[2] / "lib/build/libstable_heap.so",
@@ -200,8 +201,8 @@ ENDS: Dict[int, Type[Ended]] = {6: DiskFault, 7: NotAHeap, 8: Damaged, 10: InUse
 
 # a call of the heap: the session, or 0 where it has none, its name, and its numbers
 Event = Tuple[int, str, Sequence[int]]
-# the same beside what a way to the heap makes of it: a line, or bytes
-Spelled = Tuple[Event, Union[str, bytes]]
+# the same beside what a way to the heap makes of it, a line or bytes, which nothing else reads
+Spelled = Tuple[Event, Any]
 # the word of an answer, and its numbers
 Reply = Tuple[str, Sequence[int]]
 
@@ -322,7 +323,7 @@ class Transaction:
             raise
         return self
 
-    def __exit__(self, kind, error, trace) -> None:
+    def __exit__(self, kind: Optional[Type[BaseException]], error: Optional[BaseException], trace: Optional[TracebackType]) -> None:
         try:
             if error is None and self._refusal is None:
                 self._commit()
@@ -399,7 +400,7 @@ class Transaction:
         """Seals, and forces if that was asked for. A refusal leaves the transaction active, and it is aborted then."""
         try:
             self._send()
-            self._ask_all([self._spelled(self._session, "seal"), self._spelled(0, "force")][: 1 + self._durable])
+            self._ask_all([self._spelled(self._active(), "seal"), self._spelled(0, "force")][: 1 + self._durable])
         except Refused:
             self._abort()
             raise
@@ -503,6 +504,8 @@ class Pipe:
         self._process = subprocess.Popen(
             [*command, "session"], cwd=folder, stdin=subprocess.PIPE, stdout=subprocess.PIPE, text=True, bufsize=1
         )
+        assert self._process.stdin is not None and self._process.stdout is not None
+        self._questions, self._answers = self._process.stdin, self._process.stdout
 
     @staticmethod
     def _format(folder: pathlib.Path, pages: int, log_bytes: int, command: Sequence[str]) -> None:
@@ -534,9 +537,9 @@ class Pipe:
         """Sends the lines, which are few enough for the pipe, and gives their replies."""
         with self._turn:
             try:
-                self._process.stdin.write("".join(line + "\n" for line in lines))
-                self._process.stdin.flush()
-                answers = [self._process.stdout.readline() for _ in lines]
+                self._questions.write("".join(line + "\n" for line in lines))
+                self._questions.flush()
+                answers = [self._answers.readline() for _ in lines]
             except (BrokenPipeError, ValueError):
                 answers = [""]
             except BaseException:
@@ -557,7 +560,7 @@ class Pipe:
 
     def _ended(self) -> HeapError:
         """Why there is no answer."""
-        if self._process.stdin.closed:
+        if self._questions.closed:
             return Protocol("the heap was closed")
         status = self._process.wait()
         return ENDS.get(status, Ended)(status)
@@ -604,7 +607,7 @@ def open_library() -> ctypes.CDLL:
 class Room:
     """Where the library puts its replies, and how many."""
 
-    def __init__(self):
+    def __init__(self) -> None:
         self.replies = bytearray(ANSWERED.size * MOST_KEPT)
         self.made = ctypes.c_size_t()
         self._kept = (ctypes.c_char * len(self.replies)).from_buffer(self.replies)
@@ -627,7 +630,7 @@ class Here:
         self._rooms: List[Room] = []
         self._library = open_library()
         self._batch = self._library.sh_batch
-        self._heap = self._library.sh_open_here(os.fsencode(folder), pages, log_bytes, ctypes.byref(error))
+        self._heap: Optional[int] = self._library.sh_open_here(os.fsencode(folder), pages, log_bytes, ctypes.byref(error))
         if not self._heap:
             raise ENDS.get(error.status, Ended)(error.status)
 
@@ -717,7 +720,7 @@ class Heap:
     def __enter__(self) -> "Heap":
         return self
 
-    def __exit__(self, kind, error, trace) -> None:
+    def __exit__(self, kind: Optional[Type[BaseException]], error: Optional[BaseException], trace: Optional[TracebackType]) -> None:
         self.close()
 
     def close(self) -> None:

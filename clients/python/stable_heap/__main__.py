@@ -15,21 +15,23 @@ from __future__ import annotations
 import os
 import pathlib
 import sys
-from typing import Any, Iterator, Optional
+from typing import Any, Callable, Iterator, Optional
 
 from . import LAUNCHER, HeapError
 from .store import Store, StoreError
 from .store.containers import Container, Dict
 from .store.dumps import dumped, restore
+from .store.stores import LOG_BYTES, PAGES
 
 # a container's line shows so many of its entries
 SHOWN = 50
 
 
-def open_store(folder: str, **sizes: int) -> Store:
+def open_store(folder: str, pages: int = PAGES, log_bytes: int = LOG_BYTES) -> Store:
+    """The store of that folder; the sizes are of one that is to be made."""
     launcher = os.environ.get("HEAP", "")
     here: Optional[bool] = launcher == "here" if launcher else None
-    return Store(folder, here=here, command=launcher.split() or (str(LAUNCHER),), **sizes)
+    return Store(folder, here=here, command=launcher.split() or (str(LAUNCHER),), pages=pages, log_bytes=log_bytes)
 
 
 def info(store: Store) -> Iterator[str]:
@@ -49,7 +51,7 @@ def tree(value: Any, depth: int, name: str = "root") -> Iterator[str]:
     yield f"{name}: {kind} of {len(value)}"
     if depth == 0:
         return
-    entries = value.items() if isinstance(value, Dict) else enumerate(value)  # type: ignore[arg-type, var-annotated]
+    entries = value.items() if isinstance(value, Dict) else enumerate(value)
     for number, (key, inner) in enumerate(entries):
         if number == SHOWN:
             yield f"    .. {len(value) - SHOWN} more"
@@ -78,7 +80,11 @@ def main(words: list[str]) -> int:
         print(f"{rest[0]} has no heap", file=sys.stderr)
         return 1
     with open_store(rest[0]) as store:
-        lines = {"info": lambda: info(store), "dump": lambda: dumped(store.root), "tree": lambda: tree(store.root, int(rest[1]) if rest[1:] else 3)}
+        lines: dict[str, Callable[[], Iterator[str]]] = {
+            "info": lambda: info(store),
+            "dump": lambda: dumped(store.root),
+            "tree": lambda: tree(store.root, int(rest[1]) if rest[1:] else 3),
+        }
         for line in lines[command]():
             print(line)
     return 0

@@ -7,10 +7,13 @@ from __future__ import annotations
 
 import collections.abc
 import contextlib
-from typing import Any, Callable, ContextManager, Iterable, Iterator, Optional
+from typing import TYPE_CHECKING, Any, Callable, ContextManager, Iterable, Iterator, Optional, Type, TypeVar, Union
 
 from .image import Node, Splices, Touched
 from .words import DICT, LIST, SET
+
+if TYPE_CHECKING:
+    from .stores import Store
 
 __all__ = ["Container", "Dict", "List", "Set", "containers_in", "plain"]
 
@@ -18,12 +21,13 @@ SCALARS = frozenset([type(None), bool, int, float, str, bytes])
 # tuples may be in one another so deep: each takes a handle while it is read or written, and a transaction has 64
 DEEPEST = 20
 MISSING = object()
+Kind = TypeVar("Kind", bound="Container")
 
 
 class NoStore:
     """Stands for the store of a container that has none."""
 
-    _lock: ContextManager[None] = contextlib.nullcontext()
+    _lock: ContextManager[Any] = contextlib.nullcontext()
 
     @staticmethod
     def _change(container: "Container") -> ContextManager[Any]:
@@ -32,6 +36,10 @@ class NoStore:
     @staticmethod
     def _take(found: list["Container"]) -> None:
         """Containers that were put into one of no store are of none."""
+
+    @staticmethod
+    def _load(container: "Container") -> Any:
+        raise AssertionError("a container of no store is in memory")
 
 
 NO_STORE = NoStore()
@@ -52,22 +60,27 @@ class Container:
     __slots__ = ("_store", "_content", "_serial", "_place", "_levels", "_where", "_edits", "__weakref__")
     _KIND = 0
     __hash__ = None  # type: ignore[assignment]
+    _store: Union["Store", NoStore]
+    # what it holds, or None while that is in the heap alone: a list, or a dict of a dict or set
+    _content: Any
+    # its number in the heap, if it is there
+    _serial: Optional[int]
+    # where a reference to it is in the heap; None for those that the root object refers to
+    _place: Optional[Place]
+    # its tree in the heap: the leaves, and the nodes above them, up to one
+    _levels: list[list[Node]]
+    # where the entry of a key is, of a dict or set
+    _where: dict[Any, tuple[Node, int]]
+    # how the content may differ from what is in the heap: Splices of a list, Touched of a dict or set
+    _edits: Any
 
-    def __new__(cls, *args: object, **named: object) -> "Container":
-        made = super().__new__(cls)
-        made._store: Any = NO_STORE
-        # what it holds, or None while that is in the heap alone
-        made._content: Any = cls._nothing()
-        # its number in the heap, if it is there
-        made._serial: Optional[int] = None
-        # where a reference to it is in the heap; None for those that the root object refers to
-        made._place: Optional[Place] = None
-        # its tree in the heap: the leaves, and the nodes above them, up to one
-        made._levels: list[list[Node]] = []
-        # where the entry of a key is, of a dict or set
-        made._where: dict[Any, tuple[Node, int]] = {}
-        # how the content may differ from what is in the heap
-        made._edits: Any = cls._no_edits(0)
+    def __new__(cls: Type[Kind], *args: object, **named: object) -> Kind:
+        made = object.__new__(cls)
+        made._store = NO_STORE
+        made._content = cls._nothing()
+        made._serial = made._place = None
+        made._levels, made._where = [], {}
+        made._edits = cls._no_edits(0)
         return made
 
     @staticmethod
@@ -157,8 +170,8 @@ class List(Container):
 
     __slots__ = ()
     _KIND = LIST
-    _nothing = list  # type: ignore[assignment]
-    _no_edits = Splices  # type: ignore[assignment]
+    _nothing = list
+    _no_edits = Splices
 
     def __init__(self, items: Iterable[Any] = ()):
         self[:] = items
@@ -255,15 +268,18 @@ class List(Container):
 
     def index(self, value: Any, *range_: int) -> int:
         with self._store._lock:
-            return self._now().index(value, *range_)
+            found: int = self._now().index(value, *range_)
+            return found
 
     def count(self, value: Any) -> int:
         with self._store._lock:
-            return self._now().count(value)
+            found: int = self._now().count(value)
+            return found
 
     def copy(self) -> "List":
         """A list of no store, with the same items."""
-        return self[:]
+        with self._store._lock:
+            return made_of(self._now()[:])
 
     def __add__(self, other: Any) -> "List":
         with self._store._lock:
@@ -273,7 +289,7 @@ class List(Container):
         with self._store._lock:
             return made_of(_list_of(other) + self._now())
 
-    def __iadd__(self, values: Iterable[Any]) -> "List":
+    def __iadd__(self, values: Iterable[Any]) -> "List":  # type: ignore[misc]  # as a list's it takes what + does not
         self.extend(values)
         return self
 
@@ -339,7 +355,7 @@ class Dict(Container):
 
     __slots__ = ()
     _KIND = DICT
-    _nothing = dict  # type: ignore[assignment]
+    _nothing = dict
 
     def __init__(self, *args: Any, **named: Any):
         self.update(*args, **named)
@@ -460,7 +476,18 @@ def _dict_of(other: Any) -> Any:
         return other._now()
 
 
-class Keys(collections.abc.KeysView):
+class View(collections.abc.MappingView):
+    """What the views of a dict have in common."""
+
+    __slots__ = ()
+    _mapping: Dict
+
+    def __init__(self, mapping: Dict):
+        self._mapping = mapping
+
+
+# (that these classes of Python's have parameters is not known to Python 3.8)
+class Keys(View, collections.abc.KeysView):  # type: ignore[type-arg]
     """The keys of a dict, as they are at each call."""
 
     __slots__ = ()
@@ -475,7 +502,7 @@ class Keys(collections.abc.KeysView):
         return f"Keys({list(self)!r})"
 
 
-class Values(collections.abc.ValuesView):
+class Values(View, collections.abc.ValuesView):  # type: ignore[type-arg]
     """The values of a dict, as they are at each call."""
 
     __slots__ = ()
@@ -490,7 +517,7 @@ class Values(collections.abc.ValuesView):
         return f"Values({list(self)!r})"
 
 
-class Items(collections.abc.ItemsView):
+class Items(View, collections.abc.ItemsView):  # type: ignore[type-arg]
     """The pairs of a dict, as they are at each call."""
 
     __slots__ = ()
@@ -505,12 +532,12 @@ class Items(collections.abc.ItemsView):
         return f"Items({list(self)!r})"
 
 
-class Set(Container, collections.abc.MutableSet):
+class Set(Container, collections.abc.MutableSet):  # type: ignore[type-arg]
     """A set that a store keeps. What is in it are values without containers. It keeps the order in which they came."""
 
     __slots__ = ()
     _KIND = SET
-    _nothing = dict  # type: ignore[assignment]
+    _nothing = dict
 
     def __init__(self, values: Iterable[Any] = ()):
         self.update(values)
@@ -644,7 +671,7 @@ def stored_form(values: list[Any], found: list[Container]) -> list[Any]:
     return kept
 
 
-COPIED = {dict: Dict, list: List, set: Set}
+COPIED: dict[type, Type[Container]] = {dict: Dict, list: List, set: Set}
 
 
 def containers_in(value: Any, path: tuple[int, ...] = ()) -> Iterator[tuple[Container, tuple[int, ...]]]:

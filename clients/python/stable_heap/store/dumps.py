@@ -47,7 +47,7 @@ def dumped(root: Container) -> Iterator[str]:
         if isinstance(container, Dict):
             entries = [[told(key), told(value)] for key, value in container.items()]
         else:
-            entries = [told(value) for value in container]  # type: ignore[attr-defined]
+            entries = [told(value) for value in container]
         yield json.dumps({"object": at, NAMES[type(container)]: entries})
         at += 1
 

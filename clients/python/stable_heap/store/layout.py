@@ -5,7 +5,7 @@ in whatever order the fields are written. What is large is made there too, a par
 
 from __future__ import annotations
 
-from typing import Any, Iterable, NamedTuple, Optional, Union
+from typing import Any, Iterable, NamedTuple, Optional, Tuple, Union
 
 from .containers import Container
 from .words import MOST_FIELDS, TUPLE, data_of, data_words, head, height_for
@@ -40,6 +40,8 @@ class Staged:
 
 
 Field = Union[None, int, NewObject, Staged]
+# what is staged once: a container, or what is behind a path from it, by the container's id
+Key = Union[int, Tuple[int, Tuple[int, ...]]]
 
 
 class Write(NamedTuple):
@@ -58,7 +60,7 @@ class Layout:
         self._moved: list[Staged] = []
         self._shells: list[Staged] = []
         self._parts: list[Staged] = []
-        self._known: dict[Any, Staged] = {}
+        self._known: dict[Key, Staged] = {}
         # the words of all new objects
         self.words = 0
         for container in new:
@@ -83,7 +85,7 @@ class Layout:
         """What is in the heap behind that path from a container's object."""
         return self._move((id(container), tuple(path)), Staged(container, path))
 
-    def _move(self, key: Any, staged: Staged) -> Staged:
+    def _move(self, key: Key, staged: Staged) -> Staged:
         if key not in self._known:
             self._known[key] = staged
             self._moved.append(staged)

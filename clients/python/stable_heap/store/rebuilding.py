@@ -5,8 +5,9 @@ from __future__ import annotations
 import os
 import pathlib
 import shutil
-from typing import TYPE_CHECKING, Any, Iterator
+from typing import TYPE_CHECKING
 
+from .. import Heap
 from .containers import Container
 from .dumps import dumped
 from .errors import StoreError
@@ -38,8 +39,7 @@ def all_of(store: "Store") -> list[Container]:
     """All containers that are found from the root, or that Python holds, each of which is loaded."""
     found: list[Container] = [store._root]
     seen = {id(store._root)}
-    waiting: Iterator[Any] = iter([*store._known.values()])
-    for container in [*waiting]:
+    for container in list(store._known.values()):
         if id(container) not in seen and container is not store._pins:
             seen.add(id(container))
             found.append(container)
@@ -88,7 +88,7 @@ def rebuild(store: "Store", sizes: Sizes) -> None:
     exchange(store, folder, before[0])
 
 
-def write_all(store: "Store", heap: Any, kept: list[Container], sizes: Sizes) -> None:
+def write_all(store: "Store", heap: Heap, kept: list[Container], sizes: Sizes) -> None:
     """All that is kept is new to that heap. What Python alone holds is written when it is put into the store again."""
     for container in kept:
         forget(container)
@@ -106,7 +106,7 @@ def compare(store: "Store", folder: pathlib.Path, sizes: Sizes, wanted: list[str
             raise StoreError("the new heap does not hold what the old one holds, which stays")
 
 
-def exchange(store: "Store", folder: pathlib.Path, old: Any) -> None:
+def exchange(store: "Store", folder: pathlib.Path, old: Heap) -> None:
     """The new heap's file takes the name of the old one's, in one step."""
     (folder / OLD_FILE).unlink(missing_ok=True)
     os.link(folder / HEAP_FILE, folder / OLD_FILE)

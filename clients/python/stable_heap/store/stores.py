@@ -10,10 +10,10 @@ import threading
 import time
 import weakref
 from types import TracebackType
-from typing import Any, Callable, ContextManager, Iterator, Optional, Type, TypeVar, Union
+from typing import Any, Callable, ContextManager, Iterator, Optional, Sequence, Type, TypeVar, Union
 
 from .. import LAUNCHER, LIBRARIES, Exhausted, Heap, HeapError, InUse, LogFull, Refused, VolatileFull
-from .containers import NO_STORE, Container, Dict, List, Place, Set
+from .containers import NO_STORE, Container, Dict, Kind, List, Place, Set
 from .errors import Closed, Full, StoreError, TooLarge
 from .keeping import MORE_LOG, Keeper, Sizes, log_used, sizes_of
 from .levels import BeforeImage, Level
@@ -22,13 +22,15 @@ from .planning import Plan
 from .rebuilding import rebuild
 from .root import PINS_FIELD, ROOT_FIELD, STAGING_FIELD, Root, make_root, read_root
 from .scopes import ClosedLock, TransactionScope, UpdateScope
-from .walking import Reader
+from .walking import PlaceParts, Reader
 from .words import DICT, LIST, SET
 
 __all__ = ["Store"]
 
-CLASSES = {DICT: Dict, LIST: List, SET: Set}
+CLASSES: dict[int, Type[Container]] = {DICT: Dict, LIST: List, SET: Set}
 HEAP_FILE = "heap.img"
+# the sizes of a heap that is made
+PAGES, LOG_BYTES = 4_096, 16_777_216
 Result = TypeVar("Result")
 
 
@@ -39,11 +41,11 @@ class Store:
         self,
         folder: Union[str, pathlib.Path],
         here: Optional[bool] = None,
-        pages: int = 4_096,
-        log_bytes: int = 16_777_216,
+        pages: int = PAGES,
+        log_bytes: int = LOG_BYTES,
         durable: bool = True,
         wait: float = 5.0,
-        command: list[str] = (str(LAUNCHER),),
+        command: Sequence[str] = (str(LAUNCHER),),
     ):
         """Opens the store in that folder, or makes one, with a heap of these sizes. `here` says whether the heap is in this process, by the library: where
         it is left out that is so if the library is there. A heap that is in use is tried again for `wait` seconds. `command` is the launcher."""
@@ -69,7 +71,7 @@ class Store:
         # whoever has the turn is alone with the store
         self._turn = threading.RLock()
         # the turn, or what refuses it where the store is closed
-        self._lock: Any = self._turn
+        self._lock: ContextManager[Any] = self._turn
         self._durable = durable
         self._take_heap(heap, sizes, self._folder / HEAP_FILE if self._folder else None)
         self._levels: list[Level] = []
@@ -128,11 +130,11 @@ class Store:
         """Writes all that is kept into a new heap of the same sizes, whose log has no more than that. What was kept before it is not read again."""
         self.grow()
 
-    def stats(self) -> dict[str, Any]:
+    def stats(self) -> dict[str, Optional[int]]:
         """Figures of the store: the sizes of its heap, the words in use when the last collection ended, the used bytes of the log, commits and collections
         since it was opened, and how many containers are known in memory."""
         with self._lock:
-            figures: dict[str, Any] = {"commits": self._commits, "collections": self._keeper.collections}
+            figures: dict[str, Optional[int]] = {"commits": self._commits, "collections": self._keeper.collections}
             figures.update(words_in_use=self._keeper.in_use, containers_in_memory=len(self._known))
             if self._folder is not None:
                 file = self._folder / HEAP_FILE
@@ -197,7 +199,7 @@ class Store:
             self._turn.release()
 
     def _change(self, container: Container) -> ContextManager[Any]:
-        return UpdateScope(self, container)  # type: ignore[return-value]
+        return UpdateScope(self, container)
 
     def _changing(self, container: Container) -> Any:
         """The container's content, which is about to change."""
@@ -232,8 +234,8 @@ class Store:
             with self._guard(), self._heap.transaction() as t:
                 root = make_root(t)
         self._note_root(root)
-        self._root: Dict = self._known_as(DICT, root.root_serial, None)
-        self._pins: Any = self._known_as(SET, root.pins_serial, None)
+        self._root: Dict = self._known_as(Dict, root.root_serial, None)
+        self._pins: Set = self._known_as(Set, root.pins_serial, None)
         self._pins._content = {}
 
     def _make_root(self) -> None:
@@ -257,13 +259,13 @@ class Store:
         with self._guard():
             self._take_heap(self._open_heap(self._folder, sizes), sizes, self._folder / HEAP_FILE)
 
-    def _meet(self, kind: int, serial: int, place: tuple[Any, ...]) -> Container:
+    def _meet(self, kind: int, serial: int, place: PlaceParts) -> Container:
         """The container of that number, to which a reference was read at that place."""
         known = self._known.get(serial)
-        return self._known_as(kind, serial, Place(*place)) if known is None else known
+        return self._known_as(CLASSES[kind], serial, Place(*place)) if known is None else known
 
-    def _known_as(self, kind: int, serial: int, place: Optional[Place]) -> Any:
-        made = CLASSES[kind].__new__(CLASSES[kind])
+    def _known_as(self, kind: Type[Kind], serial: int, place: Optional[Place]) -> Kind:
+        made = kind.__new__(kind)
         made._store, made._serial, made._place, made._content = self, serial, place, None
         self._known[serial] = made
         return made

@@ -5,7 +5,7 @@ root object to there."""
 
 from __future__ import annotations
 
-from typing import TYPE_CHECKING, Any, Optional
+from typing import TYPE_CHECKING, Any, Optional, Tuple
 
 from .. import Object, Transaction
 from .containers import Container
@@ -15,8 +15,10 @@ from .words import CONTAINERS, DATA_BYTES, DICT, MOST_FIELDS, SET, TUPLE, groups
 if TYPE_CHECKING:
     from .stores import Store
 
-__all__ = ["HEAD_FIELD", "TOP_FIELD", "Reader", "Walk", "entry_fields", "node_path", "tuple_path"]
+__all__ = ["HEAD_FIELD", "TOP_FIELD", "PlaceParts", "Reader", "Walk", "entry_fields", "node_path", "tuple_path"]
 
+# what a Place has
+PlaceParts = Tuple[Container, Node, int, Tuple[int, ...]]
 # the fields of a container's object
 HEAD_FIELD, TOP_FIELD = 0, 1
 # a walk keeps so many objects that it passed
@@ -96,6 +98,7 @@ class Reader:
         """Reads what is in the container: values, and the containers in it as such that are still to be read."""
         found = Walk(self._store, self._transaction).to(container)
         head, top = self._transaction.get_all([(found, HEAD_FIELD), (found, TOP_FIELD)])
+        assert isinstance(head, int) and not isinstance(top, int)
         _, height, serial = parts_of_head(head)
         assert serial == container._serial
         levels: list[list[Node]] = [[] for _ in range(height + 1)]
@@ -113,7 +116,7 @@ class Reader:
             return node
         for some in groups(node.room, self._at_once()):
             children = self._transaction.get_all([(found, field) for field in some])
-            node.items += [self._node(owner, child, height - 1, node, levels) for child in children if child is not None]
+            node.items += [self._node(owner, child, height - 1, node, levels) for child in children if isinstance(child, Object)]
             if None in children:
                 break
         return node
@@ -134,7 +137,7 @@ class Reader:
         """How many fields are asked for together, each of which may take a handle."""
         return max(1, min(WIDTH // 2, (self._transaction.spare_handles - LEFT_FREE) // 2))
 
-    def _values(self, found: Object, fields: list[tuple[int, Any]]) -> list[Any]:
+    def _values(self, found: Object, fields: list[tuple[int, PlaceParts]]) -> list[Any]:
         """What these fields hold, each with the place that it is for a container."""
         values: list[Any] = []
         for some in groups(len(fields), self._at_once()):
@@ -161,7 +164,7 @@ class Reader:
             at += words_for(count)
         return values
 
-    def _object(self, found: Object, parts: tuple[int, int, int], place: Any) -> Any:
+    def _object(self, found: Object, parts: tuple[int, int, int], place: PlaceParts) -> Any:
         kind, height, count = parts
         if kind in CONTAINERS:
             return self._store._meet(kind, count, place)
@@ -169,7 +172,7 @@ class Reader:
             return tuple(self._items(found, height, count, place))
         return value_of_data(kind, joined_words(self._words(found, height, words_for(count), 1), count))
 
-    def _items(self, found: Object, height: int, count: int, place: Any) -> list[Any]:
+    def _items(self, found: Object, height: int, count: int, place: PlaceParts) -> list[Any]:
         owner, leaf, entry, path = place
         places = [(owner, leaf, entry, (*path, *tuple_path(number, height))) for number in range(count)]
         if height == 0:
@@ -180,7 +183,7 @@ class Reader:
             items += self._grouped(found.follow(1 + some.start // size), height, places[some.start : some.stop])
         return items
 
-    def _grouped(self, found: Object, height: int, places: list[Any]) -> list[Any]:
+    def _grouped(self, found: Object, height: int, places: list[PlaceParts]) -> list[Any]:
         """The items of a tree without a head."""
         if height == 1:
             return self._values(found, list(enumerate(places)))

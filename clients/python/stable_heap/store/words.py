@@ -4,7 +4,7 @@ A field is null, a number below 2^62, or a reference. A number's lowest three bi
 number is an object of its own, whose first field is a head. Nothing here knows the heap: this module is a codec."""
 
 import struct
-from typing import Iterator, List, Optional, Sequence, Tuple, Union
+from typing import Any, Iterator, List, Optional, Sequence, Tuple, Union
 
 SHORT_INT, CONSTANT, SHORT_TEXT, SHORT_BYTES, HEAD, SHORT_FLOAT = range(6)
 TAG_BITS = 3
@@ -50,8 +50,9 @@ def short(tag: int, data: bytes) -> Optional[int]:
     return (len(data) << 8 * DATA_BYTES | int.from_bytes(data, "little")) << TAG_BITS | tag
 
 
-def word_of(value: object) -> Optional[int]:
+def word_of(value: Any) -> Optional[int]:
     """The field's number for a value, or None where the value is an object of its own."""
+    # (Any, since a checker of types does not follow what `kind` says)
     kind = type(value)
     if value is None or kind is bool:
         return CONSTANTS.index(value) << TAG_BITS | CONSTANT
@@ -85,11 +86,11 @@ def value_of(word: int) -> object:
 
 def data_of(value: Data) -> Tuple[int, bytes]:
     """The kind and the bytes of a value that is an object of its own, other than a tuple."""
-    if type(value) is str:
+    if isinstance(value, str):
         return TEXT, text_bytes(value)
-    if type(value) is bytes:
+    if isinstance(value, bytes):
         return BYTES, value
-    if type(value) is float:
+    if isinstance(value, float):
         return FLOAT, struct.pack("<d", value)
     size = abs(value)
     return (INT if value > 0 else NEGATIVE_INT), size.to_bytes((size.bit_length() + 7) // 8, "little")
@@ -102,7 +103,8 @@ def value_of_data(kind: int, data: bytes) -> Data:
     if kind == BYTES:
         return data
     if kind == FLOAT:
-        return struct.unpack("<d", data)[0]
+        number: float = struct.unpack("<d", data)[0]
+        return number
     size = int.from_bytes(data, "little")
     return size if kind == INT else -size
 
