@@ -92,14 +92,20 @@ class MemoryHeap:
 
     # ---- events
 
-    def write_log(self, count: int) -> None:
-        if self.log + count > self.log_bytes:
-            raise Refusal("logfull", self.log, count, 0)
+    def write_log(self, count: int, kept: int) -> None:
+        """Writes so many bytes into the log, in which there has to be room for so many others besides."""
+        if self.log + count + kept > self.log_bytes:
+            raise Refusal("logfull", self.log, count, kept)
         self.log += count
+
+    def kept(self, but=None) -> int:
+        """The bytes that are kept for the ends of transactions, but of that one."""
+        return sum(10 + 19 * len(it.undo) for it in self.sessions.values() if it is not but)
 
     def begin(self, session):
         if session in self.sessions:
             raise Refusal("alreadyactive")
+        self.write_log(0, self.kept() + 10)
         self.sessions[session] = Session()
         self.begun += 1
         return "begun", [self.begun]
@@ -133,7 +139,7 @@ class MemoryHeap:
         if field >= len(thing.fields):
             raise Refusal("badfield")
         if thing.owner is None:
-            self.write_log(27)
+            self.write_log(27, self.kept() + 19)
             mine.undo.append((thing, field, thing.fields[field]))
             mine.written.append(thing)
         assert thing.owner in (None, mine)
@@ -188,7 +194,7 @@ class MemoryHeap:
         if need > self.space - self.used:
             self.exhausted += 1
             raise Refusal("exhausted", need, self.space - self.used, 0)
-        self.write_log(5 + sum(9 + 8 * thing.words for thing in promoted))
+        self.write_log(5 + sum(9 + 8 * thing.words for thing in promoted), self.kept(but=mine))
         for thing in promoted:
             thing.owner = None
         self.used += need
@@ -197,7 +203,9 @@ class MemoryHeap:
         return "sealed", [self.commits]
 
     def abort(self, session):
-        self.take_back(self.sessions.pop(session).undo)
+        undo = self.sessions.pop(session).undo
+        self.log += 5 + 19 * len(undo)
+        self.take_back(undo)
         return "aborted", []
 
     @staticmethod

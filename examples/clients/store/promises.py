@@ -401,6 +401,16 @@ class Room(Model):
         self.assertIn("store.compact()", str(full.exception))
         self.assertEqual(self.store.root["n"], number - 1)
 
+    def test_a_full_log_is_read(self):
+        """Many containers are read while the log has room for a few ends of transactions, also between commits that are refused."""
+        self.store.root["rows"] = [[number] for number in range(200)]
+        self.heap.log_bytes = self.heap.log + 60
+        rows = self.open_again()["rows"]
+        self.assertEqual([row[0] for row in rows[:150]], list(range(150)))
+        with self.assertRaises(Full):
+            rows[0][0] = "a text of many bytes"
+        self.assertEqual([row[0] for row in rows], list(range(200)))
+
     def test_long_life(self):
         """Commits that write many times what the space has: it collects by itself, beside them."""
         rng = random.Random(3)

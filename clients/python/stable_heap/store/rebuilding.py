@@ -69,7 +69,7 @@ def rebuild(store: "Store", sizes: Sizes) -> None:
     kept = all_of(store)
     wanted = list(dumped(store._root))
     images = [Image(container) for container in [*kept, store._pins]]
-    before = store._heap, store._keeper, store._next_serial, store._stale_pins, store._staging_left
+    before = store._heap, store._keeper, store._reading, store._next_serial, store._stale_pins, store._staging_left
     pins = store._pins._content
     try:
         heap = store._open_heap(folder / NEW_FOLDER, sizes)
@@ -79,7 +79,7 @@ def rebuild(store: "Store", sizes: Sizes) -> None:
             heap.close()
         compare(store, folder / NEW_FOLDER, sizes, wanted)
     except BaseException:
-        store._heap, store._keeper, store._next_serial, store._stale_pins, store._staging_left = before
+        store._heap, store._keeper, store._reading, store._next_serial, store._stale_pins, store._staging_left = before
         store._pins._content = pins
         for image in images:
             image.restore()

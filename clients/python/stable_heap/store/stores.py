@@ -19,6 +19,7 @@ from .keeping import MORE_LOG, Keeper, Sizes, log_used, sizes_of
 from .levels import BeforeImage, Level
 from .making import Maker
 from .planning import Plan
+from .reading import ReadTransaction
 from .rebuilding import rebuild
 from .root import PINS_FIELD, ROOT_FIELD, STAGING_FIELD, Root, make_root, read_root
 from .scopes import ClosedLock, TransactionScope, UpdateScope
@@ -228,11 +229,13 @@ class Store:
 
     def _read_root(self) -> None:
         """Finds the store in the heap, or makes one in an empty heap."""
-        with self._guard(), self._heap.transaction(durable=False) as t:
+        with self._guard(), self._reading as t:
             root = read_root(t)
         if root is None:
-            with self._guard(), self._heap.transaction() as t:
-                root = make_root(t)
+            with self._guard():
+                self._reading.end()
+                with self._heap.transaction() as t:
+                    root = make_root(t)
         self._note_root(root)
         self._root: Dict = self._known_as(Dict, root.root_serial, None)
         self._pins: Set = self._known_as(Set, root.pins_serial, None)
@@ -250,7 +253,7 @@ class Store:
 
     def _take_heap(self, heap: Heap, sizes: Optional[Sizes], file: Optional[pathlib.Path] = None) -> None:
         """The store is in that heap from now on, whose file may be read."""
-        self._heap, self._keeper = heap, Keeper(heap, sizes, file)
+        self._heap, self._keeper, self._reading = heap, Keeper(heap, sizes, file), ReadTransaction(heap)
 
     def _open_again(self) -> None:
         """The heap in the store's folder is opened: what is noted of the one that was there before holds of it too."""
@@ -283,7 +286,7 @@ class Store:
 
     def _load(self, container: Container) -> Any:
         """Reads what is in the container."""
-        with self._guard(), self._heap.transaction(durable=False) as t:
+        with self._guard(), self._reading as t:
             Reader(self, t).load(container)
         return container._content
 
@@ -341,6 +344,7 @@ class Store:
             self._keeper.expect(plan.log_bytes)
             self._staging_left = self._staging_left or plan.is_split
             with self._guard():
+                self._reading.end()
                 Maker(plan, self._heap).make(durable)
             self._staging_left = False
             self._stale_pins = False
@@ -364,6 +368,7 @@ class Store:
     def _make_room(self) -> None:
         """Makes a collection, of all that nothing refers to any more."""
         with self._guard():
+            self._reading.end()
             if self._staging_left:
                 with self._heap.transaction(durable=False) as t:
                     t.root.clear(STAGING_FIELD)
