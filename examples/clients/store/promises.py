@@ -521,6 +521,24 @@ class Program(unittest.TestCase):
         store.root["more"] = 1
         self.assertEqual(store.root["text"].split()[0], str(number - 1))
 
+    def test_a_log_with_no_room_for_a_collection(self):
+        """No collection begins that the log can't hold, since reads would have to advance it: what is kept can be read, and so written into another heap."""
+        store = self.open(pages=100, log_bytes=98_304)
+        store.root["kept"] = wanted = [[number, "some text of length"] for number in range(250)]
+        with self.assertRaises(Full) as full:
+            for number in range(1_000):
+                store.root["text"] = f"{number} " + "x" * 1_500
+        self.assertIn("store.compact()", str(full.exception))
+        store.close()
+        store = self.open()
+        self.assertEqual(plain(store.root["kept"]), wanted)
+        with self.assertRaises(Full):
+            store.collect()
+        store.grow(log_bytes=262_144)
+        store.root["kept"].append([250, "some text of length"])
+        store.collect()
+        self.assertEqual(plain(store.root["kept"])[:250], wanted)
+
     def test_forked_child(self):
         store = self.open()
         child = os.fork()

@@ -341,10 +341,10 @@ class Store:
 
     def _make(self, plan: Plan, durable: bool) -> None:
         if not plan.is_empty:
-            self._keeper.expect(plan.log_bytes)
-            self._staging_left = self._staging_left or plan.is_split
             with self._guard():
                 self._reading.end()
+                self._keeper.expect(plan.log_bytes)
+                self._staging_left = self._staging_left or plan.is_split
                 Maker(plan, self._heap).make(durable)
             self._staging_left = False
             self._stale_pins = False
