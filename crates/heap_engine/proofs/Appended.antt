@@ -1,7 +1,6 @@
 -- A log to which records are appended, one after another.
-use Rattle.std.proofs.Common.{◌≡◌, ℕ, ◌+◌, ◌<◌, ◌≤◌, ◌^◌, List, [], ◌∷◌, ◌++◌, length, refl, sym, ap, ◌∙◌, subst, arith, append_assoc, length-append}
+use Rattle.std.proofs.Common.{◌≡◌, ℕ, ◌+◌, ◌<◌, ◌≤◌, ◌^◌, List, [], ◌∷◌, ◌++◌, length, sym, ap, ◌∙◌, subst, arith, append_assoc, length-append}
 use Rattle.std.proofs.lemmas.Bool.Decides.{nat_tests}
-use Rattle.std.proofs.lemmas.List.{append-nil}
 use Rattle.std.proofs.lemmas.List.Concat.{flat_map-append}
 use Rattle.gated_log.specs.declared.log.Log.{Log}
 use Rattle.gated_log.specs.LogRoom.{used_bytes, need_bytes}
@@ -19,16 +18,6 @@ spelled_more records more = ap length (flat_map-append spelling records more) �
 -- and of one and more
 pub spelled_first : (rec : Record) (rest : List Record) → length (spellings (rec ∷ rest)) ≡ length (spelling rec) + length (spellings rest)
 spelled_first rec rest = length-append (spelling rec) (spellings rest)
-
--- nothing is appended
-pub appended_none : (log : Log) → IsAppended log log []
-appended_none log = record {
-  place = record { at = refl; room = refl; tail = refl; forced = refl };
-  kept = λ batches pending keeps. subst (λ (rs : List Record). Keeps log batches rs) (sym (append-nil pending)) keeps;
-  size = omega arith;
-  count = omega arith;
-  memory = omega arith;
-}
 
 -- one more record is
 pub appended_more : (old mid new : Log) (records : List Record) (rec : Record) → IsAppended old mid records → IsPlaced mid new
@@ -86,10 +75,3 @@ appended_bytes old new records bytes count spelled counted place added size more
   count = omega (arith, more, counted);
   memory = memory;
 }
-
-few_bytes : (tail buffer room : ℕ) → used_bytes tail buffer ≤ room → room < 2 ^ 32 → tail + buffer < 2 ^ 33
-few_bytes tail buffer room fits small = grind (arith, nat_tests)
-
--- a log has few records
-pub few_records : (log : Log) → log_count log < 2 ^ 33
-few_records log = let few = few_bytes (log_tail log) (buffer_size log) (log_room log) log.fits log.small in omega (arith, few, log.few_forced, log.few_waiting)

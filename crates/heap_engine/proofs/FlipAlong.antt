@@ -65,9 +65,6 @@ told_along end pairs table s us along some is =
 abbrev pub GoAlongUpto : ℕ → List (ℕ × ℕ) → TableState → ℕ → Type 0
 GoAlongUpto end pairs table k = (s : ℕ) → 1 ≤ s → s < k → WroteBelow end (translated_list pairs (undo_if (transaction_of table s)))
 
-pub upto_none : (end : ℕ) (pairs : List (ℕ × ℕ)) (table : TableState) → GoAlongUpto end pairs table 1
-upto_none end pairs table = λ s low high. absurd (omega arith)
-
 upto_next : (end : ℕ) (pairs : List (ℕ × ℕ)) (table : TableState) (k : ℕ) → GoAlongUpto end pairs table k → WroteBelow end (translated_list pairs (undo_if (transaction_of table k)))
     → GoAlongUpto end pairs table (k + 1)
 upto_next end pairs table k upto here = λ s low high. elim (cases_eq s k) [

@@ -1,5 +1,5 @@
 -- The log and the pages of an engine, and an image that holds them, are those of the core that the engine is.
-use Rattle.std.proofs.Common.{◌≡◌, ◌⊎◌, ℕ, ◌+◌, ◌*◌, ◌<◌, ◌≤◌, max, inl, inr, Bool, true, false, cond, List, [], ◌∷◌, ◌++◌, length, refl, sym, ap, ◌∙◌, subst, ⊎_elim, arith}
+use Rattle.std.proofs.Common.{◌≡◌, ◌⊎◌, ℕ, ◌+◌, ◌*◌, ◌<◌, ◌≤◌, max, inl, inr, Bool, List, ◌∷◌, ◌++◌, length, refl, sym, ap, ◌∙◌, subst, ⊎_elim, arith}
 use Rattle.std.specs.Prelude.{nat_lt, not, ◌==◌, ◌&&◌}
 use Rattle.std.proofs.lemmas.Bool.{cases_lt, lt-ltb, le-ltb}
 use Rattle.disk_model.specs.Disk.{part, SameOutside}
@@ -27,7 +27,7 @@ use Rattle.page_store.specs.StoreState.{Knows, store_plan}
 use Rattle.heap_model.specs.Core as core
 use Rattle.heap_model.specs.Core.{Core, all_records, all_words, is_dirty, log_origin, present_lsn}
 use Rattle.heap_model.specs.CoreCrash as crash
-use Rattle.heap_model.specs.CoreCrash.{held_of, IsCommitPrefix, IsLogged}
+use Rattle.heap_model.specs.CoreCrash.{IsCommitPrefix, IsLogged}
 use Rattle.heap_model.specs.Image.{Holds}
 use Rattle.heap_model.proofs.Outside.{outside_within}
 use Rattle.heap_model.proofs.Step.Logged.{all_logged}

@@ -1,14 +1,11 @@
 -- What holds of a log still holds after more memory was allocated for it.
-use Rattle.std.proofs.Common.{◌≡◌, ℕ, ◌+◌, ◌≤◌, List, [], append-nil, sym, ◌∙◌, subst, arith}
-use Rattle.std.proofs.lemmas.Bool.Decides.{nat_tests}
+use Rattle.std.proofs.Common.{◌≡◌, ◌+◌, ◌≤◌, List, [], append-nil, sym, ◌∙◌, subst}
 use Rattle.gated_log.specs.declared.log.Log.{Log}
 use Rattle.gated_log.specs.LogRoom.{used_bytes}
-use Rattle.gated_log.specs.LogState.{log_count, log_used, log_used_with, IsSameLog, Keeps}
+use Rattle.gated_log.specs.LogState.{log_used, IsSameLog, Keeps}
 use Rattle.heap_memory.specs.Leaves.{Adds}
 use Rattle.log_records.specs.declared.Record.{Record}
 use Rattle.memory_laws.proofs.Kept.Log.{keeps_same}
-use Rattle.page_redo.specs.Pages.{Pages}
-use Rattle.page_redo.specs.Redo.{EachLacks}
 
 module _ (old mid : Log) (same : IsSameLog old mid) where
   -- the records that are added to it are added to the log as it was
@@ -25,16 +22,6 @@ module _ (old mid : Log) (same : IsSameLog old mid) where
     kept = λ batches pending keeps. subst (Keeps mid batches) (sym (append-nil pending)) (keeps_same old mid batches pending same keeps);
   }
 
-  -- each page lacks its next record
-  pub lacks_next : (at : Pages) → EachLacks (log_count old + 1) at → EachLacks (log_count mid + 1) at
-  lacks_next at lacking = subst (λ (n : ℕ). EachLacks (n + 1) at) (sym same.count) lacking
-
-  pub used_after : (n : ℕ) → log_used_with mid n ≡ log_used_with old n
-  used_after n = λ i. used_bytes (same.place.tail i) (same.size i + n)
-
   -- as many of its bytes are used
   pub used_same : log_used mid ≡ log_used old
   used_same = λ i. used_bytes (same.place.tail i) (same.size i)
-
-covered : (tail buffer n room : ℕ) → 4 ≤ buffer → used_bytes tail (buffer + n) ≤ room → n ≤ room
-covered tail buffer n room head fits = grind (arith, nat_tests)

@@ -40,13 +40,6 @@ used_with_need log k = used_need (log_tail log) (buffer_size log) k
 pub need_little : (log : Log) (k : ℕ) → log_need log k ≤ k + 5
 need_little log k = need_few (buffer_size log) k
 
-need_least : (buffer k : ℕ) → k ≤ need_bytes buffer k
-need_least buffer k = grind (arith, nat_tests)
-
--- nor less than themselves
-pub need_more : (log : Log) (k : ℕ) → k ≤ log_need log k
-need_more log k = need_least (buffer_size log) k
-
 -- the log has room for the records that take these writes back, and for what is kept for other transactions
 pub abort_room : (log : Log) (number others : ℕ) (undo : List UndoEntry) → log_used log + (others + end_bytes (length undo)) ≤ log_room log
     → log_used_with log (length (spellings (abort_records number undo))) + others ≤ log_room log

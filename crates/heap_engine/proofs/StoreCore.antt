@@ -1,5 +1,5 @@
 -- The store of a page of an open heap is the flush of a core, in memory and on the disk.
-use Rattle.std.proofs.Common.{◌≡◌, ◌≢◌, inl, ℕ, ◌+◌, ◌*◌, ◌<◌, ◌≤◌, min, max, lit<, Bool, true, false, cond, List, [], ◌∷◌, ◌++◌, length, Result, Ok, Err, refl, sym, ap, ◌∙◌, subst, arith, append-nil}
+use Rattle.std.proofs.Common.{◌≡◌, ◌≢◌, ℕ, ◌+◌, ◌*◌, ◌<◌, ◌≤◌, min, max, lit<, Bool, true, false, cond, List, [], ◌∷◌, ◌++◌, Result, Ok, Err, refl, sym, ap, ◌∙◌, subst, append-nil}
 use Rattle.std.specs.Prelude.{fold, ◌==◌, nat_lt, OnOk, IsTrue, IsFalse, if◌then◌else◌}
 use Rattle.std.proofs.lemmas.Bool.{eqb-true, eqb-false}
 use Rattle.disk_model.specs.Disk.{Only}
@@ -11,13 +11,12 @@ use Rattle.gated_log.proofs.LogLaws.{buffer_size-Keeps}
 use Rattle.gated_log.specs.LogState.{buffer_size, log_place, log_room, is_waiting, Keeps}
 use Rattle.graph_model.specs.declared.event.Event.TheVariants.{Flush}
 use Rattle.graph_model.specs.History.{Account, account}
-use Rattle.image_plan.specs.declared.plan.Plan.{Plan}
 use Rattle.image_plan.specs.declared.superblock.Super.{Super}
 use Rattle.page_redo.specs.Origin.{Origin, heap_origin}
 use Rattle.log_records.specs.declared.Record.{Record}
 use Rattle.logged_pages.specs.declared.logged.LoggedPages.{LoggedPages}
 use Rattle.logged_pages.specs.OnDisk as pages
-use Rattle.logged_pages.specs.OnDisk.{batches_if, pending_if, HasStored, IsOnDisk, Stands}
+use Rattle.logged_pages.specs.OnDisk.{batches_if, pending_if, HasStored, Stands}
 use Rattle.logged_pages.proofs.DiskLaws.{stands_still}
 use Rattle.logged_pages.specs.State.{cache_of, log_of, store_of}
 use Rattle.page_cache.specs.CacheState as cache
@@ -33,7 +32,7 @@ use Rattle.page_store.specs.Page.{HasPage, SamePage}
 use Rattle.page_store.specs.StoreState.{store_plan, stored_entry, stored_lsn, has_failed, Knows}
 use Rattle.heap_memory.specs.Memory.{Memory}
 use Rattle.heap_model.specs.Core.{Core, log_origin, all_records, all_words, present_lsn, is_dirty, is_ahead, Stores, made, landing, storing, transfers, done, force_calls, store_calls, calls_of}
-use Rattle.heap_model.specs.CoreCrash.{held_of, IsLogged, IsSuperOf}
+use Rattle.heap_model.specs.CoreCrash.{IsLogged}
 use Rattle.heap_model.proofs.Step.Logged.{logged_landed}
 use Rattle.heap_model.proofs.Step.Room.{forced-with_batch, records_of-with_batch}
 use Rattle.heap_model.proofs.Step.Transfers.{calls_storing}

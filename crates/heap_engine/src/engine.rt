@@ -5,7 +5,7 @@ ghost use Rattle.gated_log.specs.LogState.{log_room, log_used, is_waiting, HasSp
 ghost use Rattle.graph_model.specs.History.{account};
 ghost use Rattle.graph_model.specs.History.{IsOfSession};
 ghost use Rattle.log_machine.specs.Machine.{words_in};
-ghost use Rattle.logged_pages.specs.State.{has_failed, log_of, pages_in_memory};
+ghost use Rattle.logged_pages.specs.State.{log_of, pages_in_memory};
 ghost use Rattle.heap_spaces.specs.Collection.{owed_by};
 ghost use Rattle.txn_table.specs.Table.{new_table};
 ghost use Rattle.heap_memory.specs.Memory.{own};

@@ -6,7 +6,6 @@ ghost use Rattle.heap_words.specs.Word.{bits, meaning, IsWord};
 ghost use Rattle.graph_model.specs.Plain.{reply_of};
 ghost use Rattle.graph_model.specs.declared.reply.Reply.TheVariants.{Done};
 ghost use Rattle.object_layout.specs.Layout.{field_words};
-ghost use Rattle.log_machine.specs.Machine.{field_at};
 ghost use Rattle.log_records.specs.Record.{spellings};
 ghost use Rattle.heap_memory.specs.Memory.{own, own_fields, place_word, fields_at as words_at};
 ghost use Rattle.heap_engine.specs.Barrier.{planned_records};
@@ -319,12 +318,12 @@ impl Engine {
             was,
             word,
         };
+        self.reserved = reserved;
         let write = PlannedWrite {
             scan: &scan,
             update,
         };
         self.pages.carry_out(disk, &write)?;
-        self.reserved = reserved;
         Ok(Reply::Done)
     }
 

@@ -1,5 +1,5 @@
 //! A seal: what has become reachable from a stable field is promoted, and the transaction is committed.
-ghost use Rattle.std.specs.Prelude.{◌≡◌, ◌↔◌, ◌+◌, ◌<◌, ◌≤◌, ◌^◌, length, Ok, OnErr, IfOk, IfSome, IsOk, IsSome, IsTrue};
+ghost use Rattle.std.specs.Prelude.{◌≡◌, ◌↔◌, ◌+◌, ◌<◌, ◌≤◌, ◌^◌, length, Ok, OnErr, IfOk, IfSome, IsSome};
 ghost use Rattle.gated_log.specs.LogState.{log_room, log_used_with, HasSpare};
 ghost use Rattle.graph_model.specs.Plain.{reply_of};
 ghost use Rattle.graph_model.specs.declared.reply.Reply.TheVariants.{Sealed};

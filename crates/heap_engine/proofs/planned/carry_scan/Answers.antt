@@ -6,11 +6,10 @@ use Rattle.log_records.specs.Record.{copy_record}
 use Rattle.logged_pages.proofs.CarriedLaws.{ok_no_err, on_ok, put_size, within_still}
 use Rattle.log_records.specs.declared.Record.{Record}
 use Rattle.logged_pages.specs.Carried.{HasPut}
-use Rattle.logged_pages.specs.State.{log_of, pages_in_memory}
+use Rattle.logged_pages.specs.State.{pages_in_memory}
 use Rattle.page_redo.specs.Redo.{redo_record}
 use Rattle.page_scanner.specs.PageCopies.{copies_left}
 use Rattle.page_scanner.specs.PageScan.{records_in}
-use Rattle.heap_engine.proofs.Appended.{few_records}
 use Rattle.heap_engine.proofs.PlannedScan.{records_at, taken_more, record_below, copies_before, put_copy, put_scan}
 use Rattle.heap_engine.proofs.planned.carry_scan.Goals as goal
 
@@ -32,12 +31,6 @@ pub carry_record-requires-clause-within : goal.carry_record-requires-clause-with
 carry_record-requires-clause-within g c =
     let l = c.loop-copy in
     within_still c.args.pages.now l.pages (g.D.Disk.extent c.args.disk.now) (g.D.Disk.extent l.disk) l.invariant.put.store (ap g.D.Disk.extent l.invariant.still) c.requires.within
-
-pub overflow_add-lsn : goal.overflow_add-lsn
-overflow_add-lsn g c =
-    let l = c.loop-copy in
-    let few = copies_before c.args.scan.now l.yielded (copies_left l.copy-iterator) l.invariant.left in
-    omega (arith, few, l.invariant.next, c.requires.known, few_records (log_of c.args.pages.now))
 
 pub loop-copy-preserved : goal.loop-copy-preserved
 loop-copy-preserved g c =

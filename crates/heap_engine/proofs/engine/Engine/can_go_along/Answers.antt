@@ -1,5 +1,5 @@
 use Rattle.std.proofs.Common.{◌≡◌, ℕ, length, refl, sym, ap, subst, arith}
-use Rattle.logged_pages.specs.State.{log_of, pages_in_memory}
+use Rattle.logged_pages.specs.State.{pages_in_memory}
 use Rattle.log_machine.specs.Translation.{translated_list}
 use Rattle.txn_table.specs.Table.{transaction_of}
 use Rattle.heap_engine.specs.Reserve.{WroteBelow, GoAlongBelow}

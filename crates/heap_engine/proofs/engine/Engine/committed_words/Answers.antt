@@ -2,7 +2,7 @@ use Rattle.std.proofs.Common.{◌≡◌, ◌+◌, ℕ, List, length, sym, ap, �
 use Rattle.log_machine.specs.declared.UndoEntry.{UndoEntry}
 use Rattle.log_machine.specs.Machine.{taken_back}
 use Rattle.committed_words.specs.Committed.{words_of}
-use Rattle.logged_pages.specs.State.{log_of, pages_in_memory}
+use Rattle.logged_pages.specs.State.{pages_in_memory}
 use Rattle.txn_table.specs.Table.{transaction_of}
 use Rattle.heap_engine.specs.Reserve.{undo_if, WroteBelow}
 use Rattle.heap_engine.proofs.Tables.{idle, told_undo, inside_of}

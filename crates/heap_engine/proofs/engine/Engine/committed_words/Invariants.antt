@@ -1,5 +1,5 @@
 use Rattle.committed_words.specs.Committed.{words_of}
-use Rattle.logged_pages.specs.State.{log_of, pages_in_memory}
+use Rattle.logged_pages.specs.State.{pages_in_memory}
 use Rattle.heap_engine.proofs.SessionsLeft.{IsLeft}
 use Rattle.heap_engine.proofs.engine.Engine.committed_words.Given as goal
 

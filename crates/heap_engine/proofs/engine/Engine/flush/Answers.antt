@@ -1,5 +1,5 @@
-use Rattle.std.proofs.Common.{rules, ◌≡◌, ◌≢◌, ◌+◌, ◌≤◌, ℕ, length, Result, Ok, Err, refl, sym, ap, ◌∙◌, subst, arith}
-use Rattle.std.specs.Prelude.{is_err, IsTrue}
+use Rattle.std.proofs.Common.{rules, ◌≡◌, ◌≢◌, ◌+◌, ◌≤◌, ℕ, length, Ok, Err, refl, sym, ap, ◌∙◌, subst, arith}
+use Rattle.std.specs.Prelude.{is_err}
 use Rattle.disk_model.proofs.MomentLaws.{weaker}
 use Rattle.gate_slot.specs.Passing.{Passes}
 use Rattle.graph_model.specs.declared.event.Event.TheVariants.{Flush}
@@ -10,7 +10,6 @@ use Rattle.core_laws.proofs.Step.Flush.{flush_granted}
 use Rattle.core_laws.proofs.Step.Events.{valid_after}
 use Rattle.heap_model.specs.Core.{Core, cut, log_origin}
 use Rattle.heap_model.proofs.Run.Calls.{calls-granted}
-use Rattle.logged_pages.specs.State.{cache_of, log_of, pages_in_memory}
 use Rattle.memory_laws.specs.CoreMemory.{IsMemory}
 use Rattle.memory_laws.proofs.Step.Flush.{flush_no_page, flush_clean, flush_done}
 use Rattle.page_redo.specs.Pages.{Pages}
@@ -21,7 +20,7 @@ use Rattle.heap_engine.specs.Refinement.{IsEngine, IsLeftByStep}
 use Rattle.heap_engine.proofs.EventCore.{engine_valid, engine_after, left_cut, cut_short}
 use Rattle.heap_engine.proofs.FlushCore.{past, is_there, left_refused, left_flushed, left_clean, refused_calls, clean_calls, dirty_calls, knows_left, disk_left, idle_steps, idle_on}
 use Rattle.heap_engine.proofs.OnPages.{within, dirty_is, behind, on_disk, left_by_step}
-use Rattle.heap_engine.proofs.StoreCore.{its, flushed_memory, flushed_knows, flushed_on, flush_passes}
+use Rattle.heap_engine.proofs.StoreCore.{flushed_memory, flushed_knows, flushed_on, flush_passes}
 use Rattle.heap_engine.proofs.engine.Engine.flush.Goals as goal
 
 pub returns-then-p-from-clause-core : goal.returns-then-p-from-clause-core

@@ -1,4 +1,4 @@
-use Rattle.std.proofs.Common.{rules, ◌≡◌, ℕ, ◌+◌, List, Ok, Err, refl, sym, ap, subst, ◌∙◌}
+use Rattle.std.proofs.Common.{rules, ◌≡◌, ℕ, ◌+◌, Ok, Err, refl, sym, ap, subst, ◌∙◌}
 use Rattle.disk_model.specs.Disk.{part}
 use Rattle.disk_model.proofs.MomentLaws.{weaker}
 use Rattle.gated_log.specs.Log.{with_batch, HoldsBatches}
@@ -7,11 +7,9 @@ use Rattle.graph_model.specs.declared.event.Event.TheVariants.{Force}
 use Rattle.graph_model.specs.declared.reply.Reply.TheVariants.{Durable}
 use Rattle.core_laws.proofs.Step.Events.{valid_after}
 use Rattle.heap_model.specs.Core.{cut, log_origin}
-use Rattle.logged_pages.specs.State.{log_of, pages_in_memory, store_of}
+use Rattle.logged_pages.specs.State.{log_of, store_of}
 use Rattle.page_cache.specs.CacheState.{cached, cache_store}
 use Rattle.page_cache.specs.declared.cache.PageCache.{PageCache}
-use Rattle.page_redo.specs.Pages.{Pages}
-use Rattle.page_store.specs.declared.store.PageStore.{PageStore}
 use Rattle.heap_engine.specs.declared.step_error.StepError.TheVariants.{Disk}
 use Rattle.heap_engine.specs.EngineState.{memory}
 use Rattle.heap_engine.specs.Refinement.{IsLeftByStep}

@@ -1,5 +1,5 @@
 use Rattle.std.proofs.Common.{sym, ◌∙◌, arith}
-use Rattle.logged_pages.specs.State.{log_of, pages_in_memory}
+use Rattle.logged_pages.specs.State.{pages_in_memory}
 use Rattle.txn_table.specs.Table.{transaction_of}
 use Rattle.heap_engine.proofs.ObjectFields.{held_few}
 use Rattle.heap_engine.proofs.Tables.{granted}

@@ -1,5 +1,5 @@
 use Rattle.std.proofs.Common.{◌<◌, ◌^◌, length, rules}
-use Rattle.logged_pages.specs.State.{log_of, pages_in_memory}
+use Rattle.logged_pages.specs.State.{pages_in_memory}
 use Rattle.heap_engine.proofs.Tables.{sound_new}
 use Rattle.heap_engine.proofs.engine.Engine.new.Goals as goal
 

@@ -1,7 +1,7 @@
 use Rattle.std.proofs.Common.{rules, true, ◌≡◌, Some, Result, Ok, Err, refl, sym, subst}
 use Rattle.std.specs.Prelude.{MatchResult, IfOk, IsErrAnd}
 use Rattle.page_scanner.specs.Passing.{IsScanned}
-use Rattle.logged_pages.specs.State.{log_of, pages_in_memory}
+use Rattle.logged_pages.specs.State.{pages_in_memory}
 use Rattle.page_scanner.specs.PageScan.{records_in}
 use Rattle.page_scanner.specs.Scan.{scan_records}
 use Rattle.heap_engine.specs.Barrier.{CanScan, is_page_scan, planned_records}

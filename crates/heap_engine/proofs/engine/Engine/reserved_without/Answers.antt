@@ -3,7 +3,7 @@ use Rattle.std.specs.Prelude.{IsSome, IfSome}
 use Rattle.std.proofs.lemmas.List.{length-reverse}
 use Rattle.log_machine.specs.declared.UndoEntry.{UndoEntry}
 use Rattle.log_machine.specs.Machine.{end_bytes}
-use Rattle.logged_pages.specs.State.{log_of, pages_in_memory}
+use Rattle.logged_pages.specs.State.{pages_in_memory}
 use Rattle.txn_table.specs.Table.{TransactionState, TableState, transaction_of}
 use Rattle.heap_engine.specs.Reserve.{AreSound}
 use Rattle.heap_engine.proofs.Tables.{there, told, say, kept_own}

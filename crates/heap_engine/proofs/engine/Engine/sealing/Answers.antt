@@ -1,5 +1,5 @@
 use Rattle.std.proofs.Common.{length}
-use Rattle.logged_pages.specs.State.{log_of, pages_in_memory}
+use Rattle.logged_pages.specs.State.{pages_in_memory}
 use Rattle.txn_table.specs.Table.{transaction_of}
 use Rattle.heap_engine.specs.Reserve.{undo_if}
 use Rattle.heap_engine.specs.EngineState.{memory}

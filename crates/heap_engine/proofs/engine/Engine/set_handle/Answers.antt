@@ -1,5 +1,5 @@
 use Rattle.std.proofs.Common.{length, sym, ◌∙◌}
-use Rattle.logged_pages.specs.State.{log_of, pages_in_memory}
+use Rattle.logged_pages.specs.State.{pages_in_memory}
 use Rattle.heap_engine.proofs.Tables.{granted, sound_handle}
 use Rattle.heap_engine.proofs.engine.Engine.set_handle.Goals as goal
 

@@ -1,6 +1,6 @@
 use Rattle.std.proofs.Common.{◌≡◌, length, Option, sym, ap, ◌∙◌, subst, arith}
 use Rattle.std.specs.Prelude.{IsSomeAnd}
-use Rattle.logged_pages.specs.State.{log_of, pages_in_memory}
+use Rattle.logged_pages.specs.State.{pages_in_memory}
 use Rattle.volatile_area.specs.Area.{HasField, with_field}
 use Rattle.txn_table.specs.Table.{TransactionState, transaction_of}
 use Rattle.heap_memory.specs.Memory.{fields_at}

@@ -1,15 +1,8 @@
-use Rattle.std.proofs.Common.{ℕ, ◌+◌, [], ◌∷◌, ap, arith, length-append}
+use Rattle.std.proofs.Common.{ℕ, ◌+◌, ap}
 use Rattle.logged_pages.proofs.CarriedLaws.{on_ok}
-use Rattle.logged_pages.specs.State.{log_of}
 use Rattle.heap_engine.specs.Barrier.{planned_records}
-use Rattle.heap_engine.proofs.Appended.{few_records}
 use Rattle.heap_engine.proofs.PlannedScan.{put_write}
 use Rattle.heap_engine.proofs.planned.PlannedWriteRecords.carry.Goals as goal
-
-pub count-requires : goal.count-requires
-count-requires g c =
-    let write = c.args.self.now in
-    omega (arith, c.requires.known, length-append (planned_records write.scan.now.scan) (write.update ∷ []), few_records (log_of c.args.pages.now))
 
 pub returns-clause-put : goal.returns-clause-put
 returns-clause-put g c =
