@@ -477,13 +477,27 @@ def _dict_of(other: Any) -> Any:
 
 
 class View(collections.abc.MappingView):
-    """What the views of a dict have in common."""
+    """What the views of a dict have in common: they are gone through as the dict is at each call."""
 
     __slots__ = ()
     _mapping: Dict
 
     def __init__(self, mapping: Dict):
         self._mapping = mapping
+
+    @staticmethod
+    def _part(content: Any) -> Any:
+        """What the view shows of the dict's content."""
+        raise NotImplementedError
+
+    def __iter__(self) -> Iterator[Any]:
+        return Steps(self._mapping, lambda content: iter(self._part(content)))
+
+    def __reversed__(self) -> Iterator[Any]:
+        return Steps(self._mapping, lambda content: reversed(self._part(content)))
+
+    def __repr__(self) -> str:
+        return f"{type(self).__name__}({list(self)!r})"
 
 
 # (that these classes of Python's have parameters is not known to Python 3.8)
@@ -492,14 +506,9 @@ class Keys(View, collections.abc.KeysView):  # type: ignore[type-arg]
 
     __slots__ = ()
 
-    def __iter__(self) -> Iterator[Any]:
-        return Steps(self._mapping, iter)
-
-    def __reversed__(self) -> Iterator[Any]:
-        return Steps(self._mapping, reversed)
-
-    def __repr__(self) -> str:
-        return f"Keys({list(self)!r})"
+    @staticmethod
+    def _part(content: Any) -> Any:
+        return content
 
 
 class Values(View, collections.abc.ValuesView):  # type: ignore[type-arg]
@@ -507,14 +516,9 @@ class Values(View, collections.abc.ValuesView):  # type: ignore[type-arg]
 
     __slots__ = ()
 
-    def __iter__(self) -> Iterator[Any]:
-        return Steps(self._mapping, lambda content: iter(content.values()))
-
-    def __reversed__(self) -> Iterator[Any]:
-        return Steps(self._mapping, lambda content: reversed(content.values()))
-
-    def __repr__(self) -> str:
-        return f"Values({list(self)!r})"
+    @staticmethod
+    def _part(content: Any) -> Any:
+        return content.values()
 
 
 class Items(View, collections.abc.ItemsView):  # type: ignore[type-arg]
@@ -522,14 +526,9 @@ class Items(View, collections.abc.ItemsView):  # type: ignore[type-arg]
 
     __slots__ = ()
 
-    def __iter__(self) -> Iterator[Any]:
-        return Steps(self._mapping, lambda content: iter(content.items()))
-
-    def __reversed__(self) -> Iterator[Any]:
-        return Steps(self._mapping, lambda content: reversed(content.items()))
-
-    def __repr__(self) -> str:
-        return f"Items({list(self)!r})"
+    @staticmethod
+    def _part(content: Any) -> Any:
+        return content.items()
 
 
 class Set(Container, collections.abc.MutableSet):  # type: ignore[type-arg]
