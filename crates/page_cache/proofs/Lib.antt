@@ -1,7 +1,10 @@
+pub mod ByPage
 pub mod ByPageLaws
+pub mod DirtyLaws
 pub mod Flushing
 pub mod ImageLaws
 pub mod Opening
 pub mod PutLaws
-pub mod RaiseLaws
+pub mod StoreLaws
 pub mod StoredLaws
+pub mod WriteLaws

@@ -17,6 +17,10 @@ cached cache = cache.pages
 abbrev pub cache_store : PageCache → PageStore
 cache_store cache = cache.store
 
+-- how many pages may be dirty
+abbrev pub cache_frames : PageCache → ℕ
+cache_frames cache = cache.frames
+
 -- how many there are, those of both spaces
 abbrev pub cache_pages : PageCache → ℕ
 cache_pages cache = store_pages cache.store

@@ -1,4 +1,5 @@
 pub mod ByPage
 pub mod CacheState
+pub mod Dirty
 pub mod Stored
 pub mod Writing

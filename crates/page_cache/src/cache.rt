@@ -1,8 +1,6 @@
 //! The page cache: the pages of a heap in memory, over those that are stored on a disk.
-ghost use Rattle.std.specs.Prelude.{◌≡◌, ◌≢◌, ℕ, ◌+◌, ◌*◌, ◌^◌, ◌<◌, ◌≤◌, List, length, fold, slice_index, min, nat_lt, is_err, None, Some, IsTrue, IsFalse, OnOk, OnErr, IfOk, if◌then◌else◌};
+ghost use Rattle.std.specs.Prelude.{◌≡◌, ◌≢◌, ℕ, ◌+◌, ◌*◌, ◌^◌, ◌<◌, ◌≤◌, List, length, slice_index, min, nat_lt, is_err, None, Some, IsTrue, IsFalse, OnOk, OnErr, IfOk, if◌then◌else◌, ◌⊎◌};
 ghost use Rattle.log_records.specs.declared.Record.{Record};
-ghost use Rattle.log_records.specs.Record.{copy_record};
-ghost use Rattle.log_machine.specs.Machine.{put_record};
 ghost use Rattle.log_machine.specs.Effect.{WritesBelow, EachWritesBelow};
 ghost use Rattle.disk_model.specs.Disk.{Only};
 ghost use Rattle.disk_model.specs.Keeps.{KeepsDisk, OnlyReads};
@@ -11,6 +9,8 @@ ghost use Rattle.gate_slot.specs.Passing.{Passes};
 ghost use Rattle.image_plan.specs.Plan.{image_size};
 ghost use Rattle.page_redo.specs.Redo.{EachLacks, redo_record, redo_all};
 ghost use Rattle.page_redo.specs.Pages.{lsn_of};
+ghost use Rattle.page_redo.specs.Victim.{differs, dirty_pages, oldest, victim};
+ghost use Rattle.page_redo.specs.Victim.{IsNoYounger};
 ghost use Rattle.page_store.specs.StoreState.{store_pages, stored_lsn, stored_entry};
 ghost use Rattle.page_store.specs.Frame.{spare};
 ghost use Rattle.page_store.specs.OpenCause.{open_device_result};
@@ -18,13 +18,15 @@ ghost use Rattle.page_store.specs.Page.{HasPage, SamePage, SameButPage, IsStorin
 ghost use Rattle.page_store.specs.Gates.{open_gates};
 ghost use Rattle.page_redo.specs.Prefix.{EachHoldsPrefix};
 ghost use Rattle.page_cache.specs.ByPage.{put_page};
+ghost use Rattle.page_cache.specs.Dirty.{page_count, Lists};
 ghost use Rattle.page_cache.specs.Stored.{stored_pages};
 
 use crate::cached::CachedPages;
+use crate::dirty::DirtyPages;
 use crate::effect::Effect;
 use disk_model::{Disk, DiskError};
 use image_plan::Plan;
-use log_records::{CopyRef, Record};
+use log_records::Record;
 use page_store::{PageStore, ReadPagesError};
 use std::alloc::{AllocError, Global};
 
@@ -33,26 +35,35 @@ use std::alloc::{AllocError, Global};
 pub struct PageCache {
     pages: CachedPages,
     store: PageStore,
+    // How many pages may be dirty.
+    frames: u32,
+    dirty: DirtyPages,
     // Each page that can be stored is in memory, in a state not older than the stored one.
     ghost whole: { length pages.lsns ≡ store_pages store },
+    ghost sized: { length pages.words ≡ 64 * store_pages store },
     ghost ahead: { (p : ℕ) → p < store_pages store → stored_lsn store p ≤ lsn_of pages p },
+    // The list has the dirty pages.
+    ghost places: { page_count dirty ≡ store_pages store },
+    ghost listed: { Lists (differs (lsn_of pages) (stored_lsn store)) dirty },
 }
 
 impl PageCache {
     ghost use Rattle.page_store.specs.StoreState.{store_plan, stored_frame, Knows};
-    ghost use Rattle.page_cache.specs.CacheState.{cached, cache_store, cache_pages, cache_size, cache_log, cached_page, cached_lsn, flushed_lsn, is_dirty, cache_failed, IsFirstPast, IsOriginOf, MayStandBeside};
+    ghost use Rattle.page_cache.specs.CacheState.{cached, cache_store, cache_frames, cache_pages, cache_size, cache_log, cached_page, cached_lsn, flushed_lsn, is_dirty, cache_failed, IsFirstPast, IsOriginOf, MayStandBeside};
     ghost use Rattle.page_redo.specs.Origin.{Origin, records_below};
 
-    /// Reads the pages that are stored after the log of an image.
+    /// Reads the pages that are stored after the log of an image, of which so many frames may be dirty. Takes all memory that the cache needs.
     pub fn open<D: Disk>(
         alloc: Global,
         disk: &mut D,
         plan: Plan,
+        frames: u32,
     ) -> Result<PageCache, ReadPagesError>
         requires few { plan.pages ≤ 16384 }
         requires inside { image_size plan.pages plan.log_bytes ≤ D.extent disk.old }
 
         ensures plan { IfOk result (λ cache. store_plan (cache_store cache) ≡ plan) }
+        ensures frames { IfOk result (λ cache. cache_frames cache ≡ frames) }
         ensures words { IfOk result (λ cache. length (cached cache).words ≡ 64 * cache_pages cache) }
         ensures lsns { IfOk result (λ cache. length (cached cache).lsns ≡ cache_pages cache) }
         ensures clean { IfOk result (λ cache. (p : ℕ) → p < cache_pages cache → cached_lsn cache p ≡ flushed_lsn cache p) }
@@ -64,10 +75,14 @@ impl PageCache {
         ensures disk { OnlyReads D.Disk disk.old disk.new (open_device_result result) }
     {
         let (store, words) = PageStore::open(alloc, disk, plan)?;
-        let lsns = stored_lsns(alloc, &store, 2 * plan.pages)?;
+        let pages = 2 * plan.pages;
+        let lsns = stored_lsns(alloc, &store, pages)?;
+        let dirty = DirtyPages::none(alloc, pages)?;
         Ok(PageCache {
             pages: CachedPages::of(words, lsns),
             store,
+            frames,
+            dirty,
         })
     }
 
@@ -136,13 +151,67 @@ impl PageCache {
         self.store.failed()
     }
 
-    /// Puts the record of that LSN on those of its pages that lack it, which have it from then on.
+    /// How many pages may be dirty.
+    pub fn frames(&self) -> u32
+        ensures { result ≡ cache_frames self.now }
+    {
+        self.frames
+    }
+
+    /// The page that has to be stored before page `p` is written: the dirty page with the least LSN, and of several the first. There is none as
+    /// long as fewer pages are dirty than may be, or if page `p` is dirty.
+    pub fn victim(&self, p: u32) -> Option<u32>
+        requires { p < cache_pages self.now }
+        ensures { result ≡ victim (cache_pages self.now) (cache_frames self.now) (cached_lsn self.now) (flushed_lsn self.now) p }
+    {
+        if self.dirty(p) || self.dirty.count() < self.frames {
+            return None;
+        }
+        self.oldest()
+    }
+
+    /// The dirty page with the least LSN, and of several the first.
+    fn oldest(&self) -> Option<u32>
+        ensures { result ≡ oldest (cached_lsn self.now) (dirty_pages (cache_pages self.now) (cached_lsn self.now) (flushed_lsn self.now)) }
+    {
+        let listed = self.dirty.as_slice();
+        let mut oldest = *listed.first()?;
+        for p in listed {
+            oldest = self.older(oldest, *p);
+        }
+        Some(oldest)
+    }
+
+    /// Of two pages the one with the lesser LSN, or else the one with the lesser number.
+    fn older(&self, p: u32, q: u32) -> u32
+        requires first { p < cache_pages self.now }
+        requires second { q < cache_pages self.now }
+        ensures one { (result ≡ p) ⊎ (result ≡ q) }
+        ensures before_first { IsNoYounger (cached_lsn self.now) result p }
+        ensures before_second { IsNoYounger (cached_lsn self.now) result q }
+    {
+        if (self.pages.lsn(q), q) < (self.pages.lsn(p), p) {
+            q
+        } else {
+            p
+        }
+    }
+
+    /// Puts the record of that LSN on those of its pages that lack it, which have it from then on. More pages may be dirty then than may be
+    /// before a write.
     pub fn redo(&mut self, lsn: u64, rec: &Record)
         requires { WritesBelow (length (cached self.old).words) rec.now }
         ensures redone { cached self.new ≡ redo_record lsn (cached self.old) rec.now }
         ensures store { cache_store self.new ≡ cache_store self.old }
+        ensures frames { cache_frames self.new ≡ cache_frames self.old }
     {
-        self.pages.redo(lsn, rec);
+        let mut from = 0;
+        while let Some(p) = rec.next_page(from) {
+            if self.pages.lsn(p) < lsn {
+                self.put(lsn, p, rec);
+            }
+            from = p + 1;
+        }
     }
 
     /// Redoes these records in order, of which the first has that LSN.
@@ -151,53 +220,41 @@ impl PageCache {
         requires lsns { first + length records.now < 2 ^ 64 }
         ensures redone { cached self.new ≡ redo_all first (cached self.old) records.now }
         ensures store { cache_store self.new ≡ cache_store self.old }
+        ensures frames { cache_frames self.new ≡ cache_frames self.old }
     {
-        self.pages.redo_all(first, records);
+        for (i, rec) in records.iter().enumerate() {
+            self.redo(first + i as u64, rec);
+        }
     }
 
-    /// Puts what the record of that LSN writes on page `p`, which lacks it and has it from then on. Its other pages stay as they were.
+    /// Puts what the record of that LSN writes on page `p`, which lacks it and has it from then on. Its other pages stay as they were. No page has
+    /// to be stored before.
     pub fn write<E: Effect>(&mut self, lsn: u64, p: u32, effect: &E)
+        requires page { p < cache_pages self.old }
+        requires lacks { cached_lsn self.old p < lsn }
+        requires way { victim (cache_pages self.old) (cache_frames self.old) (cached_lsn self.old) (flushed_lsn self.old) p ≡ None }
+        requires inside { WritesBelow (length (cached self.old).words) (E.rec effect.now) }
+        ensures put { cached self.new ≡ put_page lsn p (cached self.old) (E.rec effect.now) }
+        ensures store { cache_store self.new ≡ cache_store self.old }
+        ensures frames { cache_frames self.new ≡ cache_frames self.old }
+    {
+        self.put(lsn, p, effect);
+    }
+
+    /// The same, however many pages are dirty.
+    fn put<E: Effect>(&mut self, lsn: u64, p: u32, effect: &E)
         requires page { p < cache_pages self.old }
         requires lacks { cached_lsn self.old p < lsn }
         requires inside { WritesBelow (length (cached self.old).words) (E.rec effect.now) }
         ensures put { cached self.new ≡ put_page lsn p (cached self.old) (E.rec effect.now) }
         ensures store { cache_store self.new ≡ cache_store self.old }
+        ensures frames { cache_frames self.new ≡ cache_frames self.old }
     {
+        let dirty = self.dirty(p);
         self.pages.write(lsn, p, effect);
-    }
-
-    /// Puts a new record, of that LSN, on its pages: no page has it yet.
-    pub fn apply(&mut self, lsn: u64, rec: &Record)
-        requires new { EachLacks lsn (cached self.old) }
-        requires inside { WritesBelow (length (cached self.old).words) rec.now }
-        ensures words { (cached self.new).words ≡ put_record (cached self.old).words rec.now }
-        ensures redone { cached self.new ≡ redo_record lsn (cached self.old) rec.now }
-        ensures store { cache_store self.new ≡ cache_store self.old }
-    {
-        self.pages.apply(lsn, rec);
-    }
-
-    /// The same for the record of a copy.
-    pub fn apply_copy(&mut self, lsn: u64, copy: &CopyRef<'_>)
-        requires new { EachLacks lsn (cached self.old) }
-        requires inside { WritesBelow (length (cached self.old).words) (copy_record copy.now) }
-        ensures words { (cached self.new).words ≡ put_record (cached self.old).words (copy_record copy.now) }
-        ensures redone { cached self.new ≡ redo_record lsn (cached self.old) (copy_record copy.now) }
-        ensures store { cache_store self.new ≡ cache_store self.old }
-    {
-        self.pages.apply_copy(lsn, copy);
-    }
-
-    /// Puts new records on their pages in order, of which the first has that LSN.
-    pub fn apply_all(&mut self, first: u64, records: &[Record])
-        requires new { EachLacks first (cached self.old) }
-        requires inside { EachWritesBelow (length (cached self.old).words) records.now }
-        requires lsns { first + length records.now < 2 ^ 64 }
-        ensures words { (cached self.new).words ≡ fold put_record (cached self.old).words records.now }
-        ensures redone { cached self.new ≡ redo_all first (cached self.old) records.now }
-        ensures store { cache_store self.new ≡ cache_store self.old }
-    {
-        self.pages.apply_all(first, records);
+        if !dirty {
+            self.dirty.add(p);
+        }
     }
 
     /// Stores page `p`, which is dirty, as it is now. The log's records up to the LSN `forced` are on the disk, and the page is not ahead
@@ -214,6 +271,7 @@ impl PageCache {
 
         // What is in memory.
         ensures pages { cached self.new ≡ cached self.old }
+        ensures frames { cache_frames self.new ≡ cache_frames self.old }
         ensures plan { store_plan (cache_store self.new) ≡ store_plan (cache_store self.old) }
         ensures clean { OnOk result (flushed_lsn self.new p ≡ cached_lsn self.old p) }
         ensures frame { OnOk result (stored_frame (cache_store self.new) p ≡ Some (spare (stored_frame (cache_store self.old) p))) }
@@ -246,7 +304,9 @@ impl PageCache {
     {
         let lsn = self.pages.lsn(p);
         prove!(lsn <= forced);
-        self.store.store(disk, p, lsn, &self.pages.page(p))
+        let stored = self.store.store(disk, p, lsn, &self.pages.page(p));
+        self.dirty.remove_if(stored.is_ok(), p);
+        stored
     }
 }
 

@@ -1,16 +1,11 @@
-//! Pages in memory: records are put on those that lack them.
+//! Pages in memory, each with its LSN.
 ghost use Rattle.std.specs.Prelude.{◌≡◌, ℕ, ◌+◌, ◌*◌, ◌<◌, ◌^◌, None, Some, length, slice_index, vec_len};
-ghost use Rattle.log_records.specs.Record.{copy_record};
-ghost use Rattle.log_machine.specs.Effect.{WritesBelow, EachWritesBelow};
+ghost use Rattle.log_machine.specs.Effect.{WritesBelow};
 ghost use Rattle.page_redo.specs.Pages.{page_words, lsn_of};
-ghost use Rattle.page_redo.specs.Redo.{EachLacks, redo_record, redo_all};
+ghost use Rattle.page_redo.specs.Redo.{EachLacks};
 ghost use Rattle.page_cache.specs.ByPage.{put_page};
 
-use crate::applying::{apply_copy, apply_record};
 use crate::effect::Effect;
-use crate::putting::put_record;
-use crate::raising::raise_touched;
-use log_records::{CopyRef, Record};
 use page_store::PAGE_WORDS;
 use std::marker::Model;
 
@@ -93,26 +88,6 @@ impl CachedPages {
         page
     }
 
-    /// Puts the record of that LSN on the pages that lack it, and raises the LSN of each page that it touches.
-    pub fn redo(&mut self, lsn: u64, rec: &Record)
-        requires { WritesBelow (length self.old.words) rec.now }
-        ensures { self.new ≡ redo_record lsn self.old rec.now }
-    {
-        put_record(&mut self.words, &self.lsns, lsn, rec);
-        raise_touched(&mut self.lsns, lsn, rec);
-    }
-
-    /// Puts these records, in order, on the pages that lack them. The first of them has that LSN.
-    pub fn redo_all(&mut self, first: u64, records: &[Record])
-        requires inside { EachWritesBelow (length self.old.words) records.now }
-        requires lsns { first + length records.now < 2 ^ 64 }
-        ensures { self.new ≡ redo_all first self.old records.now }
-    {
-        for (i, rec) in records.iter().enumerate() {
-            self.redo(first + i as u64, rec);
-        }
-    }
-
     /// Puts what the record of that LSN writes on page `p`, which has the record then.
     pub fn write<E: Effect>(&mut self, lsn: u64, p: u32, effect: &E)
         requires page { p < length self.old.lsns }
@@ -121,36 +96,6 @@ impl CachedPages {
     {
         effect.put_on(p, &mut self.words);
         self.lsns[p as usize] = lsn;
-    }
-
-    /// Puts a new record, of that LSN, on its pages, which all lack it, and raises the LSN of each page that it touches.
-    pub fn apply(&mut self, lsn: u64, rec: &Record)
-        requires new { EachLacks lsn self.old }
-        requires inside { WritesBelow (length self.old.words) rec.now }
-        ensures { self.new ≡ redo_record lsn self.old rec.now }
-    {
-        apply_record(&mut self.words, &mut self.lsns, lsn, rec);
-    }
-
-    /// The same for the record of a copy.
-    pub fn apply_copy(&mut self, lsn: u64, copy: &CopyRef<'_>)
-        requires new { EachLacks lsn self.old }
-        requires inside { WritesBelow (length self.old.words) (copy_record copy.now) }
-        ensures { self.new ≡ redo_record lsn self.old (copy_record copy.now) }
-    {
-        apply_copy(&mut self.words, &mut self.lsns, lsn, copy);
-    }
-
-    /// Puts new records, in order, on their pages, which all lack them. The first of them has that LSN.
-    pub fn apply_all(&mut self, first: u64, records: &[Record])
-        requires new { EachLacks first self.old }
-        requires inside { EachWritesBelow (length self.old.words) records.now }
-        requires lsns { first + length records.now < 2 ^ 64 }
-        ensures { self.new ≡ redo_all first self.old records.now }
-    {
-        for (i, rec) in records.iter().enumerate() {
-            self.apply(first + i as u64, rec);
-        }
     }
 }
 

@@ -8,7 +8,6 @@ ghost use Rattle.page_redo.specs.Pages.{touched};
 ghost use Rattle.page_cache.specs.ByPage.{IsNextOf, on_page};
 ghost use Rattle.page_cache.specs.Writing.{AreBelow, pages_of};
 
-use crate::applying::put_words;
 use log_machine::{Runs, forwarding_word};
 use log_records::{CopyRef, Record};
 use page_store::PAGE_WORDS;
@@ -147,5 +146,15 @@ fn put_writes_on(p: u32, words: &mut [u64], writes: &[(u32, u64)])
         if *address / PAGE_WORDS as u32 == p {
             words[*address as usize] = *word;
         }
+    }
+}
+
+/// Puts words from an address on.
+fn put_words(words: &mut [u64], address: usize, new: &[u64])
+    requires { AreBelow (length words.old) (enumerate_from address new.now) }
+    ensures { words.new ≡ put_all words.old (enumerate_from address new.now) }
+{
+    for (i, word) in new.iter().enumerate() {
+        words[address + i] = *word;
     }
 }

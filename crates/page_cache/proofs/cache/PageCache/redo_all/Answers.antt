@@ -1,12 +1,20 @@
-use Rattle.std.proofs.Common.{length, ap, ◌∙◌, arith}
-use Rattle.page_redo.specs.Pages.{Pages, lsn_of}
-use Rattle.page_redo.proofs.RedoLaws.{lsns-redo_all, lsn-rises_all}
+use Rattle.std.proofs.Common.{◌+◌, ◌∙◌, length, ap, sym}
+use Rattle.page_redo.specs.Pages.{Pages}
+use Rattle.page_redo.specs.Redo.{redo_record}
+use Rattle.page_redo.proofs.RedoLaws.{redo_all-more, words-redo_record}
+use Rattle.page_cache.specs.CacheState.{cached}
 use Rattle.page_cache.proofs.cache.PageCache.redo_all.Goals as goal
 
-pub invariant_of-self : goal.invariant_of-self
-invariant_of-self c =
-    let before = c.args.self.now in
+pub loop-i-preserved : goal.loop-i-preserved
+loop-i-preserved c =
+    let rec = c.index-records-i.result in
+    let lsn = c.args.first + c.loop-i.i in
     record {
-      whole = ap (λ (at : Pages). length at.lsns) c.redo_all.ensures ∙ lsns-redo_all c.args.first before.pages c.args.records.now ∙ before.whole;
-      ahead = λ p lt. omega (arith, ap (λ (at : Pages). lsn_of at p) c.redo_all.ensures, lsn-rises_all c.args.first before.pages c.args.records.now p (omega (arith, before.whole)), before.ahead p lt);
+      size = ap (λ (at : Pages). length at.words) c.redo.ensures.redone ∙ words-redo_record lsn (cached c.loop-i.self) rec ∙ c.loop-i.invariant.size;
+      so_far =
+          c.redo.ensures.redone
+          ∙ ap (λ (at : Pages). redo_record lsn at rec) c.loop-i.invariant.so_far
+          ∙ sym (redo_all-more c.args.first (cached c.args.self.now) c.args.records.now c.loop-i.i rec c.loop-i-test.true c.index-records-i.is);
+      store = c.redo.ensures.store ∙ c.loop-i.invariant.store;
+      frames = c.redo.ensures.frames ∙ c.loop-i.invariant.frames;
     }
