@@ -1,5 +1,13 @@
-pub mod ByPage
+pub mod AdvanceLaws
+pub mod Batches
 pub mod CarriedLaws
+pub mod CarryingOut
 pub mod DiskLaws
+pub mod Frames
 pub mod Middle
+pub mod PutSteps
+pub mod Putting
 pub mod Spare
+pub mod Stores
+pub mod TakingBack
+pub mod Writes

@@ -10,7 +10,7 @@ use Rattle.page_redo.proofs.RedoLaws.{redo_all-more, words-redo_record}
 use Rattle.page_redo.specs.Pages.{Pages, page_words, lsn_of}
 use Rattle.page_redo.specs.Prefix.{HasAllWords, HoldsPrefix, EachHoldsPrefix, IsPresent}
 use Rattle.page_redo.specs.Redo.{redo_all, redo_record}
-use Rattle.logged_pages.proofs.ByPage.{IsPutBefore}
+use Rattle.page_cache.proofs.ByPage.{IsPutBefore}
 
 -- so it is where the record is on the pages before one alone, if it is before the record and after it
 pub middle_prefixes : (o : Origin) (all : List Record) (lsn : ℕ) (rec : Record) (old now : Pages) (from : ℕ) → EachHoldsPrefix o all old → EachHoldsPrefix o all (redo_record lsn old rec) → IsPutBefore lsn rec old from now → EachHoldsPrefix o all now

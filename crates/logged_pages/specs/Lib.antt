@@ -1,3 +1,4 @@
+pub mod Advancing
 pub mod Appended
 pub mod Carried
 pub mod OnDisk

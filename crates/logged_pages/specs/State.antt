@@ -5,7 +5,7 @@ use Rattle.gated_log.specs.Log.{records_of}
 use Rattle.gated_log.specs.LogState.{Keeps, log_count}
 use Rattle.page_redo.specs.Origin.{Origin, first_lsn}
 use Rattle.log_records.specs.declared.Record.{Record}
-use Rattle.page_cache.specs.CacheState.{cached, cache_size, cache_store}
+use Rattle.page_cache.specs.CacheState.{cached, cache_frames, cache_size, cache_store}
 use Rattle.page_cache.specs.declared.cache.PageCache.{PageCache}
 use Rattle.page_redo.specs.Pages.{Pages}
 use Rattle.page_redo.specs.Prefix.{EachHoldsPrefix, IsPresent}
@@ -27,6 +27,10 @@ pages_in_memory pages = cached pages.cache
 -- where they are stored
 abbrev pub store_of : LoggedPages → PageStore
 store_of pages = cache_store pages.cache
+
+-- how many pages may be dirty
+abbrev pub frames_of : LoggedPages → ℕ
+frames_of pages = cache_frames pages.cache
 
 -- whether a force or a store has failed
 abbrev pub has_failed : LoggedPages → Bool

@@ -1,5 +1,5 @@
 //! A log and its pages in memory.
-ghost use Rattle.std.specs.Prelude.{◌≡◌, ℕ, ◌+◌, ◌*◌, ◌<◌, ◌≤◌, ◌^◌, ◌++◌, List, [], false, Ok, is_err, IsOk, IsFalse, IsTrue, OnErr, OnOk, None, length, nat_lt, slice_index, ◌≢◌, if◌then◌else◌};
+ghost use Rattle.std.specs.Prelude.{◌≡◌, ℕ, ◌+◌, ◌*◌, ◌<◌, ◌≤◌, ◌^◌, ◌++◌, List, [], ◌∷◌, false, Ok, is_err, IsOk, IsFalse, IsTrue, OnErr, OnOk, None, length, nat_lt, slice_index, ◌≢◌, if◌then◌else◌};
 ghost use Rattle.disk_model.specs.Disk.{Only, SameOutside};
 ghost use Rattle.disk_model.specs.Keeps.{KeepsDisk};
 ghost use Rattle.disk_model.specs.Moments.{LeavesOnly};
@@ -8,14 +8,16 @@ ghost use Rattle.gated_log.specs.Log.{with_batch};
 ghost use Rattle.gated_log.specs.LogState.{log_count, log_forced, log_place, log_room, log_used, log_used_with, is_waiting, HasSpare, IsBufferEmpty, IsSameLog, Keeps, KeepsMemory};
 ghost use Rattle.image_plan.specs.Plan.{log_offset};
 ghost use Rattle.log_machine.specs.Effect.{EachWritesBelow, WritesBelow};
+ghost use Rattle.page_redo.specs.Carry.{Carry, page_written, way_made};
 ghost use Rattle.page_redo.specs.Origin.{Origin};
 ghost use Rattle.log_records.specs.declared.Record.{Record};
 ghost use Rattle.log_records.specs.Record.{spellings};
 ghost use Rattle.page_cache.specs.ByPage.{put_page};
-ghost use Rattle.page_cache.specs.CacheState.{cached, cached_lsn, cache_failed, cache_log, cache_pages, flushed_lsn, is_dirty};
+ghost use Rattle.page_cache.specs.CacheState.{cached, cached_lsn, cache_failed, cache_frames, cache_log, cache_pages, flushed_lsn, is_dirty};
 ghost use Rattle.page_redo.specs.Pages.{lsn_of};
 ghost use Rattle.page_redo.specs.Prefix.{HasAllWords};
-ghost use Rattle.page_redo.specs.Redo.{EachLacks, redo_record};
+ghost use Rattle.page_redo.specs.Redo.{EachLacks};
+ghost use Rattle.page_redo.specs.Victim.{dirty_pages, victim};
 ghost use Rattle.page_store.specs.StoreState.{store_plan, stored_entry, Knows};
 
 use crate::records::Records;
@@ -38,15 +40,20 @@ pub struct LoggedPages {
     ghost works: { failed ≡ false → cache_failed cache ≡ false },
     ghost sized: { length (cached cache).words ≡ 64 * cache_pages cache },
     ghost few: { cache_pages cache ≤ 32768 },
+    // No more pages are dirty than may be.
+    ghost bounded: { length (dirty_pages (cache_pages cache) (cached_lsn cache) (flushed_lsn cache)) ≤ cache_frames cache },
+    ghost some_frames: { 0 < cache_frames cache },
     // The log lies in front of the pages' frames.
     ghost place: { log_place log ≡ log_offset },
     ghost behind: { log_room log ≡ cache_log cache },
 }
 
 impl LoggedPages {
-    ghost use Rattle.logged_pages.specs.State.{log_of, cache_of, pages_in_memory, store_of, has_failed, next_lsn_in, LiesWithin, IsBehind, IsUpToDate};
+    ghost use Rattle.logged_pages.specs.Appended.{IsAppended};
+    ghost use Rattle.logged_pages.specs.Advancing.{Advances, AdvancesOnDisk, IsAt, IsAtWith, NothingMore, PutsAll, carried_by, was_forced};
+    ghost use Rattle.logged_pages.specs.State.{log_of, cache_of, frames_of, pages_in_memory, store_of, has_failed, next_lsn_in, LiesWithin, IsBehind, IsUpToDate};
     ghost use Rattle.logged_pages.specs.OnDisk.{batches_if, pending_if, force_calls, is_ahead, store_calls, HasStored, IsLeft, IsOnDisk};
-    ghost use Rattle.logged_pages.specs.Carried.{Carries, HasPut};
+    ghost use Rattle.logged_pages.specs.Carried.{Carries, HasCarried};
 
     /// A log and its pages, none of which has a record that the log lacks. No store has failed.
     pub fn new(log: Log, cache: PageCache) -> LoggedPages
@@ -54,6 +61,8 @@ impl LoggedPages {
         requires works { IsFalse (cache_failed cache) }
         requires sized { length (cached cache).words ≡ 64 * cache_pages cache }
         requires few { cache_pages cache ≤ 32768 }
+        requires bounded { length (dirty_pages (cache_pages cache) (cached_lsn cache) (flushed_lsn cache)) ≤ cache_frames cache }
+        requires some_frames { 0 < cache_frames cache }
         requires place { log_place log ≡ log_offset }
         requires behind { log_room log ≡ cache_log cache }
         ensures log { log_of result ≡ log }
@@ -79,6 +88,15 @@ impl LoggedPages {
         ensures { result ≡ cache_pages (cache_of self.now) }
     {
         self.cache.pages()
+    }
+
+    /// How many pages may be dirty.
+    pub fn frames(&self) -> u32
+        ensures value { result ≡ frames_of self.now }
+        ensures some { 0 < result }
+        ensures bounded { length (dirty_pages (cache_pages (cache_of self.now)) (cached_lsn (cache_of self.now)) (flushed_lsn (cache_of self.now))) ≤ result }
+    {
+        self.cache.frames()
     }
 
     /// The words of all pages, by address.
@@ -182,7 +200,8 @@ impl LoggedPages {
     }
 
     /// Makes the change that these records say: all of them are appended to the log, and then each is put on its pages with its LSN. There is
-    /// room in the log and memory for them. After an error nothing else may follow.
+    /// room in the log and memory for them. A page is stored first where a clean one is written and as many are dirty as may be. After an error nothing
+    /// else may follow.
     pub fn carry_out<D: Disk, R: Records>(
         &mut self,
         disk: &mut D,
@@ -195,13 +214,35 @@ impl LoggedPages {
         requires within { LiesWithin self.old (D.extent disk.old) }
         ensures disk { KeepsDisk D.Disk disk.old disk.new result }
         ensures failed { has_failed self.new ≡ is_err result }
-        ensures carries { OnOk result (Carries self.old self.new (R.list records.now)) }
-        ensures up_to_date { (o : Origin) (batches : List (List Record)) (pending : List Record) → HasAllWords o → IsUpToDate o batches pending self.old → OnOk result (IsUpToDate o batches (pending ++ R.list records.now) self.new) }
-        ensures still { (disk.new ≡ disk.old) × IsOk result }
+
+        // In memory.
+        ensures carried { OnOk result (HasCarried self.old self.new (R.list records.now)) }
+        ensures up_to_date { (o : Origin) (batches : List (List Record)) (pending : List Record) → HasAllWords o → IsUpToDate o batches pending self.old
+            → OnOk result (IsUpToDate o (batches_if (was_forced self.old self.new) batches (pending ++ R.list records.now)) (pending_if (was_forced self.old self.new) (pending ++ R.list records.now)) self.new) }
+        ensures carry { (k : Carry) → IsAtWith (length (R.list records.now)) k self.old → OnOk result (IsAt (carried_by self.old k (R.list records.now)) self.new) }
+
+        // Where no page has to be stored the disk is not called.
+        ensures still { (k : Carry) → IsAtWith (length (R.list records.now)) k self.old → (carried_by self.old k (R.list records.now)).calls ≡ k.calls → IsOk result × (disk.new ≡ disk.old) × Carries self.old self.new (R.list records.now) }
+        ensures idle { cache_pages (cache_of self.old) ≤ frames_of self.old → IsOk result × (disk.new ≡ disk.old) × Carries self.old self.new (R.list records.now) }
+
+        // On the disk.
+        ensures on_disk { IsTrue D.tells → (o : Origin) (batches : List (List Record)) (pending : List Record) → HasAllWords o → IsUpToDate o batches pending self.old → IsOnDisk o batches self.old (D.bytes disk.old)
+            → AdvancesOnDisk D.Disk (length (R.list records.now)) self.old self.new disk.old disk.new result (λ k. carried_by self.old k (R.list records.now)) o batches (pending ++ R.list records.now) }
     {
         let first = self.log.next_lsn();
-        records.append(&mut self.log);
+        self.append(records);
         records.carry(disk, self, first)
+    }
+
+    /// Appends them to the log.
+    fn append<R: Records>(&mut self, records: &R)
+        requires memory { HasSpare (log_of self.old) (length (spellings (R.list records.now))) }
+        requires room { log_used_with (log_of self.old) (length (spellings (R.list records.now))) ≤ log_room (log_of self.old) }
+        ensures appended { IsAppended (log_of self.old) (log_of self.new) (R.list records.now) }
+        ensures cache { cache_of self.new ≡ cache_of self.old }
+        ensures failed { has_failed self.new ≡ has_failed self.old }
+    {
+        records.append(&mut self.log);
     }
 
     /// Puts the record of that LSN, which the log has, on those of its pages that lack it, one after another.
@@ -215,10 +256,7 @@ impl LoggedPages {
         requires known { lsn < next_lsn_in (log_of self.old) }
         requires inside { WritesBelow (length (pages_in_memory self.old).words) (E.rec effect.now) }
         requires within { LiesWithin self.old (D.extent disk.old) }
-        ensures disk { KeepsDisk D.Disk disk.old disk.new result }
-        ensures failed { has_failed self.new ≡ is_err result }
-        ensures put { OnOk result (HasPut self.old self.new (redo_record lsn (pages_in_memory self.old) (E.rec effect.now))) }
-        ensures still { (disk.new ≡ disk.old) × IsOk result }
+        ensures puts { PutsAll D.Disk self.old self.new disk.old disk.new result lsn (E.rec effect.now ∷ []) }
     {
         let mut from = 0;
         while let Some(p) = effect.next_page(from) {
@@ -244,36 +282,41 @@ impl LoggedPages {
         requires known { lsn < next_lsn_in (log_of self.old) }
         requires inside { WritesBelow (length (pages_in_memory self.old).words) (E.rec effect.now) }
         requires within { LiesWithin self.old (D.extent disk.old) }
-        ensures disk { KeepsDisk D.Disk disk.old disk.new result }
-        ensures failed { has_failed self.new ≡ is_err result }
-        ensures put { OnOk result (HasPut self.old self.new (put_page lsn p (pages_in_memory self.old) (E.rec effect.now))) }
-        ensures still { (disk.new ≡ disk.old) × IsOk result }
+        ensures puts { Advances D.Disk self.old self.new disk.old disk.new result (put_page lsn p (pages_in_memory self.old) (E.rec effect.now)) (page_written (cache_pages (cache_of self.old)) (frames_of self.old) p lsn) NothingMore }
     {
         self.make_way(disk, p)?;
-        self.cache.write(lsn, p, effect);
+        self.write(lsn, p, effect);
         Ok(())
     }
 
-    /// Stores the page, if there is one, that is to be stored before page `p` gets dirty.
+    /// Puts it there in memory: no page has to be stored before.
+    fn write<E: Effect>(&mut self, lsn: u64, p: u32, effect: &E)
+        requires page { p < cache_pages (cache_of self.old) }
+        requires lacks { lsn_of (pages_in_memory self.old) p < lsn }
+        requires known { lsn < next_lsn_in (log_of self.old) }
+        requires inside { WritesBelow (length (pages_in_memory self.old).words) (E.rec effect.now) }
+        requires way { victim (cache_pages (cache_of self.old)) (frames_of self.old) (cached_lsn (cache_of self.old)) (flushed_lsn (cache_of self.old)) p ≡ None }
+        ensures put { pages_in_memory self.new ≡ put_page lsn p (pages_in_memory self.old) (E.rec effect.now) }
+        ensures log { log_of self.new ≡ log_of self.old }
+        ensures store { store_of self.new ≡ store_of self.old }
+        ensures frames { frames_of self.new ≡ frames_of self.old }
+        ensures failed { has_failed self.new ≡ has_failed self.old }
+    {
+        self.cache.write(lsn, p, effect);
+    }
+
+    /// Stores the page, if there is one, that has to be stored before page `p` gets dirty.
     fn make_way<D: Disk>(&mut self, disk: &mut D, p: u32) -> Result<(), DiskError>
         requires works { has_failed self.old ≡ false }
+        requires page { p < cache_pages (cache_of self.old) }
         requires within { LiesWithin self.old (D.extent disk.old) }
-        ensures disk { KeepsDisk D.Disk disk.old disk.new result }
-        ensures failed { has_failed self.new ≡ is_err result }
-        ensures put { OnOk result (HasPut self.old self.new (pages_in_memory self.old)) }
-        ensures still { (disk.new ≡ disk.old) × IsOk result }
+        ensures way { OnOk result (victim (cache_pages (cache_of self.new)) (frames_of self.new) (cached_lsn (cache_of self.new)) (flushed_lsn (cache_of self.new)) p ≡ None) }
+        ensures stores { Advances D.Disk self.old self.new disk.old disk.new result (pages_in_memory self.old) (λ k. way_made (victim (cache_pages (cache_of self.old)) (frames_of self.old) k.lsns k.stored p) k) NothingMore }
     {
-        match self.victim(p) {
+        match self.cache.victim(p) {
             Some(victim) => self.store(disk, victim),
             None => Ok(()),
         }
-    }
-
-    /// The page that is to be stored before page `p` gets dirty: none, as long as each page may be dirty.
-    fn victim(&self, _p: u32) -> Option<u32>
-        ensures { result ≡ None }
-    {
-        None
     }
 
     /// Forces what is pending, without allocating. After an error it isn't known whether it is on the disk, and nothing else may follow.
@@ -331,12 +374,14 @@ impl LoggedPages {
         ensures used { log_used (log_of self.new) ≤ log_used (log_of self.old) }
         ensures spare { (more : ℕ) → HasSpare (log_of self.old) more → HasSpare (log_of self.new) more }
         ensures room { log_room (log_of self.new) ≡ log_room (log_of self.old) }
+        ensures forced { OnOk result (log_forced (log_of self.new) ≡ (if is_ahead self.old p then log_count (log_of self.old) else log_forced (log_of self.old))) }
+        ensures frames { frames_of self.new ≡ frames_of self.old }
 
         // On the disk.
         ensures on_disk { IsTrue D.tells → (o : Origin) (batches : List (List Record)) (pending : List Record) → IsBehind o batches pending self.old → IsOnDisk o batches self.old (D.bytes disk.old)
             → OnOk result (IsOnDisk o (batches_if (is_ahead self.old p) batches pending) self.new (D.bytes disk.new)) }
         ensures stored { IsTrue D.tells → Knows (store_of self.old) (D.bytes disk.old) → OnOk result (HasStored self.old p (D.bytes disk.old) (D.bytes disk.new)) }
-        ensures frames { IsTrue D.tells → Knows (store_of self.old) (D.bytes disk.old) → OnOk result (Knows (store_of self.new) (D.bytes disk.new)) }
+        ensures known { IsTrue D.tells → Knows (store_of self.old) (D.bytes disk.old) → OnOk result (Knows (store_of self.new) (D.bytes disk.new)) }
         ensures durable { IsTrue D.tells → OnOk result (Only (D.bytes disk.new) (D.may_leave disk.new)) }
         ensures moments { IsTrue D.tells → Only (D.bytes disk.old) (D.may_leave disk.old) → (o : Origin) (batches : List (List Record)) (pending : List Record) → IsBehind o batches pending self.old → IsOnDisk o batches self.old (D.bytes disk.old)
             → LeavesOnly D.moment D.left_since disk.old disk.new (IsLeft o batches pending self.old (D.bytes disk.old)) }
@@ -368,6 +413,7 @@ impl LoggedPages {
         ensures used { log_used (log_of self.new) ≤ log_used (log_of self.old) }
         ensures spare { (more : ℕ) → HasSpare (log_of self.old) more → HasSpare (log_of self.new) more }
         ensures room { log_room (log_of self.new) ≡ log_room (log_of self.old) }
+        ensures forced { OnOk result (log_forced (log_of self.new) ≡ (if nat_lt (log_forced (log_of self.old)) lsn then log_count (log_of self.old) else log_forced (log_of self.old))) }
         ensures on_disk { IsTrue D.tells → (o : Origin) (batches : List (List Record)) (pending : List Record) → IsBehind o batches pending self.old → IsOnDisk o batches self.old (D.bytes disk.old)
             → OnOk result (IsOnDisk o (batches_if (nat_lt (log_forced (log_of self.old)) lsn) batches pending) self.new (D.bytes disk.new)) }
         ensures outside { IsTrue D.tells → OnOk result (SameOutside (log_place (log_of self.old)) (log_place (log_of self.old) + log_room (log_of self.old)) (D.bytes disk.old) (D.bytes disk.new)) }

@@ -1,13 +1,11 @@
 //! The records of an event: how they are appended to a log, and how they are put on its pages.
-ghost use Rattle.std.specs.Prelude.{◌≡◌, ◌+◌, ◌≤◌, List, false, is_err, IsOk, OnOk, length};
-ghost use Rattle.disk_model.specs.Keeps.{KeepsDisk};
+ghost use Rattle.std.specs.Prelude.{◌≡◌, ◌+◌, ◌≤◌, List, false, length};
 ghost use Rattle.gated_log.specs.LogState.{log_room, log_used_with, HasSpare};
 ghost use Rattle.log_machine.specs.Effect.{EachWritesBelow};
 ghost use Rattle.log_records.specs.declared.Record.{Record};
 ghost use Rattle.log_records.specs.Record.{spellings};
-ghost use Rattle.page_redo.specs.Redo.{redo_all};
 ghost use Rattle.logged_pages.specs.Appended.{IsAppended};
-ghost use Rattle.logged_pages.specs.Carried.{HasPut};
+ghost use Rattle.logged_pages.specs.Advancing.{PutsAll};
 ghost use Rattle.logged_pages.specs.State.{has_failed, log_of, next_lsn_in, pages_in_memory, LiesWithin};
 
 use crate::logged::LoggedPages;
@@ -37,10 +35,7 @@ pub trait Records {
         requires known { first + length (list self.now) ≤ next_lsn_in (log_of pages.old) }
         requires inside { EachWritesBelow (length (pages_in_memory pages.old).words) (list self.now) }
         requires within { LiesWithin pages.old (D.extent disk.old) }
-        ensures disk { KeepsDisk D.Disk disk.old disk.new result }
-        ensures failed { has_failed pages.new ≡ is_err result }
-        ensures put { OnOk result (HasPut pages.old pages.new (redo_all first (pages_in_memory pages.old) (list self.now))) }
-        ensures still { (disk.new ≡ disk.old) × IsOk result };
+        ensures puts { PutsAll D.Disk pages.old pages.new disk.old disk.new result first (list self.now) };
 }
 
 /// Records in a list.

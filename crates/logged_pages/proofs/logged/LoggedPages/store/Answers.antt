@@ -1,19 +1,40 @@
-use Rattle.std.proofs.Common.{◌≡◌, ◌+◌, ◌<◌, ◌≤◌, ℕ, Bool, List, refl, sym, ap, subst, ◌∙◌, inr, ⊎_elim, arith}
+use Rattle.std.proofs.Common.{◌≡◌, ◌+◌, ◌<◌, ◌≤◌, ◌++◌, ℕ, Bool, true, List, refl, sym, ap, subst, ◌∙◌, inr, ⊎_elim, arith}
 use Rattle.std.specs.Prelude.{nat_lt, if◌then◌else◌}
 use Rattle.disk_model.proofs.MomentLaws.{joined, weaker}
 use Rattle.gate_slot.proofs.PassingLaws.{joined as both_pass}
 use Rattle.gate_slot.specs.Passing.{Passes}
 use Rattle.gated_log.specs.LogState.{is_waiting, log_forced}
-use Rattle.page_cache.specs.CacheState.{cache_log, cache_pages, cached_lsn, cached_page}
+use Rattle.gated_log.specs.Log.{records_of}
+use Rattle.page_cache.specs.CacheState.{cache_log, cache_pages, cached_lsn, cached_page, is_dirty}
 use Rattle.page_cache.specs.declared.cache.PageCache.{PageCache}
 use Rattle.page_store.specs.Gates.{open_gates}
 use Rattle.page_store.specs.Page.{IsStoring}
 use Rattle.page_store.specs.StoreState.{Knows}
 use Rattle.logged_pages.specs.OnDisk.{batches_if, pending_if, force_calls, is_ahead, store_calls, IsLeft, Stands}
-use Rattle.logged_pages.specs.State.{cache_of, log_of}
+use Rattle.page_redo.specs.Pages.{Pages}
+use Rattle.page_redo.specs.Prefix.{EachHoldsPrefix}
+use Rattle.logged_pages.specs.State.{cache_of, log_of, IsBehind}
 use Rattle.logged_pages.proofs.CarriedLaws.{its, when_ok}
 use Rattle.logged_pages.proofs.DiskLaws.{IsFlushed, gates_by, knows_still, left_by_store, page_stands, some_store, stands_still, stored_by}
+use Rattle.logged_pages.proofs.Frames.{stored_bounded}
 use Rattle.logged_pages.proofs.logged.LoggedPages.store.Goals as goal
+
+pub invariant_of-self-clause-bounded : goal.invariant_of-self-clause-bounded
+invariant_of-self-clause-bounded g c =
+    let of = c.force_up_to.new.self in
+    let flush = c.flush-stored.ensures in
+    let within : c.args.p < cache_pages (cache_of of) = omega (arith, ap cache_pages c.force_up_to.ensures.cache, c.requires.page) in
+    let dirty : is_dirty (cache_of of) c.args.p ≡ true = ap (λ (k : PageCache). is_dirty k c.args.p) c.force_up_to.ensures.cache ∙ c.requires.dirty in
+    stored_bounded (cache_of of) c.flush-stored.new.self c.args.p within flush.pages flush.plan flush.other_pages c.flush-stored.result dirty flush.frames flush.clean flush.err of.bounded
+
+pub returns-clause-behind : goal.returns-clause-behind
+returns-clause-behind g c o batches pending is =
+    let at = c.flush-stored.ensures.pages in
+    let same : nat_lt (log_forced (log_of c.args.self.now)) c.lsn-lsn.result ≡ is_ahead c.args.self.now c.args.p = ap (nat_lt (log_forced (log_of c.args.self.now))) c.lsn-lsn.ensures.value in
+    when_ok c.flush-stored.result (λ x done.
+    let before = c.in_ok-force_up_to.ensures.behind o batches pending is in
+    let here = subst (λ (b : Bool). IsBehind o (batches_if b batches pending) (pending_if b pending) c.force_up_to.new.self) same before in
+    record { first = here.first; log = here.log; prefixes = subst (λ (ps : Pages). EachHoldsPrefix o (records_of (batches_if (is_ahead c.args.self.now c.args.p) batches pending) ++ pending_if (is_ahead c.args.self.now c.args.p) pending) ps) (sym at) here.prefixes })
 
 pub returns-clause-on_disk : goal.returns-clause-on_disk
 returns-clause-on_disk g c told o batches pending is disk =
@@ -64,8 +85,8 @@ returns-clause-stored g c told knows =
       other_gates = λ q apart. its c.flush-stored.result x is (c.flush-stored.ensures.other_gates told q apart);
     })))
 
-pub returns-clause-frames : goal.returns-clause-frames
-returns-clause-frames g c told knows =
+pub returns-clause-known : goal.returns-clause-known
+returns-clause-known g c told knows =
     let old = c.args.self.now in
     let before = g.D.Disk.bytes c.args.disk.now in
     let mid = g.D.Disk.bytes c.force_up_to.new.disk in

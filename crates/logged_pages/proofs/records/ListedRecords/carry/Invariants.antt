@@ -1,14 +1,7 @@
-use Rattle.std.proofs.Common.{◌≡◌, false, length, take}
-use Rattle.page_redo.specs.Redo.{redo_all}
-use Rattle.logged_pages.specs.Carried.{HasPut}
-use Rattle.logged_pages.specs.State.{has_failed, pages_in_memory}
+use Rattle.std.proofs.Common.{◌+◌, drop}
+use Rattle.logged_pages.proofs.Putting.{IsPutting}
 use Rattle.logged_pages.proofs.records.ListedRecords.carry.Given as goal
 
--- the records so far are put on their pages, and no page was stored
+-- those from the index on are left
 abbrev pub invariant-loop-i : goal.invariant-loop-i
-invariant-loop-i g l = record {
-  put : HasPut l.fn.pages l.pages (redo_all l.first (pages_in_memory l.fn.pages) (take l.i l.rec-items));
-  size : length (pages_in_memory l.pages).words ≡ length (pages_in_memory l.fn.pages).words;
-  works : has_failed l.pages ≡ false;
-  still : l.disk ≡ l.fn.disk;
-}
+invariant-loop-i g l = IsPutting g.D.Disk l.fn.pages l.pages l.fn.disk l.disk l.first l.rec-items (l.first + l.i) (drop l.i l.rec-items)

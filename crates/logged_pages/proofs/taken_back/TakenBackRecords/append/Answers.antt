@@ -1,19 +1,15 @@
 use Rattle.std.proofs.Common.{◌≡◌, ℕ, ◌+◌, List, [], ◌∷◌, ◌++◌, length, reverse, sym, ap, ◌∙◌, subst, arith, append_assoc}
-use Rattle.std.proofs.lemmas.List.{length-reverse, reverse-append, length-append}
+use Rattle.std.proofs.lemmas.List.{length-reverse, length-append}
 use Rattle.gated_log.specs.LogState.{log_used, log_need, Keeps}
 use Rattle.log_machine.specs.declared.UndoEntry.{UndoEntry}
 use Rattle.log_machine.specs.Machine.{abort_records}
 use Rattle.log_machine.proofs.AbortLaws.{abort_length}
 use Rattle.log_records.specs.declared.Record.{Record}
-use Rattle.log_records.specs.declared.Record.TheVariants.{Undo}
 use Rattle.log_records.specs.Record.{spelling, spellings}
 use Rattle.logged_pages.proofs.CarriedLaws.{ok_gives}
 use Rattle.logged_pages.proofs.Spare.{size_after}
+use Rattle.logged_pages.proofs.TakingBack.{newest}
 use Rattle.logged_pages.proofs.taken_back.TakenBackRecords.append.Goals as goal
-
--- the records of the writes up to one begin with its own
-newest : (t : ℕ) (rest before : List UndoEntry) (u : UndoEntry) → rest ≡ before ++ u ∷ [] → abort_records t (reverse rest) ≡ Undo t u.object u.field u.was ∷ abort_records t (reverse before)
-newest t rest before u is = ap (λ (us : List UndoEntry). abort_records t (reverse us)) is ∙ ap (abort_records t) (reverse-append before (u ∷ []))
 
 -- which takes nineteen bytes
 bytes : (t : ℕ) (rest before : List UndoEntry) (u : UndoEntry) → rest ≡ before ++ u ∷ [] → length (spellings (abort_records t (reverse rest))) ≡ length (spellings (abort_records t (reverse before))) + 19
