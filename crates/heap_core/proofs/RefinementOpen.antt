@@ -21,7 +21,9 @@ use Rattle.page_redo.specs.Pages.{Pages, pages_in, lsn_of}
 use Rattle.page_redo.proofs.PrefixLaws.{redone-words}
 use Rattle.page_redo.specs.Redo.{EachLacks, last_lsn}
 use Rattle.page_redo.proofs.RedoLaws.{EachLacks-redone, lsns-redo_all, lsn-redo_all}
-use Rattle.page_cache.specs.CacheState.{cached, cache_store}
+use Rattle.page_cache.specs.CacheState.{cached, cache_store, cache_frames, cached_lsn, flushed_lsn}
+use Rattle.page_redo.specs.Victim.{dirty_pages}
+use Rattle.page_redo.proofs.VictimLaws.{dirty_at_most}
 use Rattle.page_store.specs.declared.store.PageStore.{PageStore}
 use Rattle.page_store.specs.Gates.{open_gates}
 use Rattle.page_store.specs.StoreState.{store_plan, stored_lsn, has_failed, Knows}
@@ -215,8 +217,12 @@ opened_disk_holds stored gates places g new may_leave legal held only = record {
   failed = λ some. absurd (some refl);
 }
 
+-- where as many pages may be dirty as there are, no more are
+pub bounded_frames : (cache : PageCache) → cache_frames cache ≡ cache_pages cache → length (dirty_pages (cache_pages cache) (cached_lsn cache) (flushed_lsn cache)) ≤ cache_frames cache
+bounded_frames cache frames = omega (arith, frames, dirty_at_most (cache_pages cache) (cached_lsn cache) (flushed_lsn cache))
+
 -- Numbers of every heap that was opened: there is a next transaction, the words are those of both spaces, the log's next record is new to each
--- page, the pages lie behind the log, and what is gray stands in the words that are used.
+-- page, there are pages, which lie behind the log, and what is gray stands in the words that are used.
 pub record IsBounded (found : Recovered) : Type 0 where
   pub next : 1 ≤ found.state.next
   pub size : length (cached found.cache).words ≡ words_in found.state.pages
@@ -224,6 +230,7 @@ pub record IsBounded (found : Recovered) : Type 0 where
   pub few : found.state.pages ≤ 16384
   pub whole : length (cached found.cache).words ≡ 64 * cache_pages found.cache
   pub many : cache_pages found.cache ≤ 32768
+  pub some_pages : 0 < cache_pages found.cache
   pub behind : log_room found.log ≡ cache_log found.cache
   pub gray : (k : Collection) → found.state.collection ≡ Some k → (at : ℕ) → contains k.gray at ≡ true → at < found.state.base + found.state.used
   pub within : (k : Collection) → found.state.collection ≡ Some k → IsWithin found.state.pages k
@@ -253,6 +260,7 @@ opened_bounds stored found shaped recovered =
       few = omega arith;
       whole = omega (arith, size, pages, ap (λ (of : Plan). of.pages) recovered.plan);
       many = omega (arith, few, ap (λ (of : Plan). of.pages) recovered.plan);
+      some_pages = omega (arith, shaped.limits.some_pages, ap (λ (of : Plan). of.pages) recovered.plan);
       behind = recovered.room ∙ sym (ap (λ (of : Plan). of.log_bytes) recovered.plan);
       gray = λ k run at gray.
           let graph = address_found stored shaped in

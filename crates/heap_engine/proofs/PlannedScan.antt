@@ -8,12 +8,6 @@ use Rattle.log_records.specs.declared.Record.TheVariants.{Scan}
 use Rattle.log_records.specs.Record.{copy_record}
 use Rattle.log_machine.specs.Effect.{WritesBelow, EachWritesBelow}
 use Rattle.log_machine.proofs.ListLaws.{AllByRecursion-behind}
-use Rattle.page_redo.specs.Pages.{Pages}
-use Rattle.page_redo.specs.Redo.{redo_record, redo_all}
-use Rattle.page_redo.proofs.RedoLaws.{redo_all-append}
-use Rattle.logged_pages.specs.Carried.{HasPut}
-use Rattle.logged_pages.specs.declared.logged.LoggedPages.{LoggedPages}
-use Rattle.logged_pages.specs.State.{pages_in_memory}
 use Rattle.page_scanner.specs.PageScan.{ScanState, records_in}
 
 -- the records before a copy, its own, and those behind it
@@ -47,48 +41,3 @@ record_below end records before behind rec is below =
 pub copies_before : (scan : ScanState) (before left : List ObjectCopy) → scan.copies ≡ before ++ left → length before + 1 ≤ length (records_in scan)
 copies_before scan before left all =
     omega (arith, length-append (map copy_record scan.copies) (Scan scan.page scan.writes ∷ []), length-map scan.copies copy_record, ap length all, length-append before left)
-
--- the pages when one more copy is put on them
-pub redo_more : (first lsn : ℕ) (old now : Pages) (before : List ObjectCopy) (copy : ObjectCopy) → lsn ≡ first + length before → now ≡ redo_all first old (map copy_record before)
-    → redo_record lsn now (copy_record copy) ≡ redo_all first old (map copy_record (before ++ copy ∷ []))
-redo_more first lsn old now before copy next so_far =
-    let same : lsn ≡ first + length (map copy_record before) = omega (arith, next, length-map before copy_record) in
-    (λ i. redo_record (same i) (so_far i) (copy_record copy))
-    ∙ sym (redo_all-append first old (map copy_record before) (copy_record copy ∷ []))
-    ∙ ap (redo_all first old) (sym (records_more before copy))
-
--- and the last record
-pub redo_end : (first lsn : ℕ) (old now : Pages) (scan : ScanState) (before left : List ObjectCopy) → scan.copies ≡ before ++ left → left ≡ [] → lsn ≡ first + length before
-    → now ≡ redo_all first old (map copy_record before) → redo_record lsn now (Scan scan.page scan.writes) ≡ redo_all first old (records_in scan)
-redo_end first lsn old now scan before left all none next so_far =
-    let same : lsn ≡ first + length (map copy_record before) = omega (arith, next, length-map before copy_record) in
-    (λ i. redo_record (same i) (so_far i) (Scan scan.page scan.writes))
-    ∙ sym (redo_all-append first old (map copy_record before) (Scan scan.page scan.writes ∷ []))
-    ∙ ap (redo_all first old) (sym (records_end scan before left all none))
-
--- pages with one more copy put on them
-pub put_copy : (old mid new : LoggedPages) (first lsn : ℕ) (before : List ObjectCopy) (copy : ObjectCopy) → lsn ≡ first + length before → HasPut old mid (redo_all first (pages_in_memory old) (map copy_record before))
-    → HasPut mid new (redo_record lsn (pages_in_memory mid) (copy_record copy)) → HasPut old new (redo_all first (pages_in_memory old) (map copy_record (before ++ copy ∷ [])))
-put_copy old mid new first lsn before copy next so_far one = record {
-  pages = one.pages ∙ redo_more first lsn (pages_in_memory old) (pages_in_memory mid) before copy next so_far.pages;
-  log = one.log ∙ so_far.log;
-  store = one.store ∙ so_far.store;
-}
-
--- and with the last record
-pub put_scan : (old mid new : LoggedPages) (first lsn : ℕ) (scan : ScanState) (before left : List ObjectCopy) → scan.copies ≡ before ++ left → left ≡ [] → lsn ≡ first + length before
-    → HasPut old mid (redo_all first (pages_in_memory old) (map copy_record before)) → HasPut mid new (redo_record lsn (pages_in_memory mid) (Scan scan.page scan.writes)) → HasPut old new (redo_all first (pages_in_memory old) (records_in scan))
-put_scan old mid new first lsn scan before left all none next so_far one = record {
-  pages = one.pages ∙ redo_end first lsn (pages_in_memory old) (pages_in_memory mid) scan before left all none next so_far.pages;
-  log = one.log ∙ so_far.log;
-  store = one.store ∙ so_far.store;
-}
-
--- pages with records put on them, and a write behind these
-pub put_write : (old mid new : LoggedPages) (first lsn : ℕ) (records : List Record) (write : Record) → lsn ≡ first + length records → HasPut old mid (redo_all first (pages_in_memory old) records)
-    → HasPut mid new (redo_record lsn (pages_in_memory mid) write) → HasPut old new (redo_all first (pages_in_memory old) (records ++ write ∷ []))
-put_write old mid new first lsn records write next so_far one = record {
-  pages = one.pages ∙ (λ i. redo_record (next i) (so_far.pages i) write) ∙ sym (redo_all-append first (pages_in_memory old) records (write ∷ []));
-  log = one.log ∙ so_far.log;
-  store = one.store ∙ so_far.store;
-}

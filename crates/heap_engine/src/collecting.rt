@@ -12,6 +12,7 @@ ghost use Rattle.graph_model.specs.Plain.{reply_of};
 ghost use Rattle.graph_model.specs.declared.reply.Reply.TheVariants.{Flipped, Collecting, Scanned, Collected, Idle};
 
 use crate::barrier::{keep_copies, note_scan, take_copies};
+use crate::carrying::carry_out;
 use crate::engine::{Engine, refused};
 use crate::step_error::StepError;
 use disk_model::Disk;
@@ -66,7 +67,7 @@ impl Engine {
         self.table.translate(plan.pairs());
         self.collection = Some(collection);
         let records = [plan.into_record()];
-        self.pages.carry_out(disk, &Listed { records: &records })?;
+        carry_out(&mut self.pages, disk, &Listed { records: &records })?;
         Ok(reply)
     }
 
@@ -146,7 +147,7 @@ impl Engine {
             objects: scan.copies().len() as u64,
             words: scan.copied_words(),
         };
-        self.pages.carry_out(disk, &scan)?;
+        carry_out(&mut self.pages, disk, &scan)?;
         Ok(reply)
     }
 
@@ -168,7 +169,7 @@ impl Engine {
         }
         self.spaces.collected();
         self.collection = None;
-        self.pages.carry_out(disk, &Listed { records: &records })?;
+        carry_out(&mut self.pages, disk, &Listed { records: &records })?;
         Ok(Reply::Collected {
             used: u64::from(self.spaces.used()),
         })

@@ -5,7 +5,8 @@ ghost use Rattle.gated_log.specs.LogState.{log_room, log_used, is_waiting, HasSp
 ghost use Rattle.graph_model.specs.History.{account};
 ghost use Rattle.graph_model.specs.History.{IsOfSession};
 ghost use Rattle.log_machine.specs.Machine.{words_in};
-ghost use Rattle.logged_pages.specs.State.{log_of, pages_in_memory};
+ghost use Rattle.logged_pages.specs.State.{cache_of, frames_of, log_of, pages_in_memory};
+ghost use Rattle.page_cache.specs.CacheState.{cache_pages};
 ghost use Rattle.heap_spaces.specs.Collection.{owed_by};
 ghost use Rattle.txn_table.specs.Table.{new_table};
 ghost use Rattle.heap_memory.specs.Memory.{own};
@@ -55,6 +56,8 @@ pub struct Engine {
     ghost sound: { AreSound table (length (pages_in_memory pages).words) reserved sealed },
     ghost sized: { length (pages_in_memory pages).words ≡ words_in spaces.pages },
     ghost few: { length (pages_in_memory pages).words ≤ 2097152 },
+    // As many pages may be dirty as there are.
+    ghost whole: { cache_pages (cache_of pages) ≤ frames_of pages },
 }
 
 /// The answer of an event that is refused.
@@ -83,6 +86,7 @@ impl Engine {
         requires few { spaces.pages ≤ 16384 }
         requires owed { spaces.owed ≡ owed_by collection }
         requires gray { IsSoundIn spaces collection }
+        requires whole { cache_pages (cache_of pages) ≤ frames_of pages }
         ensures memory { memory result ≡ opened pages spaces collection table.next }
         ensures pages { result.pages ≡ pages }
     {

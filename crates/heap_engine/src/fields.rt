@@ -12,6 +12,7 @@ ghost use Rattle.heap_engine.specs.Barrier.{planned_records};
 ghost use Rattle.heap_engine.specs.Reserve.{can_refer};
 
 use crate::barrier::{PagePlan, keep_copies, note_scan, take_back_copies};
+use crate::carrying::carry_out;
 use crate::engine::{Engine, refused};
 use crate::locking::{keep_write, lock_of, lock_refusal};
 use crate::log_room::{UNDO_BYTES, reserve_room};
@@ -193,7 +194,7 @@ impl Engine {
             return Err(StepError::from(e));
         }
         note_scan(&mut self.spaces, &mut self.collection, &scan);
-        self.pages.carry_out(disk, &scan)?;
+        carry_out(&mut self.pages, disk, &scan)?;
         // The scan may have updated the field to the copy.
         let fields = fields_at(self.pages.as_slice(), object);
         let word = fields.get(field as usize).copied().unwrap_or(0);
@@ -323,7 +324,7 @@ impl Engine {
             scan: &scan,
             update,
         };
-        self.pages.carry_out(disk, &write)?;
+        carry_out(&mut self.pages, disk, &write)?;
         Ok(Reply::Done)
     }
 

@@ -13,6 +13,7 @@
 #![tactic(auto)]
 
 mod barrier;
+mod carrying;
 mod collecting;
 mod committed;
 mod engine;

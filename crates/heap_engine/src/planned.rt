@@ -1,13 +1,11 @@
 //! The records of a planned scan, and of a write after it: they are made from the plan as they are carried out.
-ghost use Rattle.std.specs.Prelude.{◌≡◌, ◌+◌, ◌≤◌, ◌++◌, ◌∷◌, [], false, is_err, length, map, IsOk, OnOk};
-ghost use Rattle.disk_model.specs.Keeps.{KeepsDisk};
+ghost use Rattle.std.specs.Prelude.{◌≡◌, ◌+◌, ◌≤◌, ◌++◌, ◌∷◌, [], false, length, map};
 ghost use Rattle.gated_log.specs.LogState.{log_room, log_used_with, HasSpare};
 ghost use Rattle.log_machine.specs.Effect.{EachWritesBelow};
 ghost use Rattle.log_records.specs.Record.{copy_record, spellings};
 ghost use Rattle.logged_pages.specs.Appended.{IsAppended};
-ghost use Rattle.logged_pages.specs.Carried.{HasPut};
+ghost use Rattle.logged_pages.specs.Advancing.{PutsAll};
 ghost use Rattle.logged_pages.specs.State.{has_failed, log_of, next_lsn_in, pages_in_memory, LiesWithin};
-ghost use Rattle.page_redo.specs.Redo.{redo_all};
 ghost use Rattle.page_scanner.specs.PageScan.{records_in};
 
 use crate::barrier::PagePlan;
@@ -102,10 +100,7 @@ fn carry_scan<D: Disk>(
     requires known { first + length (records_in scan.now) ≤ next_lsn_in (log_of pages.old) }
     requires inside { EachWritesBelow (length (pages_in_memory pages.old).words) (records_in scan.now) }
     requires within { LiesWithin pages.old (D.extent disk.old) }
-    ensures disk { KeepsDisk D.Disk disk.old disk.new result }
-    ensures failed { has_failed pages.new ≡ is_err result }
-    ensures put { OnOk result (HasPut pages.old pages.new (redo_all first (pages_in_memory pages.old) (records_in scan.now))) }
-    ensures still { (disk.new ≡ disk.old) × IsOk result }
+    ensures puts { PutsAll D.Disk pages.old pages.new disk.old disk.new result first (records_in scan.now) }
 {
     let mut lsn = first;
     for copy in scan.iter() {

@@ -13,6 +13,7 @@ ghost use Rattle.heap_engine.specs.Ending.{SealsAlone, is_settled};
 ghost use Rattle.std.specs.List.{list_all};
 ghost use Rattle.heap_engine.specs.Seal.{IsFound, IsSealOf};
 
+use crate::carrying::carry_out;
 use crate::engine::{Engine, refused};
 use crate::log_room::{bytes_of, reserve_room};
 use crate::step_error::StepError;
@@ -118,7 +119,7 @@ impl Engine {
         ensures sealed { Seals (memory self.old) (memory self.new) session }
     {
         let others = self.reserved_without(session);
-        self.pages.carry_out(disk, &Listed { records })?;
+        carry_out(&mut self.pages, disk, &Listed { records })?;
         let _taken = self.spaces.take(need);
         self.locks.release(self.table.number(session));
         self.table.end(session);

@@ -4,6 +4,7 @@ ghost use Rattle.graph_model.specs.Plain.{reply_of};
 ghost use Rattle.graph_model.specs.declared.reply.Reply.TheVariants.{Begun, Aborted};
 ghost use Rattle.heap_memory.specs.Memory.{own};
 
+use crate::carrying::carry_out;
 use crate::engine::{Engine, refused};
 use crate::log_room::log_refusal;
 use crate::step_error::StepError;
@@ -66,7 +67,7 @@ impl Engine {
         let others = self.reserved_without(session);
         let t = self.table.number(session);
         let undo = self.table.undo(session);
-        self.pages.carry_out(disk, &TakenBack { t, undo })?;
+        carry_out(&mut self.pages, disk, &TakenBack { t, undo })?;
         self.locks.release(t);
         self.table.end(session);
         self.reserved = others;

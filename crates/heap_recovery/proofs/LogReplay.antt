@@ -9,6 +9,7 @@ use Rattle.gated_log.specs.declared.reading.LogError.{LogError}
 use Rattle.gated_log.specs.declared.reading.LogError.TheVariants as logging
 use Rattle.gated_log.specs.declared.reading.LogReader.{LogReader}
 use Rattle.gated_log.specs.Log.{BreaksAt, HoldsBatches}
+use Rattle.gated_log.specs.LogCause.{log_device_error}
 use Rattle.gated_log.specs.Reader.{HasGiven, reader_lsn}
 use Rattle.gated_log.specs.LogState.{log_place, log_room, log_used, log_count, Keeps}
 use Rattle.image_plan.specs.declared.superblock.Super.{Super}
@@ -25,6 +26,7 @@ use Rattle.page_store.specs.declared.store.PageStore.{PageStore}
 use Rattle.page_store.specs.StoreState.{store_plan, stored_lsn, has_failed}
 use Rattle.page_cache.specs.CacheState.{cached, cache_store, cache_failed, flushed_lsn, IsFirstPast}
 use Rattle.heap_model.specs.Image.{StoredHeap, origin_of, records_in, next_lsn_of, log_part}
+use Rattle.heap_recovery.specs.Causes.{error_device}
 use Rattle.heap_recovery.specs.declared.at.At.TheVariants.{Reserve, Page}
 use Rattle.heap_recovery.specs.declared.error.RecoverError.{RecoverError}
 use Rattle.heap_recovery.specs.declared.reading.Reading.{Reading}
@@ -171,6 +173,11 @@ first_ahead stored count page same first =
     }
 
 -- what a log's error reports of its bytes
+pub log_told_device : (e : LogError) → error_device (log_error e) ≡ log_device_error e
+log_told_device logging.NoMemory = refl
+log_told_device (logging.BadBatch at) = refl
+log_told_device (logging.Disk e) = refl
+
 pub log_told_of : (log : List ℕ) (e : LogError) → ((offset : ℕ) → e ≡ logging.BadBatch offset → BreaksAt log offset) → IsToldOfLog log (log_error e)
 log_told_of log logging.NoMemory bad = tt
 log_told_of log (logging.BadBatch offset) bad = bad offset refl

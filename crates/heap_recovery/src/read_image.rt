@@ -96,7 +96,8 @@ fn read_log<D: Disk>(alloc: Global, disk: &mut D, of: Super) -> Result<Reading, 
     ensures no_address { (address : ℕ) → result ≢ Err (Damaged (Address address)) }
     ensures disk { OnlyReads D.Disk disk.old disk.new (open_device result) }
 {
-    let cache = PageCache::open(alloc, disk, of.plan())?;
+    // An opening stores no page, so each page may be dirty.
+    let cache = PageCache::open(alloc, disk, of.plan(), 2 * of.pages)?;
     let mut replay = Replay::start(alloc, of, cache);
     let log = replay_log(alloc, disk, of, &mut replay)?;
     replay.finish(of, log)

@@ -1,6 +1,6 @@
 //! What is read of an image before anything is rolled back.
 ghost use Rattle.std.specs.Prelude.{◌≡◌, ◌*◌, ◌≤◌, length};
-ghost use Rattle.page_cache.specs.CacheState.{cached};
+ghost use Rattle.page_cache.specs.CacheState.{cached, cache_frames, cache_pages};
 
 use gated_log::Log;
 use image_plan::Super;
@@ -21,4 +21,5 @@ pub struct Reading {
     ghost few_pages: { of.pages ≤ 16384 },
     ghost same_pages: { state.pages ≡ of.pages },
     ghost sized: { length (cached cache).words ≡ 128 * of.pages },
+    ghost frames: { cache_frames cache ≡ cache_pages cache },
 }

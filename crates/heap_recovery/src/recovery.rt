@@ -6,7 +6,7 @@ ghost use Rattle.log_records.specs.declared.Record.{Record};
 ghost use Rattle.log_machine.specs.Machine.{settled, rollback, all_taken_back, reserve, words_in};
 ghost use Rattle.page_redo.specs.Redo.{EachLacks, redo_all};
 ghost use Rattle.page_store.specs.StoreState.{Knows};
-ghost use Rattle.page_cache.specs.CacheState.{cached, cache_store, cache_size};
+ghost use Rattle.page_cache.specs.CacheState.{cached, cache_store, cache_frames, cache_pages, cache_size};
 ghost use Rattle.object_layout.specs.CollectionWalk.{IsWalkFaultBeside, given};
 ghost use Rattle.walk_laws.specs.Heap.{IsStateWalked, from_space};
 ghost use Rattle.heap_model.specs.Bits.{AreOf64Bits};
@@ -52,6 +52,8 @@ pub fn recover<D: Disk>(alloc: Global, disk: &mut D) -> Result<Recovered, Recove
     ensures opens { IfOk result (λ found. (stored : StoredHeap) × IsShapedLog stored × IsRecovered stored found) }
     ensures inside { IfOk result (λ found. log_place found.log + log_room found.log ≤ D.extent disk.new) }
     ensures pages_inside { IfOk result (λ found. cache_size found.cache ≤ D.extent disk.new) }
+    // Each page may be dirty.
+    ensures frames { IfOk result (λ found. cache_frames found.cache ≡ cache_pages found.cache) }
 
     // They are the log and the pages of the image. A shaped image is opened as it is, and the pages that it stores are known.
     ensures sound { IsTrue D.tells → IfOk result (λ found. (stored : StoredHeap) × IsShaped stored (D.bytes disk.old) × IsRecovered stored found) }
@@ -87,7 +89,7 @@ impl Reading {
         let records = self.state.rollback()?;
         let first = self.log.next_lsn();
         self.log.append_all(&records)?;
-        self.cache.apply_all(first, &records);
+        self.cache.redo_all(first, &records);
         Ok(())
     }
 
@@ -132,6 +134,7 @@ impl Reading {
         ensures log { IfOk result (λ found. found.log ≡ self.log) }
         ensures cache { IfOk result (λ found. found.cache ≡ self.cache) }
         ensures state { IfOk result (λ found. found.state ≡ settled self.state) }
+        ensures frames { IfOk result (λ found. cache_frames found.cache ≡ cache_pages found.cache) }
         ensures no_disk { open_device result ≡ Ok tt }
     {
         if let Some(address) = fault {

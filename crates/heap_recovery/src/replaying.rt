@@ -1,7 +1,7 @@
 //! The log's records are replayed as they are read: each is checked by the record machine, redone on the pages, and dropped.
 ghost use Rattle.std.specs.Prelude.{◌≡◌, length};
 ghost use Rattle.log_machine.specs.Machine.{words_in};
-ghost use Rattle.page_cache.specs.CacheState.{cached};
+ghost use Rattle.page_cache.specs.CacheState.{cached, cache_frames, cache_pages};
 
 use crate::at::At;
 use crate::error::RecoverError;
@@ -23,6 +23,7 @@ pub struct Replay {
     /// The LSN of the first record that can't follow those before it. Nothing is done with it, nor with those after it.
     pub unshaped: Option<u64>,
     ghost sized: { length (cached cache).words ≡ words_in state.pages },
+    ghost frames: { cache_frames cache ≡ cache_pages cache },
 }
 
 impl Replay {
@@ -51,6 +52,7 @@ impl Replay {
         requires good { IsSuper of }
         requires plan { store_plan (cache_store cache) ≡ plan_of of }
         requires unfailed { IsFalse (cache_failed cache) }
+        requires frames { cache_frames cache ≡ cache_pages cache }
         requires words { length (cached cache).words ≡ words_in of.pages }
         requires lsns { length (cached cache).lsns ≡ pages_in of.pages }
         requires clean { (p : ℕ) → p < pages_in of.pages → flushed_lsn cache p ≡ lsn_of (cached cache) p }

@@ -1,57 +1,72 @@
-use Rattle.std.proofs.Common.{◌≡◌, ℕ, ◌+◌, ◌≤◌, [], ◌∷◌, length, sym, ap, ◌∙◌, subst, arith, length-append}
-use Rattle.std.specs.Prelude.{map, OnOk}
-use Rattle.gated_log.specs.LogState.{log_count}
-use Rattle.log_machine.specs.Effect.{WritesBelow}
-use Rattle.log_records.specs.Record.{copy_record}
-use Rattle.logged_pages.proofs.CarriedLaws.{ok_no_err, on_ok, put_size, within_still}
+use Rattle.std.proofs.Common.{rules, ◌≡◌, ◌+◌, [], ◌∷◌, ◌++◌, Err, List, sym, ap, subst, ◌∙◌, arith}
+use Rattle.std.specs.Prelude.{map}
+use Rattle.log_records.specs.declared.copies.ObjectCopy.{ObjectCopy}
 use Rattle.log_records.specs.declared.Record.{Record}
-use Rattle.logged_pages.specs.Carried.{HasPut}
-use Rattle.logged_pages.specs.State.{pages_in_memory}
-use Rattle.page_redo.specs.Redo.{redo_record}
+use Rattle.log_records.specs.declared.Record.TheVariants.{Scan}
+use Rattle.log_records.specs.Record.{copy_record}
+use Rattle.logged_pages.proofs.AdvanceLaws.{advances_as}
+use Rattle.logged_pages.proofs.Putting.{IsPutting, next_inside, next_known, putting_cut, putting_next, putting_none}
+use Rattle.logged_pages.specs.Advancing.{PutsAll}
 use Rattle.page_scanner.specs.PageCopies.{copies_left}
 use Rattle.page_scanner.specs.PageScan.{records_in}
-use Rattle.heap_engine.proofs.PlannedScan.{records_at, taken_more, record_below, copies_before, put_copy, put_scan}
 use Rattle.heap_engine.proofs.planned.carry_scan.Goals as goal
 
 pub carry_record-requires-clause-known : goal.carry_record-requires-clause-known
 carry_record-requires-clause-known g c =
     let l = c.loop-copy in
-    let few = copies_before c.args.scan.now l.yielded (copies_left l.copy-iterator) l.invariant.left in
-    omega (arith, ap log_count l.invariant.put.log, c.requires.known, few, l.invariant.next)
+    let scan = c.args.scan.now in
+    let last = Scan scan.page scan.writes ∷ [] in
+    let all = records_in scan in
+    let is = subst (λ (cs : List ObjectCopy). IsPutting g.D.Disk c.args.pages.now l.pages c.args.disk.now l.disk c.args.first all l.lsn (map copy_record cs ++ last)) c.in-Some.ensures.steps l.invariant.putting in
+    next_known g.D.Disk c.args.pages.now c.args.disk.now c.args.first all l.pages l.disk l.lsn (copy_record c.in-Some.copy) (map copy_record (copies_left c.next.new.self) ++ last) is c.requires.known
 
 pub carry_record-requires-clause-inside : goal.carry_record-requires-clause-inside
 carry_record-requires-clause-inside g c =
     let l = c.loop-copy in
-    let are = records_at c.args.scan.now l.yielded (copies_left l.copy-iterator) (copies_left c.next.new.self) c.in-Some.copy l.invariant.left c.in-Some.ensures.steps in
-    let end = length (pages_in_memory c.args.pages.now).words in
-    let below = record_below end (records_in c.args.scan.now) (map copy_record l.yielded) _ (copy_record c.in-Some.copy) are c.requires.inside in
-    subst (λ (n : ℕ). WritesBelow n (copy_record c.in-Some.copy)) (sym l.invariant.size) below
+    let scan = c.args.scan.now in
+    let last = Scan scan.page scan.writes ∷ [] in
+    let all = records_in scan in
+    let is = subst (λ (cs : List ObjectCopy). IsPutting g.D.Disk c.args.pages.now l.pages c.args.disk.now l.disk c.args.first all l.lsn (map copy_record cs ++ last)) c.in-Some.ensures.steps l.invariant.putting in
+    next_inside g.D.Disk c.args.pages.now c.args.disk.now c.args.first all l.pages l.disk l.lsn (copy_record c.in-Some.copy) (map copy_record (copies_left c.next.new.self) ++ last) is
 
 pub carry_record-requires-clause-within : goal.carry_record-requires-clause-within
-carry_record-requires-clause-within g c =
+carry_record-requires-clause-within g c = c.loop-copy.invariant.putting.within c.requires.within
+
+pub returns-in_err-carry_record : goal.returns-in_err-carry_record
+returns-in_err-carry_record g c =
     let l = c.loop-copy in
-    within_still c.args.pages.now l.pages (g.D.Disk.extent c.args.disk.now) (g.D.Disk.extent l.disk) l.invariant.put.store (ap g.D.Disk.extent l.invariant.still) c.requires.within
+    let scan = c.args.scan.now in
+    let all = records_in scan in
+    let last = Scan scan.page scan.writes ∷ [] in
+    let rest = map copy_record (copies_left c.next.new.self) ++ last in
+    let e = c.in_err-carry_record.field-0.0 in
+    let err : c.from_residual.result ≡ Err e = search rules in
+    let is = subst (λ (cs : List ObjectCopy). IsPutting g.D.Disk c.args.pages.now l.pages c.args.disk.now l.disk c.args.first all l.lsn (map copy_record cs ++ last)) c.in-Some.ensures.steps l.invariant.putting in
+    record {
+      puts = advances_as g.D.Disk c.args.pages.now c.carry_record.new.self c.args.disk.now c.carry_record.new.disk (Err e) c.from_residual.result _ _ _ (sym err)
+          (putting_cut g.D.Disk c.args.pages.now c.args.disk.now c.args.first all l.pages l.disk l.lsn (copy_record c.in-Some.copy) rest is c.carry_record.new.self c.carry_record.new.disk e c.in_err-carry_record.ensures.puts);
+    }
 
 pub loop-copy-preserved : goal.loop-copy-preserved
 loop-copy-preserved g c =
     let l = c.loop-copy in
-    let copy = c.in-Some.copy in
-    let one = c.in_ok-carry_record.ensures.put in
+    let scan = c.args.scan.now in
+    let all = records_in scan in
+    let last = Scan scan.page scan.writes ∷ [] in
+    let rest = map copy_record (copies_left c.next.new.self) ++ last in
+    let is = subst (λ (cs : List ObjectCopy). IsPutting g.D.Disk c.args.pages.now l.pages c.args.disk.now l.disk c.args.first all l.lsn (map copy_record cs ++ last)) c.in-Some.ensures.steps l.invariant.putting in
     record {
       can_next = tt;
       is_finite = tt;
-      left = taken_more c.args.scan.now l.yielded (copies_left l.copy-iterator) (copies_left c.next.new.self) copy l.invariant.left c.in-Some.ensures.steps;
-      next = omega (arith, l.invariant.next, length-append l.yielded (copy ∷ []));
-      put = put_copy c.args.pages.now l.pages c.carry_record.new.self c.args.first l.lsn l.yielded copy l.invariant.next l.invariant.put one;
-      size = put_size l.pages c.carry_record.new.self l.lsn (copy_record copy) one ∙ l.invariant.size;
-      works = c.carry_record.ensures.failed ∙ ok_no_err c.carry_record.result c.carry_record.ensures.still.1;
-      still = c.carry_record.ensures.still.0 ∙ l.invariant.still;
+      putting = putting_next g.D.Disk c.args.pages.now c.args.disk.now c.args.first all l.pages l.disk l.lsn (copy_record c.in-Some.copy) rest is c.carry_record.new.self c.carry_record.new.disk c.in_ok-carry_record.ensures.puts;
     }
 
-pub returns-clause-put : goal.returns-clause-put
-returns-clause-put g c =
+pub returns : goal.returns
+returns g c =
     let l = c.loop-copy in
-    let Put : Record → Type 0 = λ rec. OnOk c.carry_record-2.result (HasPut l.pages c.carry_record-2.new.self (redo_record l.lsn (pages_in_memory l.pages) rec)) in
-    on_ok c.carry_record-2.result
-    (put_scan c.args.pages.now l.pages c.carry_record-2.new.self c.args.first l.lsn c.args.scan.now l.yielded (copies_left l.copy-iterator) l.invariant.left c.in-None.ensures.steps.0 l.invariant.next l.invariant.put)
-    (subst Put c.record.ensures c.carry_record-2.ensures.put)
+    let scan = c.args.scan.now in
+    let all = records_in scan in
+    let last = Scan scan.page scan.writes ∷ [] in
+    let is = subst (λ (cs : List ObjectCopy). IsPutting g.D.Disk c.args.pages.now l.pages c.args.disk.now l.disk c.args.first all l.lsn (map copy_record cs ++ last)) c.in-None.ensures.steps.0 l.invariant.putting in
+    let puts = subst (λ (r : Record). PutsAll g.D.Disk l.pages c.carry_record-2.new.self l.disk c.carry_record-2.new.disk c.carry_record-2.result l.lsn (r ∷ [])) c.record.ensures c.carry_record-2.ensures.puts in
+    record { puts = is.rest c.carry_record-2.new.self c.carry_record-2.new.disk c.carry_record-2.result puts }

@@ -1,15 +1,18 @@
-use Rattle.std.proofs.Common.{◌≡◌, List, [], ◌∷◌, ◌++◌, Ok, Err, length, length-append, refl, ap, ◌∙◌, subst, arith, rules}
+use Rattle.std.proofs.Common.{◌≡◌, List, [], ◌∷◌, ◌++◌, Ok, Err, length, length-append, Result, refl, sym, ap, ◌∙◌, subst, arith, rules}
 use Rattle.std.specs.Prelude.{IsTrue}
+use Rattle.disk_model.specs.declared.disk.DiskError.{DiskError}
 use Rattle.disk_model.specs.Disk.{part}
+use Rattle.disk_model.specs.Keeps.{OnlyReads}
 use Rattle.disk_model.proofs.KeepsLaws.{reads_none, reads_on}
 use Rattle.image_plan.specs.Plan.{log_offset}
+use Rattle.gated_log.specs.LogCause.{log_device_error}
 use Rattle.gated_log.specs.Reader.{reader_place, reader_room, reader_lsn}
 use Rattle.log_records.specs.declared.Record.{Record}
 use Rattle.heap_recovery.specs.declared.error.RecoverError.{RecoverError}
 use Rattle.heap_recovery.specs.declared.error.RecoverError.TheVariants.{NoMemory}
 use Rattle.heap_recovery.specs.Recovered.{log_error}
 use Rattle.heap_recovery.specs.Replayed.{HasReplayed}
-use Rattle.heap_recovery.proofs.LogReplay.{log_still, log_told_of}
+use Rattle.heap_recovery.proofs.LogReplay.{log_still, log_told_of, log_told_device}
 use Rattle.heap_recovery.proofs.read_image.replay_log.Goals as goal
 
 pub loop-reader-init : goal.loop-reader-init
@@ -203,3 +206,12 @@ returns-in_err-take-clause-disk g c =
     let err : c.from_residual-in_err-take.result ≡ Err c.in_err-take.field-0.0 = search rules in
     let told : c.from_residual-in_err-take.result ≡ Err NoMemory = err ∙ ap (λ (e : RecoverError). Err e) c.in_err-take.ensures.error in
     rw told (reads_on g.D.Disk _ _ _ _ tt _ refl c.loop-reader.invariant.disk c.in_ok-record.ensures.disk)
+
+pub returns-in_err-record-clause-disk : goal.returns-in_err-record-clause-disk
+returns-in_err-record-clause-disk g c =
+    let e = c.in_err-record.field-0.0 in
+    let old = c.args.disk.now in
+    let new = c.next.new.disk in
+    let err : c.from_residual-in_err-record.result ≡ Err (log_error e) = search rules in
+    let read = reads_on g.D.Disk old c.loop-reader.disk new (Ok tt) tt (log_device_error e) refl c.loop-reader.invariant.disk c.in_err-record.ensures.disk in
+    rw err (let P : Result (Unit {0}) DiskError → Type 0 = λ r. OnlyReads g.D.Disk old new r in subst P (sym (log_told_device e)) read)

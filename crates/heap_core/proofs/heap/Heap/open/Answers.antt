@@ -2,16 +2,16 @@ use Rattle.log_machine.specs.Machine.{words_in}
 use Rattle.heap_memory.specs.Memory.{Memory}
 use Rattle.heap_engine.specs.EngineState.{memory}
 use Rattle.heap_core.proofs.KeptEntries.{kept_none}
-use Rattle.page_cache.specs.CacheState.{cached}
+use Rattle.page_cache.specs.CacheState.{cached, cache_frames, cache_pages}
 use Rattle.page_cache.specs.declared.cache.PageCache.{PageCache}
-use Rattle.std.proofs.Common.{◌≤◌, ℕ, length, true, Err, refl, sym, ap, ◌∙◌, subst}
+use Rattle.std.proofs.Common.{◌≤◌, ℕ, length, true, Err, refl, sym, ap, ◌∙◌, subst, arith}
 use Rattle.disk_model.proofs.KeepsLaws.{reads_none}
 use Rattle.heap_recovery.specs.declared.error.RecoverError.{RecoverError}
 use Rattle.heap_recovery.specs.declared.error.RecoverError.TheVariants.{NoMemory}
 use Rattle.heap_recovery.specs.Opens.{OpensImage}
 use Rattle.heap_recovery.proofs.OpensLaws.{only_read}
 use Rattle.heap_model.proofs.Shaped.{shaped_image}
-use Rattle.heap_core.proofs.RefinementOpen.{opened_bounds, opened_core, opened_disk_holds, is_fresh}
+use Rattle.heap_core.proofs.RefinementOpen.{opened_bounds, bounded_frames, opened_core, opened_disk_holds, is_fresh}
 use Rattle.page_store.specs.Gates.{open_gates}
 use Rattle.heap_engine.specs.Barrier.{IsSoundCollection}
 use Rattle.heap_spaces.specs.Spaces.{SpacesState}
@@ -29,7 +29,21 @@ pub new-pages-requires : goal.new-pages-requires
 new-pages-requires g c =
     let found = c.in-Ok-recover.ensures.opens in
     let bounds = opened_bounds found.0 c.in-Ok-recover.found found.1 found.2 in
-    record { logged = bounds.new; works = found.2.unfailed; sized = bounds.whole; few = bounds.many; place = found.2.place; behind = bounds.behind }
+    let cache = c.in-Ok-recover.found.cache in
+    record {
+      logged = bounds.new;
+      works = found.2.unfailed;
+      sized = bounds.whole;
+      few = bounds.many;
+      bounded = bounded_frames cache c.in-Ok-recover.ensures.frames;
+      some_frames = omega (arith, bounds.some_pages, c.in-Ok-recover.ensures.frames);
+      place = found.2.place;
+      behind = bounds.behind;
+    }
+
+pub new-engine-requires-clause-whole : goal.new-engine-requires-clause-whole
+new-engine-requires-clause-whole g c =
+    subst (λ (k : PageCache). cache_pages k ≤ cache_frames k) (sym c.new-pages.ensures.cache) (omega (arith, c.in-Ok-recover.ensures.frames))
 
 pub new-engine-requires-clause-few : goal.new-engine-requires-clause-few
 new-engine-requires-clause-few g c =

@@ -110,7 +110,7 @@ invariant_of-self-2-clause-sound g c =
     let records = abort_records c.number-t.result (reverse c.undo-undo.result.now) in
     let a = aborted s c.args.session others c.number-t.result c.undo-undo.result.now records (c.active.ensures.0 c.if-not-active.false) c.reserved_without-others.ensures.kept c.number-t.ensures c.undo-undo.ensures refl in
     let ended = sound_ended s.table (length (pages_in_memory s.pages).words) s.reserved others s.sealed s.sealed c.args.session a.transaction s.sound a.was a.kept (omega arith) in
-    sound_same (with_ended s.table c.args.session) c.end.new.self (length (pages_in_memory s.pages).words) (length (pages_in_memory c.carry_out.new.self).words) others others s.sealed ended c.end.ensures (carried c.carry_out.result c.carry_out.ensures.still.1 c.carry_out.ensures.carries).size refl
+    sound_same (with_ended s.table c.args.session) c.end.new.self (length (pages_in_memory s.pages).words) (length (pages_in_memory c.carry_out.new.pages).words) others others s.sealed ended c.end.ensures (carried c.carry_out.result c.carry_out.ensures.still.1 c.carry_out.ensures.carries).size refl
 
 pub returns-clause-aborted : goal.returns-clause-aborted
 returns-clause-aborted g c is =
@@ -125,7 +125,7 @@ returns-clause-aborted g c is =
       transaction = t;
       was = a.was;
       left = record {
-        log = subst (λ (rs : List Record). Adds (log_of s.pages) (log_of c.carry_out.new.self) rs) a.is (adds_carried _ _ _ c.in_ok-carry_out.ensures.carries);
+        log = subst (λ (rs : List Record). Adds (log_of s.pages) (log_of c.carry_out.new.pages) rs) a.is (adds_carried _ _ _ c.in_ok-carry_out.ensures.carries);
         words = c.in_ok-carry_out.ensures.carries.words ∙ ap (λ (rs : List Record). fold put_record (pages_in_memory s.pages).words rs) a.is;
         lsns = c.in_ok-carry_out.ensures.carries.lsns ∙ ap (λ (rs : List Record). (redo_all (log_next_lsn (log_of s.pages)) (pages_in_memory s.pages) rs).lsns) a.is;
         store = c.in_ok-carry_out.ensures.carries.store;

@@ -82,7 +82,7 @@ invariant_of-self-2-clause-sound g c =
     let others = c.reserved_without-others.result in
     let is = sealed s c.args.session c.args.need others c.args.records.now c.requires.active c.requires.seals c.reserved_without-others.ensures.without c.reserved_without-others.ensures.kept c.requires.room c.requires.memory in
     let ended = sound_ended s.table (length (pages_in_memory s.pages).words) s.reserved others s.sealed (s.sealed + 1) c.args.session is.transaction s.sound is.was is.kept (omega arith) in
-    sound_same (with_ended s.table c.args.session) c.end.new.self (length (pages_in_memory s.pages).words) (length (pages_in_memory c.carry_out.new.self).words) others others (s.sealed + 1) ended c.end.ensures (carried c.carry_out.result c.carry_out.ensures.still.1 c.carry_out.ensures.carries).size refl
+    sound_same (with_ended s.table c.args.session) c.end.new.self (length (pages_in_memory s.pages).words) (length (pages_in_memory c.carry_out.new.pages).words) others others (s.sealed + 1) ended c.end.ensures (carried c.carry_out.result c.carry_out.ensures.still.1 c.carry_out.ensures.carries).size refl
 
 pub invariant_of-self-2-clause-sized : goal.invariant_of-self-2-clause-sized
 invariant_of-self-2-clause-sized g c =
@@ -101,7 +101,7 @@ returns-clause-sealed g c =
       transaction = is.transaction;
       was = is.was;
       left = record {
-        log = subst (λ (rs : List Record). Adds (log_of s.pages) (log_of c.carry_out.new.self) rs) is.seals.appends (adds_carried _ _ _ c.in_ok-carry_out.ensures.carries);
+        log = subst (λ (rs : List Record). Adds (log_of s.pages) (log_of c.carry_out.new.pages) rs) is.seals.appends (adds_carried _ _ _ c.in_ok-carry_out.ensures.carries);
         words = c.in_ok-carry_out.ensures.carries.words ∙ ap (λ (rs : List Record). fold put_record (pages_in_memory s.pages).words rs) is.seals.appends;
         lsns = c.in_ok-carry_out.ensures.carries.lsns ∙ ap (λ (rs : List Record). (redo_all (log_next_lsn (log_of s.pages)) (pages_in_memory s.pages) rs).lsns) is.seals.appends;
         store = c.in_ok-carry_out.ensures.carries.store;

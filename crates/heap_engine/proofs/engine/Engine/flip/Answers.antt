@@ -77,7 +77,7 @@ invariant_of-self-2-clause-sound g c =
     let long : length (pages_in_memory s.pages).words ≡ size = ap length (sym c.make_room.ensures.same.words) in
     let below = subst (λ (table : TableState). GoAlongBelow size pairs table) (sym c.make_room.ensures.same.table) (subst (λ (n : ℕ). GoAlongBelow n pairs s.table) long c.in_ok-plan.ensures.along) in
     let sound = sound_along mid.table c.translate.new.self size mid.reserved mid.sealed pairs moves mid.sound gone below in
-    sound_same c.translate.new.self c.translate.new.self size (length (pages_in_memory c.carry_out.new.self).words) mid.reserved mid.reserved mid.sealed sound refl (carried c.carry_out.result c.carry_out.ensures.still.1 c.carry_out.ensures.carries).size refl
+    sound_same c.translate.new.self c.translate.new.self size (length (pages_in_memory c.carry_out.new.pages).words) mid.reserved mid.reserved mid.sealed sound refl (carried c.carry_out.result c.carry_out.ensures.still.1 c.carry_out.ensures.carries).size refl
 
 pub returns-clause-flipped : goal.returns-clause-flipped
 returns-clause-flipped g c objects words is =
@@ -90,7 +90,7 @@ returns-clause-flipped g c objects words is =
     let gone =
     subst (λ (table : TableState). HaveGoneAlong (pairs_of copies) table c.translate.new.self) same.table
     (subst (λ (ps : List (ℕ × ℕ)). HaveGoneAlong ps mid.table c.translate.new.self) c.pairs-2.ensures.pairs c.translate.ensures) in
-    let log = subst (λ (rec : Record). Adds (log_of mid.pages) (log_of c.carry_out.new.self) (rec ∷ [])) c.into_record.ensures (adds_carried _ _ _ c.in_ok-carry_out.ensures.carries) in
+    let log = subst (λ (rec : Record). Adds (log_of mid.pages) (log_of c.carry_out.new.pages) (rec ∷ [])) c.into_record.ensures (adds_carried _ _ _ c.in_ok-carry_out.ensures.carries) in
     let put = c.in_ok-carry_out.ensures.carries.words ∙ ap (λ (rec : Record). fold put_record (pages_in_memory mid.pages).words (rec ∷ [])) c.into_record.ensures in
     let lsns = c.in_ok-carry_out.ensures.carries.lsns ∙ ap (λ (rec : Record). (redo_all (log_next_lsn (log_of mid.pages)) (pages_in_memory mid.pages) (rec ∷ [])).lsns) c.into_record.ensures in
     let locks = c.in_ok-rekey.ensures.ok ∙ (λ i. rekeyed (c.pairs.ensures.pairs i) (same.locks i)) in

@@ -1,4 +1,4 @@
-use Rattle.std.proofs.Common.{rules, ◌≡◌, ◌≢◌, ◌+◌, ◌≤◌, ℕ, length, Ok, Err, refl, sym, ap, ◌∙◌, subst, arith}
+use Rattle.std.proofs.Common.{◌*◌, rules, ◌≡◌, ◌≢◌, ◌+◌, ◌≤◌, ℕ, length, Ok, Err, refl, sym, ap, ◌∙◌, subst, arith}
 use Rattle.std.specs.Prelude.{is_err}
 use Rattle.disk_model.proofs.MomentLaws.{weaker}
 use Rattle.gate_slot.specs.Passing.{Passes}
@@ -12,6 +12,7 @@ use Rattle.heap_model.specs.Core.{Core, cut, log_origin}
 use Rattle.heap_model.proofs.Run.Calls.{calls-granted}
 use Rattle.memory_laws.specs.CoreMemory.{IsMemory}
 use Rattle.memory_laws.proofs.Step.Flush.{flush_no_page, flush_clean, flush_done}
+use Rattle.image_plan.specs.declared.plan.Plan.{Plan}
 use Rattle.page_redo.specs.Pages.{Pages}
 use Rattle.heap_engine.specs.declared.step_error.StepError.TheVariants.{Disk}
 use Rattle.heap_engine.specs.EngineState.{memory}
@@ -81,7 +82,7 @@ returns-clause-core g c =
                 (λ told.
                 let known = is.pages told in
                 knows_left core _ p (left_flushed core p valid lt) _ _
-                (flushed_knows core e p is.memory page dirty _ _ known (c.in_ok-store.ensures.stored told known.frames) _ (c.in_ok-store.ensures.frames told known.frames))),
+                (flushed_knows core e p is.memory page dirty _ _ known (c.in_ok-store.ensures.stored told known.frames) _ (c.in_ok-store.ensures.known told known.frames))),
           );
       still = λ core is reached no_calls.
           let valid = engine_valid d core e c.args.disk.now is reached in
@@ -171,4 +172,5 @@ invariant_of-self g c =
       sound = subst (λ (n : ℕ). AreSound e.table n e.reserved e.sealed) (sym size) e.sound;
       sized = size ∙ e.sized;
       few = omega (arith, size, e.few);
+      whole = omega (arith, e.whole, ap (λ (of : Plan). 2 * of.pages) store.plan, store.frames);
     }

@@ -51,10 +51,10 @@ returns-clause-got g c granted =
     let mid = c.make_room_for.new.self in
     let plan = c.in_ok-scan.scan in
     let now : Memory = record {
-      log = log_of c.carry_out.new.self;
-      words = (pages_in_memory c.carry_out.new.self).words;
-      lsns = (pages_in_memory c.carry_out.new.self).lsns;
-      store = store_of c.carry_out.new.self;
+      log = log_of c.carry_out.new.pages;
+      words = (pages_in_memory c.carry_out.new.pages).words;
+      lsns = (pages_in_memory c.carry_out.new.pages).lsns;
+      store = store_of c.carry_out.new.pages;
       spaces = c.note_scan.new.spaces;
       collection = c.note_scan.new.collection;
       table = mid.table;
@@ -62,7 +62,7 @@ returns-clause-got g c granted =
       sealed = mid.sealed;
     } in
     let is = noted plan mid.spaces c.note_scan.new.spaces mid.collection c.keep_copies.new.collection c.note_scan.new.collection c.copies.result.now c.copies.ensures c.in_ok-keep_copies.ensures.ok c.note_scan.ensures.spaces c.note_scan.ensures.collection in
-    let word : c.unwrap_or-word.result ≡ slice_index (field_words (pages_in_memory c.carry_out.new.self).words c.args.object) c.args.field = search rules in
+    let word : c.unwrap_or-word.result ≡ slice_index (field_words (pages_in_memory c.carry_out.new.pages).words c.args.object) c.args.field = search rules in
     got_at (memory s) (memory mid) now (memory c.read_into.new.self) c.args.session c.args.h c.args.object c.args.field c.number.result c.unwrap_or-word.result (planned_records plan.scan) c.make_room_for.ensures.same
     c.in_ok-scan.ensures.records
     (record {
@@ -97,8 +97,8 @@ returns-clause-reply g c =
     let words = (pages_in_memory c.args.self.now.pages).words in
     let free : busy_with (holder_of m.locks (asked c.number.result Shared c.args.object)) ≡ None = ap (λ (lock : Holding). busy_with (holder_of m.locks lock)) (sym c.lock_of-lock.ensures) ∙ sym c.lock_refusal.ensures.why ∙ c.in_default.is in
     let room : records_room m (barrier_records m c.args.object c.args.field) ≡ None = ap (records_room m) (sym c.in_ok-scan.ensures.records) ∙ sym c.in_ok-why.ensures.why ∙ c.in_default-2.is in
-    let word : c.unwrap_or-word.result ≡ slice_index (field_words (pages_in_memory c.carry_out.new.self).words c.args.object) c.args.field = search rules in
-    let behind : (pages_in_memory c.carry_out.new.self).words ≡ fold put_record words (barrier_records m c.args.object c.args.field) =
+    let word : c.unwrap_or-word.result ≡ slice_index (field_words (pages_in_memory c.carry_out.new.pages).words c.args.object) c.args.field = search rules in
+    let behind : (pages_in_memory c.carry_out.new.pages).words ≡ fold put_record words (barrier_records m c.args.object c.args.field) =
     c.in_ok-carry_out.ensures.carries.words ∙ (λ i. fold put_record (c.make_room_for.ensures.same.words i) (c.in_ok-scan.ensures.records i)) in
     let told = c.read_into.ensures.reply
     ∙ ap (λ n. word_reply (meaning n)) (word ∙ ap (λ (ws : List ℕ). slice_index (field_words ws c.args.object) c.args.field) behind) in

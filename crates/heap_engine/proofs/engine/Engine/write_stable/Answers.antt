@@ -66,7 +66,7 @@ invariant_of-self-2-clause-sound g c =
     let table = c.keep_write.new.table in
     let written = sound_write s.table table (length (pages_in_memory s.pages).words) s.reserved s.sealed c.args.session entry s.sound c.requires.active c.in_default-keep_write.ensures.kept here in
     let size = (carried c.carry_out.result c.carry_out.ensures.still.1 c.carry_out.ensures.carries).size ∙ ap (λ (k : PageCache). length (cached k).words) c.reserve_room.ensures.cache in
-    sound_same table table (length (pages_in_memory s.pages).words) (length (pages_in_memory c.carry_out.new.self).words) (s.reserved + 19) (s.reserved + 19) s.sealed written refl size refl
+    sound_same table table (length (pages_in_memory s.pages).words) (length (pages_in_memory c.carry_out.new.pages).words) (s.reserved + 19) (s.reserved + 19) s.sealed written refl size refl
 
 pub invariant_of-self-2-clause-sized : goal.invariant_of-self-2-clause-sized
 invariant_of-self-2-clause-sized g c =

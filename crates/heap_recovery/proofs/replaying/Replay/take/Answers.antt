@@ -21,13 +21,10 @@ returns-clause-on c of stored records next was =
     let none : c.args.self.now.unshaped ≡ None = none_of c.args.self.now.unshaped (sym c.if-is_some.ensures) in
     replayed_on of stored records c.args.rec.now c.args.self.now _ was c.redo.ensures.store c.args.lsn next none none c.in-Ok.ensures.ok c.redo.ensures.redone
 
-pub invariant_of-self-2 : goal.invariant_of-self-2
-invariant_of-self-2 c =
+pub invariant_of-self-2-clause-sized : goal.invariant_of-self-2-clause-sized
+invariant_of-self-2-clause-sized c =
     let old = c.args.self.now in
-    record {
-      sized =
-          ap (λ (pages : Pages). length pages.words) c.redo.ensures.redone
-          ∙ words-redo_record c.args.lsn (cached old.cache) c.args.rec.now
-          ∙ old.sized
-          ∙ ap words_in (sym (leads_after old.state c.after.new.self c.args.rec.now c.in-Ok.ensures.ok).pages);
-    }
+    ap (λ (pages : Pages). length pages.words) c.redo.ensures.redone
+    ∙ words-redo_record c.args.lsn (cached old.cache) c.args.rec.now
+    ∙ old.sized
+    ∙ ap words_in (sym (leads_after old.state c.after.new.self c.args.rec.now c.in-Ok.ensures.ok).pages)
