@@ -142,7 +142,7 @@ fn open_pages(
     disk: &mut MemoryDisk,
 ) -> Result<PageCache, page_store::ReadPagesError> {
     assert!(rt; disk.size() >= PLAN.size());
-    PageCache::open(alloc, disk, PLAN)
+    PageCache::open(alloc, disk, PLAN, 2 * PLAN.pages)
 }
 
 /// Redoes these records on the pages, on which each of them can follow.

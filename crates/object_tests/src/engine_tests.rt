@@ -55,7 +55,7 @@ fn new_heap(rt: &impl Abort, alloc: Global, plan: Plan) -> Result<Opened, Fail> 
     assert!(rt; disk.size() >= plan.size());
     let (log, _) = Log::open(alloc, &mut disk, plan.log_at(), plan.log_bytes)?;
     assert!(rt; disk.size() >= plan.size());
-    let cache = PageCache::open(alloc, &mut disk, plan)?;
+    let cache = PageCache::open(alloc, &mut disk, plan, 2 * plan.pages)?;
     assert!(rt; cache.first_past(log.records()).is_none());
     let pages = LoggedPages::new(log, cache);
     let spaces = Spaces::new(1, 0, 6, 0);

@@ -1,11 +1,12 @@
-//! Records that are carried out with forces and stores in between, in a random order: memory has the words and the LSNs that they leave, and so have the pages
-//! after a restart, once the forced records are redone on the stored ones.
+//! Records that are carried out with forces and stores in between, in a random order and where so many pages may be dirty: memory has the words and the
+//! LSNs that they leave, and so have the pages after a restart, once the forced records are redone on the stored ones. And which pages are stored to make
+//! way for others, in how many calls.
 ghost use Rattle.std.specs.Prelude.{◌≡◌, ◌+◌, ◌<◌, ◌≤◌, length, IfOk};
 ghost use Rattle.log_machine.specs.Effect.{WritesBelow, EachWritesBelow};
 
 use crate::compare::same;
 use crate::disks::disk_of;
-use disk_model::{Disk, MemoryDisk, Pick};
+use disk_model::{Disk, FuseDisk, MemoryDisk, Pick};
 use gated_log::Log;
 use image_plan::Plan;
 use log_records::{Copies, ObjectCopy, ObjectWords, Record, Writes, length};
@@ -200,16 +201,16 @@ impl Draws {
 }
 
 /// A disk of zeros.
-fn new_disk(alloc: Global) -> Result<MemoryDisk, AllocError> {
+fn new_disk(alloc: Global, pick: Pick) -> Result<MemoryDisk, AllocError> {
     let bytes = vec![in alloc; 0u8; 24_896]?;
-    disk_of(alloc, bytes, Pick::Synced, 400_000, (&[], &[]))
+    disk_of(alloc, bytes, pick, 400_000, (&[], &[]))
 }
 
 // What follows wraps calls with long contracts, since each of their callers would otherwise prove them anew.
 
 fn open_cache(rt: &impl Abort, alloc: Global, disk: &mut MemoryDisk) -> Result<PageCache, Fail> {
     assert!(rt; disk.size() >= PLAN.size());
-    Ok(PageCache::open(alloc, disk, PLAN)?)
+    Ok(PageCache::open(alloc, disk, PLAN, 8)?)
 }
 
 fn open_log(
@@ -221,11 +222,18 @@ fn open_log(
     Ok(Log::open(alloc, disk, PLAN.log_at(), PLAN.log_bytes)?)
 }
 
-/// Opens a disk of zeros.
-fn open(rt: &impl Abort, alloc: Global, disk: &mut MemoryDisk) -> Result<LoggedPages, Fail> {
+/// Opens a disk of zeros: so many of its pages may be dirty.
+fn open(
+    rt: &impl Abort,
+    alloc: Global,
+    disk: &mut MemoryDisk,
+    frames: u32,
+) -> Result<LoggedPages, Fail>
+    requires { 0 < frames }
+{
     assert!(rt; disk.size() >= PLAN.size());
     let log = Log::open(alloc, disk, PLAN.log_at(), PLAN.log_bytes)?.0;
-    let cache = PageCache::open(alloc, disk, PLAN)?;
+    let cache = PageCache::open(alloc, disk, PLAN, frames)?;
     assert!(rt; log.records() < 9 && cache.pages() <= 32_768);
     match cache.first_past(log.records()) {
         None => Ok(LoggedPages::new(log, cache)),
@@ -233,13 +241,13 @@ fn open(rt: &impl Abort, alloc: Global, disk: &mut MemoryDisk) -> Result<LoggedP
     }
 }
 
-/// Carries a record out.
-fn carry(
+/// Carries a record out, and tells whether the disk has not stopped.
+fn carried<D: Disk>(
     rt: &impl Abort,
     pages: &mut LoggedPages,
-    disk: &mut MemoryDisk,
+    disk: &mut D,
     rec: &Record,
-) -> Result<(), Fail>
+) -> Result<bool, Fail>
     requires { WritesBelow 512 rec.now }
 {
     let bytes = length(rec);
@@ -250,7 +258,7 @@ fn carry(
     let records = Listed {
         records: std::slice::from_ref(rec),
     };
-    Ok(pages.carry_out(disk, &records)?)
+    Ok(pages.carry_out(disk, &records).is_ok())
 }
 
 fn force(rt: &impl Abort, pages: &mut LoggedPages, disk: &mut MemoryDisk) -> Result<(), Fail> {
@@ -305,7 +313,7 @@ fn play_all(
     requires { EachWritesBelow 512 records.now }
 {
     for rec in records {
-        carry(rt, pages, disk, rec)?;
+        same(rt, carried(rt, pages, disk, rec)?, true);
         plain.put(pages.records(), rec);
         same(rt, pages.as_slice(), plain.words.as_slice());
         write_some(rt, pages, disk, draws)?;
@@ -320,10 +328,12 @@ fn play(
     disk: &mut MemoryDisk,
     records: &[Record],
     draws: &mut Draws,
+    frames: u32,
 ) -> Result<u64, Fail>
-    requires { EachWritesBelow 512 records.now }
+    requires inside { EachWritesBelow 512 records.now }
+    requires some { 0 < frames }
 {
-    let mut pages = open(rt, alloc, disk)?;
+    let mut pages = open(rt, alloc, disk, frames)?;
     let mut plain = Plain::new(alloc)?;
     for _ in 0..3 {
         play_all(rt, &mut pages, disk, records, &mut plain, draws)?;
@@ -361,7 +371,7 @@ fn redo_round(
     }
 }
 
-/// After a restart the log has as many records as were forced, and redo leaves the words of these.
+/// Redo of so many of the log's records, from the first on, leaves their words.
 fn check_reopened(
     rt: &impl Abort,
     alloc: Global,
@@ -371,8 +381,6 @@ fn check_reopened(
 ) -> Result<(), Fail>
     requires { EachWritesBelow 512 records.now }
 {
-    let (log, found) = open_log(rt, alloc, disk)?;
-    same(rt, (log.records(), found.len() as u64), (forced, forced));
     let mut cache = open_cache(rt, alloc, disk)?;
     let mut plain = Plain::new(alloc)?;
     for round in 0..3u64 {
@@ -382,15 +390,154 @@ fn check_reopened(
     Ok(())
 }
 
+/// How many records the log of a disk has.
+fn logged(rt: &impl Abort, alloc: Global, disk: &mut MemoryDisk) -> Result<u64, Fail> {
+    let (log, found) = open_log(rt, alloc, disk)?;
+    same(rt, found.len() as u64, log.records());
+    Ok(log.records())
+}
+
 #[test]
 fn carried_out_with_forces_and_stores_in_between(rt: HostRuntime) -> Result<(), Fail> {
     let records = records(rt.alloc())?;
-    for seed in 0..40 {
-        let mut disk = new_disk(rt.alloc())?;
-        let mut draws = Draws { state: seed };
-        let forced = play(&rt, rt.alloc(), &mut disk, &records, &mut draws)?;
+    for seed in 0..40u32 {
+        let mut disk = new_disk(rt.alloc(), Pick::Synced)?;
+        let mut draws = Draws {
+            state: u64::from(seed),
+        };
+        let frames = 1 + seed % 8;
+        let forced = play(&rt, rt.alloc(), &mut disk, &records, &mut draws, frames)?;
         disk.restart();
+        same(&rt, logged(&rt, rt.alloc(), &mut disk)?, forced);
         check_reopened(&rt, rt.alloc(), &mut disk, &records, forced)?;
     }
+    Ok(())
+}
+
+/// What there is once a record was carried out where two pages may be dirty: how many writes and syncs were made, the last LSN on the disk, and the
+/// dirty pages, of which a single one is named twice.
+type Step = (u64, u64, [u32; 2]);
+
+/// Once each record was carried out. A force takes four calls and a store four, but six from a page's third store on. The pages that are stored are 0, 1
+/// and 2 behind a force; 3; 4, 1 behind a force, 0 and 4; 5, 6, and 1 behind a force; 2, 7, 0 behind a force, and 2; 3.
+const STEPS: [Step; 9] = [
+    (0, 0, [0, 0]),
+    (16, 2, [3, 4]),
+    (20, 2, [1, 4]),
+    (20, 2, [1, 4]),
+    (40, 5, [5, 6]),
+    (58, 6, [2, 7]),
+    (82, 7, [3, 4]),
+    (82, 7, [3, 4]),
+    (86, 7, [4, 7]),
+];
+
+/// The calls of all of them.
+const CALLS: u64 = 86;
+
+/// The LSNs with which the pages are stored then.
+const STORED: [u64; 8] = [7, 6, 7, 7, 5, 5, 5, 6];
+
+fn is_dirty(rt: &impl Abort, pages: &LoggedPages, p: u32) -> bool {
+    assert!(rt; p < pages.pages());
+    pages.dirty(p)
+}
+
+fn check_step(rt: &impl Abort, pages: &LoggedPages, passed: u64, step: &Step) {
+    let (calls, forced, dirty) = step;
+    same(rt, (passed, pages.forced()), (*calls, *forced));
+    for p in 0..8 {
+        let want = dirty[0] == p || dirty[1] == p;
+        same(rt, (passed, p, is_dirty(rt, pages, p)), (passed, p, want));
+    }
+}
+
+/// Opens the pages, which have these LSNs.
+fn check_stored(rt: &impl Abort, alloc: Global, disk: &mut MemoryDisk) -> Result<(), Fail> {
+    let cache = open_cache(rt, alloc, disk)?;
+    for (p, lsn) in STORED.iter().enumerate() {
+        assert!(rt; (p as u32) < cache.pages());
+        same(rt, (p, cache.lsn(p as u32)), (p, *lsn));
+    }
+    Ok(())
+}
+
+#[test]
+fn stored_to_make_way(rt: HostRuntime) -> Result<(), Fail> {
+    let records = records(rt.alloc())?;
+    let mut disk = new_disk(rt.alloc(), Pick::Synced)?;
+    let mut pages = open(&rt, rt.alloc(), &mut disk, 2)?;
+    let mut fuse = FuseDisk::new(disk, CALLS);
+    for (i, rec) in records.iter().enumerate() {
+        same(&rt, carried(&rt, &mut pages, &mut fuse, rec)?, true);
+        assert!(rt; i < 9);
+        check_step(&rt, &pages, fuse.passed(), &STEPS[i]);
+    }
+    check_stored(&rt, rt.alloc(), &mut fuse.into_inner())
+}
+
+/// Carries records out until the disk stops, and tells whether it has not.
+fn carried_all(
+    rt: &impl Abort,
+    pages: &mut LoggedPages,
+    disk: &mut FuseDisk<MemoryDisk>,
+    records: &[Record],
+) -> Result<bool, Fail>
+    requires { EachWritesBelow 512 records.now }
+{
+    for rec in records {
+        if !carried(rt, pages, disk, rec)? {
+            return Ok(false);
+        }
+    }
+    Ok(true)
+}
+
+/// The disk stops at that call, and is restarted: its log has the records that were forced, or the pending ones too, and redo leaves their words.
+fn check_stop(
+    rt: &impl Abort,
+    alloc: Global,
+    records: &[Record],
+    limit: u64,
+    pick: Pick,
+) -> Result<(), Fail>
+    requires { EachWritesBelow 512 records.now }
+{
+    let mut disk = new_disk(alloc, pick)?;
+    let mut pages = open(rt, alloc, &mut disk, 2)?;
+    let mut fuse = FuseDisk::new(disk, limit);
+    let done = carried_all(rt, &mut pages, &mut fuse, records)?;
+    same(rt, (limit, done), (limit, limit == CALLS));
+    let mut disk = fuse.into_inner();
+    disk.restart();
+    let found = logged(rt, alloc, &mut disk)?;
+    let either = found == pages.forced() || found == pages.records();
+    same(rt, (limit, pick, either), (limit, pick, true));
+    check_reopened(rt, alloc, &mut disk, records, found)
+}
+
+/// What a restart may leave.
+const PICKS: [Pick; 4] = [Pick::Synced, Pick::Newest, Pick::AllOnes, Pick::AllOpen];
+
+#[test]
+fn stopped_at_each_call(rt: HostRuntime) -> Result<(), Fail> {
+    let records = records(rt.alloc())?;
+    for pick in &PICKS {
+        for limit in 0..CALLS + 1 {
+            check_stop(&rt, rt.alloc(), &records, limit, *pick)?;
+        }
+    }
+    Ok(())
+}
+
+/// Where each page may be dirty, the disk is not called.
+#[test]
+fn no_call_with_a_frame_for_each_page(rt: HostRuntime) -> Result<(), Fail> {
+    let records = records(rt.alloc())?;
+    let mut disk = new_disk(rt.alloc(), Pick::Synced)?;
+    let mut pages = open(&rt, rt.alloc(), &mut disk, 8)?;
+    let mut fuse = FuseDisk::new(disk, 0);
+    let done = carried_all(&rt, &mut pages, &mut fuse, &records)?;
+    same(&rt, (done, fuse.passed(), pages.forced()), (true, 0, 0));
     Ok(())
 }

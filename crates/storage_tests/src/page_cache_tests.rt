@@ -1,4 +1,5 @@
-//! Records on pages some of which are stored in between: an opening and redo give the words that the records leave.
+//! Records on pages some of which are stored in between: an opening and redo give the words that the records leave. And which page has to be
+//! stored before another one is written.
 ghost use Rattle.std.specs.Prelude.{◌+◌, ◌<◌, length, IfOk};
 ghost use Rattle.log_machine.specs.Effect.{WritesBelow, EachWritesBelow};
 
@@ -111,9 +112,10 @@ fn open(
     rt: &impl Abort,
     alloc: Global,
     disk: &mut MemoryDisk,
+    frames: u32,
 ) -> Result<PageCache, ReadPagesError> {
     assert!(rt; disk.size() >= PLAN.size());
-    PageCache::open(alloc, disk, PLAN)
+    PageCache::open(alloc, disk, PLAN, frames)
 }
 
 /// Stores page `p` as it is now.
@@ -137,15 +139,21 @@ fn check_clean(rt: &impl Abort, cache: &PageCache, p: u32) {
     same(rt, cache.dirty(p), false);
 }
 
-/// Puts a record on pages that are not ahead of it, after that many others.
-fn apply(rt: &impl Abort, cache: &mut PageCache, before: u64, rec: &Record)
+/// Puts a record, of that LSN, on the pages that lack it.
+fn redo_one(rt: &impl Abort, cache: &mut PageCache, lsn: u64, rec: &Record)
     requires { WritesBelow 256 rec.now }
 {
-    assert!(rt; before < 99 && cache.as_slice().len() == 256);
-    match cache.first_past(before) {
-        None => cache.apply(before + 1, rec),
-        Some(p) => panic!(rt; "page {p} is ahead of record {before}"),
-    }
+    assert!(rt; cache.as_slice().len() == 256);
+    cache.redo(lsn, rec);
+}
+
+/// Puts what a record writes on page `p`, for which no page has to be stored before.
+fn write(rt: &impl Abort, cache: &mut PageCache, lsn: u64, p: u32, rec: &Record)
+    requires { WritesBelow 256 rec.now }
+{
+    assert!(rt; cache.as_slice().len() == 256 && p < cache.pages());
+    assert!(rt; cache.lsn(p) < lsn && cache.victim(p).is_none());
+    cache.write(lsn, p, rec);
 }
 
 fn redo(rt: &impl Abort, cache: &mut PageCache, records: &[Record])
@@ -181,9 +189,9 @@ fn play(
 ) -> Result<(), Fail>
     requires { EachWritesBelow 256 records.now }
 {
-    let mut cache = open(rt, alloc, disk)?;
+    let mut cache = open(rt, alloc, disk, 4)?;
     for (i, rec) in records.iter().enumerate() {
-        apply(rt, &mut cache, i as u64, rec);
+        redo_one(rt, &mut cache, i as u64 + 1, rec);
         flush_due(rt, &mut cache, disk, flushes, i as u64 + 1)?;
     }
     Ok(())
@@ -220,7 +228,7 @@ fn redone(
 ) -> Result<PageCache, ReadPagesError>
     requires { EachWritesBelow 256 records.now }
 {
-    let mut cache = open(rt, alloc, disk)?;
+    let mut cache = open(rt, alloc, disk, 4)?;
     same(rt, lsns(rt, &cache), stored);
     redo(rt, &mut cache, records);
     Ok(cache)
@@ -299,5 +307,54 @@ fn words_by_address_and_pages_ahead_of_a_log(rt: HostRuntime) -> Result<(), Fail
     let cache = redone_on_new(&rt, rt.alloc())?;
     same(&rt, three_words(&rt, &cache), [5, 9, 25]);
     check_firsts_past(&rt, &cache);
+    Ok(())
+}
+
+/// The victims of the four pages.
+fn victims(rt: &impl Abort, cache: &PageCache) -> [Option<u32>; 4] {
+    assert!(rt; cache.pages() == 4);
+    [
+        cache.victim(0),
+        cache.victim(1),
+        cache.victim(2),
+        cache.victim(3),
+    ]
+}
+
+#[test]
+fn victims_by_lsn_and_page(rt: HostRuntime) -> Result<(), Fail> {
+    let mut disk = new_disk(rt.alloc())?;
+    let mut cache = open(&rt, rt.alloc(), &mut disk, 2)?;
+    let both = base(rt.alloc(), 9)?;
+    write(&rt, &mut cache, 1, 1, &both);
+    same(&rt, victims(&rt, &cache), [None; 4]);
+    write(&rt, &mut cache, 1, 0, &both);
+    same(&rt, victims(&rt, &cache), [None, None, Some(0), Some(0)]);
+    write(&rt, &mut cache, 2, 0, &update(0, 0, 5));
+    same(&rt, victims(&rt, &cache), [None, None, Some(1), Some(1)]);
+    flush(&rt, &mut cache, &mut disk, 1, 2)?;
+    same(&rt, victims(&rt, &cache), [None; 4]);
+    write(&rt, &mut cache, 3, 3, &update(200, 53, 25));
+    same(&rt, victims(&rt, &cache), [None, Some(0), Some(0), None]);
+    same(&rt, cache.frames(), 2);
+    Ok(())
+}
+
+/// Redo asks for no victim: of four pages three are dirty after it, where one may be.
+#[test]
+fn more_dirty_pages_after_redo(rt: HostRuntime) -> Result<(), Fail> {
+    let mut disk = new_disk(rt.alloc())?;
+    let records = records(rt.alloc())?;
+    let mut cache = open(&rt, rt.alloc(), &mut disk, 1)?;
+    redo(&rt, &mut cache, &records);
+    same(&rt, victims(&rt, &cache), [None, None, Some(0), None]);
+    Ok(())
+}
+
+#[test]
+fn no_frames(rt: HostRuntime) -> Result<(), Fail> {
+    let mut disk = new_disk(rt.alloc())?;
+    let cache = open(&rt, rt.alloc(), &mut disk, 0)?;
+    same(&rt, victims(&rt, &cache), [None; 4]);
     Ok(())
 }
