@@ -456,6 +456,7 @@ impl<T: Twins> TwinLock<T> {
     /// device: it is for a caller whose own turn does the more, the more others came before it. A pass that has a ticket of the device's turn would wait
     /// for itself.
     pub fn settle<R: Wait>(&self, rt: &R, _pass: &TwinPass<T>)
+        requires pass { IsPassOf self.now _pass.now }
         requires resting { (me_of _pass.now).0.device.stage ≡ Resting }
     {
         let from = self.table.shared.peek(DEVICE_SERVED);
