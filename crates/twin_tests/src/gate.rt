@@ -1,5 +1,5 @@
 //! Two threads, of which one posts or settles while the other has the mirror.
-ghost use Rattle.std.specs.Prelude.{◌≡◌, ◌++◌, [], ◌∷◌, IfOk};
+ghost use Rattle.std.specs.Prelude.{◌≡◌, ◌++◌, [], ◌∷◌, IfOk, Some, slice_get, vec_len};
 ghost use Rattle.turn_lock.specs.TwinPasses.{pass_numbers, passes_of};
 ghost use Rattle.twin_ledger.specs.Ready.{IsReady};
 
@@ -10,6 +10,13 @@ use std::sync::atomic::{AtomicU64, Ordering};
 use std::thread::{Threads, join};
 use turn_lock::{TwinLock, TwinPass};
 use twin_ledger::{Journal, Mirror, both, post};
+
+/// A lock with three passes, two of which go before the third.
+pub type Three = (
+    TwinLock<Journal>,
+    (TwinPass<Journal>, TwinPass<Journal>),
+    TwinPass<Journal>,
+);
 
 // How often a thread looks at most whether the other has come so far.
 const LOOKS: u32 = 1_000_000;
@@ -61,6 +68,31 @@ fn hold_mirror<R: Wait>(
     reached.store(3, Ordering::SeqCst);
     lock.put_device(&mut pass, held, 0);
     (pass, came)
+}
+
+// Has the mirror with one pass until the other thread settles, and some time longer, and then as long with another pass, which had a ticket all the while. Says
+// whether that thread came.
+fn hold_mirror_twice<R: Wait>(
+    rt: &R,
+    lock: &TwinLock<Journal>,
+    passes: (TwinPass<Journal>, TwinPass<Journal>),
+    reached: &AtomicU64,
+) -> bool
+    requires passes { IsReady lock.now passes.0 × IsReady lock.now passes.1 }
+{
+    let (mut one, mut two) = passes;
+    let first = lock.queue_device(&mut one);
+    let second = lock.queue_device(&mut two);
+    let held = lock.wait_device(rt, &mut one, first);
+    reached.store(1, Ordering::SeqCst);
+    let came = is_reached(reached, 2);
+    pause();
+    lock.put_device(&mut one, held, 0);
+    let again = lock.wait_device(rt, &mut two, second);
+    pause();
+    reached.store(3, Ordering::SeqCst);
+    lock.put_device(&mut two, again, 0);
+    came
 }
 
 // Posts once the other thread has the mirror, and says whether it had.
@@ -142,6 +174,30 @@ pub fn acts_meanwhile<R: Threads + Wait + Sync>(
     (one, saw && had)
 }
 
+/// Whether a thread that settled waited until both passes ahead of it had put the mirror back.
+pub fn settles_behind_two<R: Threads + Wait + Sync>(
+    rt: &R,
+    lock: &TwinLock<Journal>,
+    ahead: (TwinPass<Journal>, TwinPass<Journal>),
+    last: TwinPass<Journal>,
+) -> bool
+    requires ahead { IsReady lock.now ahead.0 × IsReady lock.now ahead.1 }
+    requires last { IsReady lock.now last }
+{
+    let word = AtomicU64::new(0);
+    let reached = &word;
+    let (came, (_last, waited)) = join(
+        rt,
+        || -> bool
+            requires passes { IsReady lock.now ahead.0 × IsReady lock.now ahead.1 }
+        { hold_mirror_twice(rt, lock, ahead, reached) },
+        || -> (TwinPass<Journal>, bool)
+            requires pass { IsReady lock.now last }
+        { settle_meanwhile(rt, lock, last, reached) },
+    );
+    came && waited
+}
+
 /// A journal and a mirror that fails after so many calls, with two passes.
 pub fn begin(
     alloc: Global,
@@ -161,6 +217,36 @@ pub fn begin(
     };
     let (one, two) = both(passes);
     Ok((lock, one, two))
+}
+
+// The three passes of a list.
+fn all_three(
+    mut passes: Vec<TwinPass<Journal>>,
+) -> ((TwinPass<Journal>, TwinPass<Journal>), TwinPass<Journal>)
+    requires { vec_len passes ≡ 3 }
+    ensures first { slice_get passes.items 0 ≡ Some result.0.0 }
+    ensures second { slice_get passes.items 1 ≡ Some result.0.1 }
+    ensures third { slice_get passes.items 2 ≡ Some result.1 }
+{
+    let three = passes.pop().unwrap();
+    (both(passes), three)
+}
+
+/// A journal and a mirror that fails after so many calls, with three passes.
+pub fn begin_three(alloc: Global, calls: u64) -> Result<Three, AllocError>
+    ensures ready { IfOk result (λ r. IsReady r.0 r.1.0 × IsReady r.0 r.1.1 × IsReady r.0 r.2) }
+{
+    let begun = TwinLock::new(
+        alloc,
+        Journal::new(alloc, 1),
+        Mirror::new(alloc, calls),
+        &[1, 2, 3],
+    );
+    let Ok((lock, passes)) = begun else {
+        return Err(AllocError);
+    };
+    let (ahead, last) = all_three(passes);
+    Ok((lock, ahead, last))
 }
 
 /// Ends the lock, with the pass that both became.

@@ -1,5 +1,5 @@
 //! Plays of a journal with its mirror.
-use crate::gate::{Meanwhile, acts_meanwhile, begin, end};
+use crate::gate::{Meanwhile, acts_meanwhile, begin, begin_three, end, settles_behind_two};
 use std::alloc::{AllocError, Global};
 use std::sync::Wait;
 use std::test::Fail;
@@ -172,6 +172,15 @@ fn who_settles_waits_until_the_mirror_is_put_back(rt: HostRuntime) -> Result<(),
     for _ in 0..20 {
         let (_journal, waited) = beside_the_mirror(&rt, rt.alloc(), Meanwhile::Settles)?;
         assert!(rt; waited);
+    }
+    Ok(())
+}
+
+#[test]
+fn who_settles_waits_for_all_who_are_ahead(rt: HostRuntime) -> Result<(), Fail> {
+    for _ in 0..20 {
+        let (lock, ahead, last) = begin_three(rt.alloc(), ENOUGH)?;
+        assert!(rt; settles_behind_two(&rt, &lock, ahead, last));
     }
     Ok(())
 }
