@@ -66,7 +66,10 @@ module _ {T D E : Type 0} (entries : T → List E) (stood : T → ℕ) (front : 
         parts = ap (λ m. m.0.value.parts) me;
         mine = ap (λ m. m.0.value.mine) me;
         turns = ap (λ m. m.0.value.turns) me;
+        turns_with_device = ap (λ m. m.0.device.turns) me;
         front = ap (λ m. m.0.value.front) me;
+        own = ap (λ m. m.0.more.own) me;
+        down = ap (λ m. uncounted m.0.more.down) me;
         saw = ap (λ m. uncounted m.0.more.saw) me;
         devices = ap (λ m. m.0.more.parts) me;
         owes = ap (λ m. m.0.more.owes) me;

@@ -60,6 +60,10 @@ module _ {T D E : Type 0} where
   abbrev pub value_turns : TwinPass T D E → ℕ
   value_turns pass = pass.seat.me.0.value.turns
 
+  -- how many turns with the device it has made
+  abbrev pub device_turns : TwinPass T D E → ℕ
+  device_turns pass = pass.seat.me.0.device.turns
+
   -- the greatest front that it has seen
   abbrev pub front_of : TwinPass T D E → ℕ
   front_of pass = pass.seat.me.0.value.front
@@ -162,7 +166,10 @@ module _ {T D E : Type 0} where
     pub parts : parts_of pass ≡ []
     pub mine : mine_of pass ≡ []
     pub turns : value_turns pass ≡ 0
+    pub turns_with_device : device_turns pass ≡ 0
     pub front : front_of pass ≡ 0
+    pub own : own_of pass ≡ None
+    pub down : down_of pass ≡ None
     pub saw : saw_of pass ≡ Some (first_device_of lock).device
     pub devices : device_parts_of pass ≡ []
     pub owes : owes_of pass ≡ 0

@@ -78,7 +78,7 @@ impl<T: Twins> TwinLock<T> {
     ghost use Rattle.turn_lock.specs.Tied.{MayRaise, MayRaiseBoth, MayPut, no_entries, turns_of, twin_newcomer};
     ghost use Rattle.turn_lock.specs.Rule.{is_held};
     ghost use Rattle.turn_lock.specs.TwinSteps.{LaterBeside, BesideKnown, GetsValue, GetsDevice, value_queued, value_passed, value_read, device_queued, device_passed, twin_raised, twin_joined, raises_value, raises_both, gave_device, with_device};
-    ghost use Rattle.turn_lock.specs.TwinPasses.{first_of, first_device_of, passes_of, pass_numbers, seen_of, parts_of, mine_of, value_turns, front_of, empty_of, owes_of, own_of, down_of, saw_of, device_parts_of, me_of, device_view, IsAtRest, WaitsForValue, WaitsForDevice, HasValue, HasBoth, HasDevice, HasRaised, IsSamePass, IsPassOf, IsNew, KeepsValue, KeepsDevice, uncounted};
+    ghost use Rattle.turn_lock.specs.TwinPasses.{first_of, first_device_of, passes_of, pass_numbers, seen_of, parts_of, mine_of, value_turns, device_turns, front_of, empty_of, owes_of, own_of, down_of, saw_of, device_parts_of, me_of, device_view, IsAtRest, WaitsForValue, WaitsForDevice, HasValue, HasBoth, HasDevice, HasRaised, IsSamePass, IsPassOf, IsNew, KeepsValue, KeepsDevice, uncounted};
 
     /// A lock around `value` with `device` beside it, with one pass for each label, in their order. If memory runs out both are returned.
     pub fn new(
@@ -324,6 +324,7 @@ impl<T: Twins> TwinLock<T> {
         ensures pass { IsSamePass pass.old pass.new }
         ensures passed { ((me_of pass.new).0.value.stage ≡ Resting) × ((me_of pass.new).1 ≡ []) }
         ensures seen { (seen_of pass.new ≡ seen_of pass.old) × (mine_of pass.new ≡ mine_of pass.old) × (front_of pass.new ≡ front_of pass.old) }
+        ensures own { (own_of pass.new ≡ Some held.value) × (empty_of pass.new ≡ empty_of pass.old) }
         ensures turns { value_turns pass.new ≡ value_turns pass.old + 1 }
         ensures device { KeepsDevice pass.old pass.new × (owes_of pass.new ≡ owes_of pass.old) }
     {
@@ -371,6 +372,7 @@ impl<T: Twins> TwinLock<T> {
         requires not_waiting { (me_of pass.old).0.value.stage ≢ Waiting }
         ensures pass { IsSamePass pass.old pass.new × WaitsForDevice pass.new result.number }
         ensures slots { (me_of pass.new).1 ≡ (me_of pass.old).1 }
+        ensures turns { device_turns pass.new ≡ device_turns pass.old }
         ensures value { KeepsValue pass.old pass.new }
         ensures more { (me_of pass.new).0.more ≡ (me_of pass.old).0.more }
     {
@@ -398,6 +400,7 @@ impl<T: Twins> TwinLock<T> {
         ensures slots { (me_of pass.new).1 ≡ (1, OfDevice None) ∷ (me_of pass.old).1 }
         ensures device { (down_of pass.new ≡ Some result.device) × (saw_of pass.new ≡ Some result.device) }
         ensures later { (seen : T.Device) → saw_of pass.old ≡ Some seen → T.later seen result.device }
+        ensures turns { device_turns pass.new ≡ device_turns pass.old }
         ensures beside { BesideKnown T.entries (T.follows (first_of self.now)) (T.beside (first_of self.now)) (seen_of pass.old) (is_held (me_of pass.old).0.value.stage) (own_of pass.old) result.device }
         ensures value { KeepsValue pass.old pass.new × (owes_of pass.new ≡ owes_of pass.old) }
     {
@@ -492,6 +495,8 @@ impl<T: Twins> TwinLock<T> {
         ensures pass { IsSamePass pass.old pass.new }
         ensures passed { ((me_of pass.new).0.device.stage ≡ Resting) × ((me_of pass.new).1 ≡ rest (me_of pass.old).1) }
         ensures saw { (saw_of pass.new ≡ Some held.device) × (owes_of pass.new ≡ owes) }
+        ensures down { down_of pass.new ≡ down_of pass.old }
+        ensures turns { device_turns pass.new ≡ device_turns pass.old + 1 }
         ensures value { KeepsValue pass.old pass.new }
     {
         let HeldDevice {
