@@ -16,10 +16,11 @@ passes() {
     passes cpython.py "CPython's own tests of dicts and lists pass: of no store, each call a transaction, and all in one"
     "$here/store/drawn.py" 10 >drawn.said 2>&1
 } &
+passes interrupted.py "an interrupt at any place leaves the store closed, or with what the heap holds" &
 passes promises.py "what the page of the store promises holds"
 "$here/store/kills.py" 5 >kills.said 2>kills.log || cat kills.log
 wait
-cat cpython.py.said drawn.said promises.py.said kills.said
+cat cpython.py.said drawn.said interrupted.py.said promises.py.said kills.said
 
 book() {
     "$client/address_book.py" book "$@" 2>said

@@ -13,9 +13,13 @@ import sys
 import tempfile
 import threading
 import unittest
+import unittest.mock
 
 from kept import COMMAND, HERE, HERE_IN_PROCESS, Dict, List, MemoryHeap, Set, form, open_store, sh, store_over
 from stable_heap.store import Closed, Full, StoreError, TooLarge, plain
+from stable_heap.store.keeping import Keeper
+from stable_heap.store.levels import Level
+from stable_heap.store.planning import Plan
 
 VALUES = [
     [None, True, False, 0, 1, -1, 2**58 - 1, 2**58, -(2**58), -(2**58) - 1, 2**900, -(2**901), 0.5, 0.1, -0.0, 1e308, 5e-324, float("inf"), -float("inf")],
@@ -369,6 +373,70 @@ class Transactions(Model):
         for thread in threads:
             thread.join()
         self.assertEqual(seen, [[2, 2]])
+
+
+class Interrupts(Model):
+    """At the places that matter; `interrupted.py` comes to all."""
+
+    def interrupted(self, kind, name):
+        """A transaction in which that method is interrupted: what is found again."""
+        self.store.root.update(money=1, kept=[1])
+        with unittest.mock.patch.object(kind, name, side_effect=KeyboardInterrupt), self.assertRaises(KeyboardInterrupt):
+            with self.store.transaction():
+                self.store.root["money"] = 5
+                self.store.root["new"] = {}
+        self.assertRaises(Closed, lambda: self.store.root)
+        self.assertEqual(self.heap.sessions, {})
+        self.store = store_over(self.heap, self.PAGES)
+        return plain(self.store.root)
+
+    def test_behind_the_commit(self):
+        for kind, name in ((Plan, "applied"), (Keeper, "wrote")):
+            self.assertEqual(self.interrupted(kind, name), {"money": 5, "kept": [1], "new": {}})
+            del self.store.root["new"]
+
+    def test_before_its_reply(self):
+        commit = sh.Transaction._commit
+
+        def lost(transaction):
+            commit(transaction)
+            raise KeyboardInterrupt
+
+        with unittest.mock.patch.object(sh.Transaction, "_commit", lost), self.assertRaises(KeyboardInterrupt):
+            self.store.root["money"] = 5
+        self.assertRaises(Closed, lambda: self.store.root)
+        self.assertEqual(store_over(self.heap).root, {"money": 5})
+
+    def test_before_the_commit(self):
+        self.assertEqual(self.interrupted(Keeper, "expect"), {"money": 1, "kept": [1]})
+
+    def test_while_it_is_taken_back(self):
+        self.store.root["a"] = 1
+        with unittest.mock.patch.object(Level, "restore", side_effect=KeyboardInterrupt), self.assertRaises(KeyboardInterrupt):
+            with self.store.transaction():
+                self.store.root["a"] = 2
+                raise ValueError
+        self.assertRaises(Closed, lambda: self.store.root)
+        self.assertEqual(store_over(self.heap).root, {"a": 1})
+
+    def test_in_the_midst_of_an_update(self):
+        """The change of a list is done, and not noted; the transaction goes on."""
+        self.store.root["a"] = list(range(50))
+        items = self.store.root["a"]
+        with self.store.transaction():
+            with unittest.mock.patch("stable_heap.store.image.Splices.splice", side_effect=KeyboardInterrupt), self.assertRaises(KeyboardInterrupt):
+                del items[3]
+            items.append(50)
+        self.assertEqual(len(items), 50)
+        self.stays()
+
+    def test_between_the_calls_of_a_with(self):
+        self.store.root["a"] = 1
+        with self.assertRaises(KeyboardInterrupt), self.store.transaction():
+            self.store.root["a"] = 2
+            raise KeyboardInterrupt
+        self.assertEqual(self.store.root, {"a": 1})
+        self.stays()
 
 
 class Room(Model):

@@ -4,7 +4,7 @@ __all__ = ["Closed", "Full", "StoreError", "TooLarge"]
 
 
 class StoreError(Exception):
-    """The root of the store's own errors. Where one is raised nothing was changed, in memory or in the heap."""
+    """The root of the store's own errors. Where one is raised nothing was changed, in memory or in the heap, but for Closed."""
 
 
 class Full(StoreError):
@@ -16,4 +16,4 @@ class TooLarge(StoreError):
 
 
 class Closed(StoreError):
-    """The store is closed: by `close`, since its heap failed, or since this process was forked from the one that has it."""
+    """The store is closed: by `close`, since its heap failed or a call was cut short, or since this process was forked from the one that has it."""

@@ -12,7 +12,7 @@ import weakref
 from types import TracebackType
 from typing import Any, Callable, ContextManager, Iterator, Optional, Sequence, Type, TypeVar, Union
 
-from .. import LAUNCHER, LIBRARIES, Exhausted, Heap, HeapError, InUse, LogFull, Refused, VolatileFull
+from .. import LAUNCHER, LIBRARIES, Exhausted, Heap, HeapError, InUse, LogFull, NoMemory, NumbersSpent, Refused, VolatileFull
 from .containers import NO_STORE, Container, Dict, Kind, List, Place, Set
 from .errors import Closed, Full, StoreError, TooLarge
 from .keeping import MORE_LOG, Keeper, Sizes, log_used, sizes_of
@@ -54,7 +54,7 @@ class Store:
         self._here = has_library() if here is None else here
         self._command = command
         heap = opened(lambda: self._open_heap(pathlib.Path(folder), Sizes(pages, log_bytes)), wait)
-        self._begin_with(heap, durable, sizes_of(self._folder / HEAP_FILE))
+        self._begin_with(heap, durable)
 
     @classmethod
     def over(cls, heap: Heap, durable: bool = True, pages: Optional[int] = None) -> "Store":
@@ -68,22 +68,24 @@ class Store:
     def _open_heap(self, folder: pathlib.Path, sizes: Sizes) -> Heap:
         return Heap.open(folder, sizes.pages, sizes.log_bytes, self._command, here=self._here, buffered=True)
 
-    def _begin_with(self, heap: Heap, durable: bool, sizes: Optional[Sizes]) -> None:
+    def _begin_with(self, heap: Heap, durable: bool, sizes: Optional[Sizes] = None) -> None:
         # whoever has the turn is alone with the store
         self._turn = threading.RLock()
         # the turn, or what refuses it where the store is closed
         self._lock: ContextManager[Any] = self._turn
         self._durable = durable
-        self._take_heap(heap, sizes, self._folder / HEAP_FILE if self._folder else None)
+        self._heap = heap
         self._levels: list[Level] = []
         self._known: "weakref.WeakValueDictionary[int, Container]" = weakref.WeakValueDictionary()
         self._commits = 0
         # whether a commit that was made in parts left some of them
         self._staging_left = False
         try:
+            file = self._folder / HEAP_FILE if self._folder else None
+            self._take_heap(heap, sizes_of(file) if file else sizes, file)
             self._read_root()
-        except BaseException:
-            heap.close()
+        except BaseException as error:
+            self._fail(error)
             raise
         STORES.add(self)
 
@@ -107,19 +109,19 @@ class Store:
 
     def force(self) -> None:
         """Puts on the disk what transactions did that were not to be durable."""
-        with self._lock, self._guard():
+        with self._lock, self._lock, self._guard():
             self._heap.force()
 
     def collect(self) -> None:
         """Frees the room of what nothing refers to any more. A store does so by itself."""
-        with self._lock:
+        with self._lock, self._lock:
             if self._levels:
                 raise StoreError("a transaction is active")
             self._make_room()
 
     def grow(self, pages: Optional[int] = None, log_bytes: Optional[int] = None) -> None:
         """Writes all that is kept into a new heap of these sizes, which takes the old one's place in one step. What is left out stays as it is."""
-        with self._lock:
+        with self._lock, self._lock:
             if self._levels:
                 raise StoreError("a transaction is active")
             if self._folder is None:
@@ -147,57 +149,72 @@ class Store:
         """Closes the store. What is kept in it can't be used any more before it is opened again."""
         if self._is_closed():
             return
-        with self._lock:
+        with self._turn:
             if self._levels:
                 raise StoreError("a transaction is active")
-            self._stop("the store was closed")
-            self._heap.close()
+            if not self._is_closed():
+                self._stop("the store was closed")
+                self._heap.close()
 
     def __enter__(self) -> "Store":
         return self
 
     def __exit__(self, kind: Optional[Type[BaseException]], error: Optional[BaseException], trace: Optional[TracebackType]) -> None:
+        if error is not None and not self._is_closed():
+            with self._turn:
+                if self._levels:
+                    # (an interrupt has kept a transaction from ending)
+                    self._fail(error)
         self.close()
 
     # ---- transactions in memory
 
-    def _take_turn(self) -> None:
-        self._lock.__enter__()
-        if self._is_closed():
-            # (it was closed while this thread waited)
-            self._turn.release()
-            self._lock.__enter__()
+    def _is_active(self) -> bool:
+        """Whether this thread is in a transaction."""
+        with self._lock:
+            return bool(self._levels)
 
-    def _begin(self) -> None:
-        self._take_turn()
-        self._levels.append(Level())
+    def _begin(self, level: Level) -> None:
+        # (the second one refuses where the store was closed while this thread waited for the first)
+        with self._lock, self._lock:
+            self._levels.append(level)
+            self._turn.acquire()
 
-    def _begin_update(self) -> bool:
-        """Takes the turn for an update of one container: whether that is a transaction of its own."""
-        self._take_turn()
-        if self._levels:
-            return False
-        self._levels.append(Level())
-        return True
-
-    def _end_update(self, is_transaction: bool, failed: bool) -> None:
-        if is_transaction:
-            self._end(failed, None)
-        else:
-            self._turn.release()
-
-    def _end(self, failed: bool, durable: Optional[bool]) -> None:
-        """Ends the innermost transaction; the outermost one is committed."""
+    def _end(self, level: Level, failed: bool, durable: Optional[bool]) -> None:
+        """Ends the innermost transaction; the outermost one is committed. Where it is cut short nobody knows whether what is in memory is in the heap: the
+        store is closed then."""
         try:
-            level = self._levels.pop()
-            if failed:
-                level.restore()
-            elif self._levels:
-                self._levels[-1].join(level)
-            else:
-                self._commit(level, self._durable if durable is None else durable)
+            self._finish(level, failed, durable)
+        except (Refused, StoreError):
+            raise
+        except BaseException as error:
+            self._fail(error)
+            raise
         finally:
-            self._turn.release()
+            try:
+                self._turn.release()
+            except RuntimeError:
+                # (a level inside of this one gave it, which was cut short before it had taken it once more)
+                assert self._is_closed()
+
+    def _finish(self, level: Level, failed: bool, durable: Optional[bool]) -> None:
+        if self._levels[-1] is not level:
+            self._fail("the end of a transaction")
+        self._levels.remove(level)
+        if failed:
+            level.restore()
+        elif self._levels and not self._is_closed():
+            self._levels[-1].join(level)
+        else:
+            self._commit(level, self._durable if durable is None else durable)
+
+    def _left(self, level: Level) -> None:
+        """The `with` of that level is gone. An interrupt may have come before it could end the level, which nobody will end then."""
+        if level in self._levels:
+            self._levels.remove(level)
+            self._fail("the end of a transaction")
+            with contextlib.suppress(RuntimeError):
+                self._turn.release()
 
     def _change(self, container: Container) -> ContextManager[Any]:
         return UpdateScope(self, container)
@@ -221,9 +238,9 @@ class Store:
                 seen.add(id(container))
                 new.append(container)
                 waiting += container._inner()
+        self._levels[-1].took(new)
         for container in new:
             container._store = self
-        self._levels[-1].took(new)
 
     # ---- the heap
 
@@ -253,7 +270,8 @@ class Store:
 
     def _take_heap(self, heap: Heap, sizes: Optional[Sizes], file: Optional[pathlib.Path] = None) -> None:
         """The store is in that heap from now on, whose file may be read."""
-        self._heap, self._keeper, self._reading = heap, Keeper(heap, sizes, file), ReadTransaction(heap)
+        self._heap, self._reading = heap, ReadTransaction(heap)
+        self._keeper = Keeper(heap, sizes, file)
 
     def _open_again(self) -> None:
         """The heap in the store's folder is opened: what is noted of the one that was there before holds of it too."""
@@ -286,7 +304,7 @@ class Store:
 
     def _load(self, container: Container) -> Any:
         """Reads what is in the container."""
-        with self._guard(), self._reading as t:
+        with self._lock, self._guard(), self._reading as t:
             Reader(self, t).load(container)
         return container._content
 
@@ -297,13 +315,20 @@ class Store:
             yield
         except LogFull as refusal:
             raise Full(f"the log has no room: {refusal.numbers[0]:,} bytes are used. {MORE_LOG}") from refusal
-        except (Refused, StoreError):
+        except UNDONE:
             raise
         except BaseException as error:
-            self._stop(f"the store is closed, since its heap failed or a call was cut short: {error!r}. Open it again")
-            if isinstance(error, HeapError):
+            self._fail(error)
+            if isinstance(error, (HeapError, OSError)):
                 raise Closed(f"the heap failed: {error}. Open the store again") from error
             raise
+
+    def _fail(self, why: object) -> None:
+        """Closes the store, so that another one can be opened over what is in the heap."""
+        if not self._is_closed():
+            self._stop(f"the store is closed, since its heap failed or a call was cut short: {why!r}. Open it again")
+            with contextlib.suppress(HeapError, OSError, ValueError):
+                self._heap.close()
 
     def _stop(self, why: str) -> None:
         self._lock = ClosedLock(why)
@@ -322,47 +347,50 @@ class Store:
 
     def _write(self, dirty: list[Container], durable: bool) -> None:
         for refusals in range(2):
-            pins = BeforeImage(self._pins)
             try:
-                self._make(Plan(self, dirty), durable)
+                self._plan_and_make(dirty, durable)
                 return
             except Exhausted as refusal:
-                pins.restore()
                 needed, free, _ = refusal.numbers
                 if refusals:
                     raise Full(f"{needed:,} words are needed, and {free:,} are free. {MORE_PAGES}") from refusal
                 self._make_room()
             except VolatileFull as refusal:
-                pins.restore()
                 raise TooLarge(f"the transaction makes too many objects at once. {IN_PARTS}") from refusal
-            except BaseException:
-                pins.restore()
-                raise
+
+    def _plan_and_make(self, dirty: list[Container], durable: bool) -> None:
+        """Where that fails the pins are as they were before it, of which a plan is made in memory."""
+        pins = BeforeImage(self._pins)
+        try:
+            self._make(Plan(self, dirty), durable)
+        except BaseException:
+            pins.restore()
+            raise
 
     def _make(self, plan: Plan, durable: bool) -> None:
-        if not plan.is_empty:
-            with self._guard():
+        """Makes the plan in the heap, and notes in memory what is there then: whatever comes between closes the store."""
+        with self._guard():
+            if not plan.is_empty:
                 self._reading.end()
                 self._keeper.expect(plan.log_bytes)
                 self._staging_left = self._staging_left or plan.is_split
                 Maker(plan, self._heap).make(durable)
-            self._staging_left = False
-            self._stale_pins = False
-        plan.applied()
-        self._next_serial = plan.next_serial
-        for container in plan.new:
-            assert container._serial is not None
-            self._known[container._serial] = container
-        if not plan.is_empty:
-            self._commits += 1
-            self._tidy(plan)
+                self._staging_left = self._stale_pins = False
+                self._commits += 1
+            plan.applied()
+            self._next_serial = plan.next_serial
+            for container in plan.new:
+                assert container._serial is not None
+                self._known[container._serial] = container
+            if not plan.is_empty:
+                self._tidy(plan)
 
     def _tidy(self, plan: Plan) -> None:
         """What is to be done for the heap after a commit. The commit stands, whatever becomes of this: where it fails the store is closed."""
         try:
             with self._guard():
                 self._keeper.wrote(plan.layout.words, plan.events)
-        except (Closed, Refused):
+        except (StoreError, Refused):
             pass
 
     def _make_room(self) -> None:
@@ -375,16 +403,15 @@ class Store:
                 self._staging_left = False
             # (pins go with the containers that Python has let go)
             gc.collect()
-            pins = BeforeImage(self._pins)
-            try:
-                self._make(Plan(self, []), False)
-            except Exhausted:
-                pins.restore()
+            with contextlib.suppress(Exhausted):
+                self._plan_and_make([], False)
             self._keeper.collect()
 
 
 MORE_PAGES = "store.grow(pages=..) makes more room; or delete something"
 IN_PARTS = "Make it in several transactions"
+# what is raised where the heap has nothing of its transaction, or a guard has closed the store
+UNDONE = Exhausted, VolatileFull, NumbersSpent, NoMemory, StoreError
 STORES: "weakref.WeakSet[Store]" = weakref.WeakSet()
 
 
