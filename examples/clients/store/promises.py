@@ -439,6 +439,27 @@ class Interrupts(Model):
         self.stays()
 
 
+class Forced(Model):
+    def test_by_the_next_durable_one(self):
+        """Also where that one changes nothing."""
+        for nothing in (lambda: self.store.root["a"], lambda: self.store.root.update(a=1)):
+            with self.store.transaction(durable=False):
+                self.store.root["a"] = 0
+                self.store.root["a"] = 1
+                self.store.root["b"] = [1]
+            self.assertTrue(self.heap.unforced)
+            with self.store.transaction(durable=False):
+                nothing()
+            self.assertTrue(self.heap.unforced)
+            with self.store.transaction():
+                nothing()
+            self.assertFalse(self.heap.unforced)
+        forces = self.heap.events
+        with self.store.transaction():
+            nothing()
+        self.assertEqual(self.heap.events, forces)
+
+
 class Room(Model):
     PAGES = 40
 

@@ -80,6 +80,8 @@ class Store:
         self._commits = 0
         # whether a commit that was made in parts left some of them
         self._staging_left = False
+        # whether a commit of this store was not forced
+        self._is_unforced = False
         try:
             file = self._folder / HEAP_FILE if self._folder else None
             self._take_heap(heap, sizes_of(file) if file else sizes, file)
@@ -111,6 +113,7 @@ class Store:
         """Puts on the disk what transactions did that were not to be durable."""
         with self._lock, self._lock, self._guard():
             self._heap.force()
+            self._is_unforced = False
 
     def collect(self) -> None:
         """Frees the room of what nothing refers to any more. A store does so by itself."""
@@ -376,7 +379,11 @@ class Store:
                 self._staging_left = self._staging_left or plan.is_split
                 Maker(plan, self._heap).make(durable)
                 self._staging_left = self._stale_pins = False
+                self._is_unforced = not durable
                 self._commits += 1
+            elif durable and self._is_unforced:
+                self._heap.force()
+                self._is_unforced = False
             plan.applied()
             self._next_serial = plan.next_serial
             for container in plan.new:
