@@ -556,7 +556,12 @@ class Program(unittest.TestCase):
     def open(self, **named):
         store = open_store(self.folder, **{"pages": 20, "log_bytes": 131_072, **named})
         self.addCleanup(store.close)
+        self.store = store
         return store
+
+    def open_again(self):
+        self.store.close()
+        return self.open()
 
     def test_all_of_it(self):
         store = self.open()
@@ -586,6 +591,50 @@ class Program(unittest.TestCase):
         wanted = form(store.root)
         store.close()
         self.assertEqual(form(self.open().root), wanted)
+
+    def test_growing_fails(self):
+        """Each call that can fail before the files are exchanged leaves the old heap, and each one behind that closes the store."""
+        self.open().root["a"] = [1, {"b": "a text of many bytes"}]
+        wanted = form(self.open_again().root)
+        for name, stays in (("os.replace", True), ("os.open", False), ("os.fsync", False)):
+            store = self.open_again()
+            items = store.root["a"]
+            with unittest.mock.patch(name, side_effect=OSError("it failed")), self.assertRaises(OSError if stays else Closed):
+                store.grow(pages=24)
+            if stays:
+                self.assertIs(store.root["a"], items)
+                items.append(2)
+                items.pop()
+                self.assertEqual(os.listdir(self.folder), ["heap.img"])
+            else:
+                self.assertRaises(Closed, lambda: store.root)
+            self.assertEqual(form(self.open_again().root), wanted)
+
+    def test_the_new_heap_fails(self):
+        store = self.open()
+        store.root["a"] = wanted = [1, {"b": "a text of many bytes"}]
+        with unittest.mock.patch("stable_heap.Transaction._commit", side_effect=sh.DiskFault(6)), self.assertRaises(StoreError) as failed:
+            store.grow(pages=24)
+        self.assertNotIsInstance(failed.exception, Closed)
+        store.root["more"] = 1
+        self.assertEqual(plain(self.open_again().root), {"a": wanted, "more": 1})
+
+    def test_an_interrupt_while_growing(self):
+        store = self.open()
+        store.root["a"] = 1
+        for name in ("stable_heap.store.rebuilding.compare", "os.replace", "os.fsync"):
+            with unittest.mock.patch(name, side_effect=KeyboardInterrupt), self.assertRaises(KeyboardInterrupt):
+                store.grow()
+            self.assertRaises(Closed, lambda: store.root)
+            store = self.open_again()
+            self.assertEqual(store.root, {"a": 1})
+
+    def test_no_hard_links(self):
+        store = self.open()
+        store.root["a"] = 1
+        with unittest.mock.patch("os.link", side_effect=OSError("there are no links")):
+            store.grow(pages=24)
+        self.assertEqual(store.root, {"a": 1})
 
     def test_collects_by_itself(self):
         """As long as the log takes it, which nothing truncates yet."""

@@ -5,12 +5,13 @@ from __future__ import annotations
 import os
 import pathlib
 import shutil
-from typing import TYPE_CHECKING
+import weakref
+from typing import TYPE_CHECKING, Sequence
 
 from .. import Heap
 from .containers import Container
 from .dumps import dumped
-from .errors import StoreError
+from .errors import Closed, StoreError
 from .keeping import Sizes
 
 if TYPE_CHECKING:
@@ -18,21 +19,22 @@ if TYPE_CHECKING:
 
 __all__ = ["rebuild"]
 
-NEW_FOLDER, OLD_FILE, HEAP_FILE = "heap.new", "heap.img.old", "heap.img"
+NEW_FOLDER, HEAP_FILE = "heap.new", "heap.img"
+# what is noted of the heap, in the store and in a container
+STORE_FIELDS = ("_lock", "_heap", "_keeper", "_reading", "_known", "_next_serial", "_stale_pins", "_staging_left", "_is_unforced")
+CONTAINER_FIELDS = ("_serial", "_place", "_levels", "_where", "_edits")
 
 
 class Image:
-    """What is noted of a container in the heap, which is set aside while it is written into another one."""
+    """These fields of an object, which are set aside while another heap is written."""
 
-    FIELDS = ("_serial", "_place", "_levels", "_where", "_edits")
-
-    def __init__(self, container: Container):
-        self._container = container
-        self._noted = [getattr(container, field) for field in self.FIELDS]
+    def __init__(self, it: object, fields: Sequence[str]):
+        self._it = it
+        self._noted = {field: getattr(it, field) for field in fields}
 
     def restore(self) -> None:
-        for field, value in zip(self.FIELDS, self._noted):
-            setattr(self._container, field, value)
+        for field, value in self._noted.items():
+            setattr(self._it, field, value)
 
 
 def all_of(store: "Store") -> list[Container]:
@@ -60,32 +62,37 @@ def forget(container: Container) -> None:
 
 
 def rebuild(store: "Store", sizes: Sizes) -> None:
-    """Writes all that is kept into a new heap of these sizes, compares, and puts it into the old one's place. Where that fails the store goes on with the
-    old one."""
+    """Writes all that is kept into a new heap of these sizes, compares, and puts it into the old one's place in one step. Where something fails before that
+    step the store goes on with the old one, unless it was interrupted; where something fails behind it the store is closed."""
     folder = store._folder
     if folder is None:
         raise StoreError("this store was made over an open heap, which has no folder")
     shutil.rmtree(folder / NEW_FOLDER, ignore_errors=True)
     kept = all_of(store)
     wanted = list(dumped(store._root))
-    images = [Image(container) for container in [*kept, store._pins]]
-    before = store._heap, store._keeper, store._reading, store._next_serial, store._stale_pins, store._staging_left
-    pins = store._pins._content
+    images = [Image(store, STORE_FIELDS), Image(store._pins, ["_content"]), *(Image(it, CONTAINER_FIELDS) for it in [*kept, store._pins])]
+    old = store._heap
     try:
-        heap = store._open_heap(folder / NEW_FOLDER, sizes)
-        try:
-            write_all(store, heap, kept, sizes)
-        finally:
-            heap.close()
-        compare(store, folder / NEW_FOLDER, sizes, wanted)
-    except BaseException:
-        store._heap, store._keeper, store._reading, store._next_serial, store._stale_pins, store._staging_left = before
-        store._pins._content = pins
+        write_new(store, folder / NEW_FOLDER, kept, sizes, wanted)
+        os.replace(folder / NEW_FOLDER / HEAP_FILE, folder / HEAP_FILE)
+    except BaseException as error:
         for image in images:
             image.restore()
         shutil.rmtree(folder / NEW_FOLDER, ignore_errors=True)
+        if isinstance(error, Closed):
+            raise StoreError(f"the store goes on with its old heap, as the new one failed: {error.__cause__}") from error
         raise
-    exchange(store, folder, before[0])
+    go_on(store, folder, old)
+
+
+def write_new(store: "Store", folder: pathlib.Path, kept: list[Container], sizes: Sizes, wanted: list[str]) -> None:
+    """A new heap in that folder, which holds what is wanted."""
+    heap = store._open_heap(folder, sizes)
+    try:
+        write_all(store, heap, kept, sizes)
+    finally:
+        heap.close()
+    compare(store, folder, sizes, wanted)
 
 
 def write_all(store: "Store", heap: Heap, kept: list[Container], sizes: Sizes) -> None:
@@ -94,6 +101,7 @@ def write_all(store: "Store", heap: Heap, kept: list[Container], sizes: Sizes) -
         forget(container)
     store._pins._content = {}
     forget(store._pins)
+    store._known = weakref.WeakValueDictionary(store._known)
     store._take_heap(heap, sizes)
     store._make_root()
     store._write([store._root], True)
@@ -106,15 +114,20 @@ def compare(store: "Store", folder: pathlib.Path, sizes: Sizes, wanted: list[str
             raise StoreError("the new heap does not hold what the old one holds, which stays")
 
 
-def exchange(store: "Store", folder: pathlib.Path, old: Heap) -> None:
-    """The new heap's file takes the name of the old one's, in one step."""
-    (folder / OLD_FILE).unlink(missing_ok=True)
-    os.link(folder / HEAP_FILE, folder / OLD_FILE)
-    os.replace(folder / NEW_FOLDER / HEAP_FILE, folder / HEAP_FILE)
-    synced = os.open(folder, os.O_RDONLY)
-    os.fsync(synced)
-    os.close(synced)
-    old.close()
+def go_on(store: "Store", folder: pathlib.Path, old: Heap) -> None:
+    """The store goes on with the new heap, whose file has the old one's name."""
+    store._heap = old
+    with store._guard():
+        sync(folder)
+        old.close()
     store._open_again()
-    (folder / OLD_FILE).unlink()
     shutil.rmtree(folder / NEW_FOLDER, ignore_errors=True)
+
+
+def sync(folder: pathlib.Path) -> None:
+    """Puts the names of the folder on the disk."""
+    opened = os.open(folder, os.O_RDONLY)
+    try:
+        os.fsync(opened)
+    finally:
+        os.close(opened)

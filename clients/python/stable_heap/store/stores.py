@@ -130,7 +130,12 @@ class Store:
             if self._folder is None:
                 raise StoreError("this store was made over an open heap, which has no folder")
             sizes = sizes_of(self._folder / HEAP_FILE)
-            rebuild(self, Sizes(pages or sizes.pages, log_bytes or sizes.log_bytes))
+            try:
+                rebuild(self, Sizes(pages or sizes.pages, log_bytes or sizes.log_bytes))
+            except BaseException as error:
+                if not isinstance(error, Exception):
+                    self._fail(error)
+                raise
 
     def compact(self) -> None:
         """Writes all that is kept into a new heap of the same sizes, whose log has no more than that. What was kept before it is not read again."""
